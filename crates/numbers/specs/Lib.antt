@@ -1,0 +1,4 @@
+pub mod Choice
+pub mod All
+pub mod Little
+pub mod Lists

@@ -1,0 +1,64 @@
+-- The numbers by which a sheet names a clamp mode, a reduce mode and a combine. A number past the table stands for the last entry here;
+-- the reader tests it before.
+use Prim.Native.Nat.{ℕ}
+use mathlib.Core.Bool.{Bool, true, false}
+use lib.Dec.{eqb, ltb}
+use Rattle.numbers.specs.Choice.{pick}
+use Rattle.sheet.specs.declared.ClampMode.{ClampMode}
+use Rattle.sheet.specs.declared.ClampMode.the-variants.{Undefined, Constant, ClampToEdge, Repeat, MirrorRepeat}
+use Rattle.sheet.specs.declared.ReduceMode.{ReduceMode}
+use Rattle.sheet.specs.declared.ReduceMode.the-variants.{Row, Column, Both, TwoByTwo}
+use Rattle.sheet.specs.declared.Combine.{Combine}
+use Rattle.sheet.specs.declared.Combine.the-variants.{Add, Min, Max, And, Or, Xor}
+
+abbrev pub undefined : ClampMode → Bool
+undefined Undefined = true
+undefined Constant = false
+undefined ClampToEdge = false
+undefined Repeat = false
+undefined MirrorRepeat = false
+
+abbrev pub clampCode : ClampMode → ℕ
+clampCode Undefined = 0
+clampCode Constant = 1
+clampCode ClampToEdge = 2
+clampCode Repeat = 3
+clampCode MirrorRepeat = 4
+
+unfoldable pub clampMode : ℕ → ClampMode
+clampMode code =
+    pick (eqb code 0) Undefined
+    (pick (eqb code 1) Constant
+    (pick (eqb code 2) ClampToEdge
+    (pick (eqb code 3) Repeat
+    MirrorRepeat)))
+
+abbrev pub reduceCode : ReduceMode → ℕ
+reduceCode Row = 1
+reduceCode Column = 2
+reduceCode Both = 3
+reduceCode TwoByTwo = 4
+
+unfoldable pub reduceMode : ℕ → ReduceMode
+reduceMode code =
+    pick (eqb code 1) Row
+    (pick (eqb code 2) Column
+    (pick (eqb code 3) Both
+    TwoByTwo))
+
+abbrev pub combineCode : Combine → ℕ
+combineCode Add = 0
+combineCode Min = 1
+combineCode Max = 2
+combineCode And = 3
+combineCode Or = 4
+combineCode Xor = 5
+
+unfoldable pub combineOf : ℕ → Combine
+combineOf code =
+    pick (eqb code 0) Add
+    (pick (eqb code 1) Min
+    (pick (eqb code 2) Max
+    (pick (eqb code 3) And
+    (pick (eqb code 4) Or
+    Xor))))

@@ -1,0 +1,6 @@
+pub mod Sizes
+pub mod Codes
+pub mod Layouts
+pub mod Views
+pub mod Steps
+pub mod Sheets

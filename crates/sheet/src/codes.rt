@@ -1,0 +1,90 @@
+// The numbers by which a sheet names a clamp mode, a reduce mode and a combine. A number past the table gives the last entry.
+ghost use mathlib.Core.Path.{_≡_};
+ghost use Rattle.sheet.specs.Codes.{undefined, clampCode, clampMode, reduceCode, reduceMode, combineCode, combineOf};
+use super::ClampMode;
+use super::Combine;
+use super::ReduceMode;
+
+pub fn undefined(mode: ClampMode) -> bool
+    ensures { λ r. ⌜ r ≡ undefined mode ⌝ }
+{
+    match mode {
+        ClampMode::Undefined => true,
+        ClampMode::Constant => false,
+        ClampMode::ClampToEdge => false,
+        ClampMode::Repeat => false,
+        ClampMode::MirrorRepeat => false,
+    }
+}
+
+pub fn clamp_code(mode: ClampMode) -> u8
+    ensures { λ r. ⌜ r ≡ clampCode mode ⌝ }
+{
+    match mode {
+        ClampMode::Undefined => 0,
+        ClampMode::Constant => 1,
+        ClampMode::ClampToEdge => 2,
+        ClampMode::Repeat => 3,
+        ClampMode::MirrorRepeat => 4,
+    }
+}
+
+pub fn clamp_mode(code: u8) -> ClampMode
+    ensures { λ r. ⌜ r ≡ clampMode code ⌝ }
+{
+    match code {
+        0 => ClampMode::Undefined,
+        1 => ClampMode::Constant,
+        2 => ClampMode::ClampToEdge,
+        3 => ClampMode::Repeat,
+        _ => ClampMode::MirrorRepeat,
+    }
+}
+
+pub fn reduce_code(mode: ReduceMode) -> u8
+    ensures { λ r. ⌜ r ≡ reduceCode mode ⌝ }
+{
+    match mode {
+        ReduceMode::Row => 1,
+        ReduceMode::Column => 2,
+        ReduceMode::Both => 3,
+        ReduceMode::TwoByTwo => 4,
+    }
+}
+
+pub fn reduce_mode(code: u8) -> ReduceMode
+    ensures { λ r. ⌜ r ≡ reduceMode code ⌝ }
+{
+    match code {
+        1 => ReduceMode::Row,
+        2 => ReduceMode::Column,
+        3 => ReduceMode::Both,
+        _ => ReduceMode::TwoByTwo,
+    }
+}
+
+pub fn combine_code(combine: Combine) -> u8
+    ensures { λ r. ⌜ r ≡ combineCode combine ⌝ }
+{
+    match combine {
+        Combine::Add => 0,
+        Combine::Min => 1,
+        Combine::Max => 2,
+        Combine::And => 3,
+        Combine::Or => 4,
+        Combine::Xor => 5,
+    }
+}
+
+pub fn combine_of(code: u8) -> Combine
+    ensures { λ r. ⌜ r ≡ combineOf code ⌝ }
+{
+    match code {
+        0 => Combine::Add,
+        1 => Combine::Min,
+        2 => Combine::Max,
+        3 => Combine::And,
+        4 => Combine::Or,
+        _ => Combine::Xor,
+    }
+}

@@ -1,0 +1,184 @@
+// Steps: what a step must keep to, in a sheet of an edition with so many layouts and views.
+ghost use mathlib.Core.Path.{_≡_};
+ghost use Prim.Native.Nat.{_≤_, _<_};
+ghost use Rattle.sheet.specs.Steps.{noCell, fillOk, loadOk, storeOk, reduceOk, transposeOk, multiplyOk, stepOk, stepUnused};
+use super::Cell;
+use super::Step;
+use super::sizes;
+
+pub fn no_cell() -> Cell
+    ensures { λ r. ⌜ r ≡ noCell ⌝ }
+{
+    Cell {
+        step: Step::Nothing,
+    }
+}
+
+fn fill_ok(edition: u8, register: u8, rows: u8, columns: u8, kind: u8, value: u32) -> bool
+    ensures { λ r. ⌜ r ≡ fillOk edition register rows columns kind value ⌝ }
+{
+    if !sizes::register_ok(register) {
+        return false;
+    }
+    if !sizes::side_ok(edition, rows) {
+        return false;
+    }
+    if !sizes::side_ok(edition, columns) {
+        return false;
+    }
+    if !kinds::kind_ok(kind) {
+        return false;
+    }
+    kinds::fits(kind, value)
+}
+
+fn load_ok(layouts: usize, views: usize, register: u8, object: u8, layout: u8, view: u8) -> bool
+    ensures { λ r. ⌜ r ≡ loadOk layouts views register object layout view ⌝ }
+{
+    if !sizes::register_ok(register) {
+        return false;
+    }
+    if !sizes::option_ok(sizes::REGISTERS, object) {
+        return false;
+    }
+    if layouts <= layout as usize {
+        return false;
+    }
+    sizes::option_ok(views, view)
+}
+
+fn store_ok(layouts: usize, views: usize, register: u8, layout: u8, view: u8) -> bool
+    ensures { λ r. ⌜ r ≡ storeOk layouts views register layout view ⌝ }
+{
+    if !sizes::register_ok(register) {
+        return false;
+    }
+    if layouts <= layout as usize {
+        return false;
+    }
+    sizes::option_ok(views, view)
+}
+
+fn reduce_ok(edition: u8, result: u8, source: u8, rows: u8, columns: u8) -> bool
+    ensures { λ r. ⌜ r ≡ reduceOk edition result source rows columns ⌝ }
+{
+    if !sizes::register_ok(result) {
+        return false;
+    }
+    if !sizes::register_ok(source) {
+        return false;
+    }
+    if !sizes::side_ok(edition, rows) {
+        return false;
+    }
+    sizes::side_ok(edition, columns)
+}
+
+fn transpose_ok(result: u8, source: u8) -> bool
+    ensures { λ r. ⌜ r ≡ transposeOk result source ⌝ }
+{
+    if !sizes::register_ok(result) {
+        return false;
+    }
+    sizes::register_ok(source)
+}
+
+fn multiply_ok(result: u8, a: u8, b: u8, c: u8) -> bool
+    ensures { λ r. ⌜ r ≡ multiplyOk result a b c ⌝ }
+{
+    if !sizes::register_ok(result) {
+        return false;
+    }
+    if !sizes::register_ok(a) {
+        return false;
+    }
+    if !sizes::register_ok(b) {
+        return false;
+    }
+    sizes::register_ok(c)
+}
+
+// Any base of 32 bits is within Sizes.
+pub fn step_ok(edition: u8, layouts: usize, views: usize, step: Step) -> bool
+    ensures { λ r. ⌜ r ≡ stepOk edition layouts views step ⌝ }
+{
+    match step {
+        Step::Nothing => false,
+        Step::Fill {
+            register,
+            rows,
+            columns,
+            kind,
+            value,
+        } => fill_ok(edition, register, rows, columns, kind, value),
+        Step::Load {
+            register,
+            object,
+            layout,
+            view,
+            base: _,
+        } => load_ok(layouts, views, register, object, layout, view),
+        Step::Store {
+            register,
+            layout,
+            view,
+            base: _,
+        } => store_ok(layouts, views, register, layout, view),
+        Step::Reduce {
+            result,
+            source,
+            rows,
+            columns,
+            mode: _,
+            combine: _,
+        } => reduce_ok(edition, result, source, rows, columns),
+        Step::Transpose { result, source } => transpose_ok(result, source),
+        Step::MultiplyAdd { result, a, b, c } => multiply_ok(result, a, b, c),
+    }
+}
+
+pub fn step_unused(step: Step) -> bool
+    ensures { λ r. ⌜ r ≡ stepUnused step ⌝ }
+{
+    match step {
+        Step::Nothing => true,
+        Step::Fill {
+            register: _,
+            rows: _,
+            columns: _,
+            kind: _,
+            value: _,
+        } => false,
+        Step::Load {
+            register: _,
+            object: _,
+            layout: _,
+            view: _,
+            base: _,
+        } => false,
+        Step::Store {
+            register: _,
+            layout: _,
+            view: _,
+            base: _,
+        } => false,
+        Step::Reduce {
+            result: _,
+            source: _,
+            rows: _,
+            columns: _,
+            mode: _,
+            combine: _,
+        } => false,
+        Step::Transpose {
+            result: _,
+            source: _,
+        } => false,
+        Step::MultiplyAdd {
+            result: _,
+            a: _,
+            b: _,
+            c: _,
+        } => false,
+    }
+}
