@@ -7,7 +7,7 @@ ghost use Rattle.numbers.specs.Choice.{between};
 ghost use Rattle.numbers.specs.Little.{u16At, u32At, u16Bytes, u32Bytes};
 
 // x is from low to high.
-pub fn between(low: u16, high: u16, x: u16) -> bool
+pub fn between(low: usize, high: usize, x: usize) -> bool
     ensures { λ r. ⌜ r ≡ between low high x ⌝ }
 {
     if x < low {

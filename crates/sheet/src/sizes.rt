@@ -23,7 +23,7 @@ pub fn edition_ok(edition: u8) -> bool
 }
 
 // The most rows, and the most columns, of a matrix.
-pub fn side_limit(edition: u8) -> u16
+pub fn side_limit(edition: u8) -> usize
     ensures { λ r. ⌜ r ≡ sideLimit edition ⌝ }
 {
     16
@@ -40,14 +40,14 @@ pub fn step_limit(edition: u8) -> usize
 pub fn rank_ok(rank: u8) -> bool
     ensures { λ r. ⌜ r ≡ rankOk rank ⌝ }
 {
-    numbers::between(1, RANK as u16, rank as u16)
+    numbers::between(1, RANK, rank as usize)
 }
 
 // A block size, a dimension or a span is 1 to 4,096.
 pub fn size_ok(x: u16) -> bool
     ensures { λ r. ⌜ r ≡ sizeOk x ⌝ }
 {
-    numbers::between(1, 4096, x)
+    numbers::between(1, 4096, x as usize)
 }
 
 // The 16 bits of an offset from -4,096 to 4,095.
@@ -63,7 +63,7 @@ pub fn offset_ok(x: u16) -> bool
 pub fn side_ok(edition: u8, x: u8) -> bool
     ensures { λ r. ⌜ r ≡ sideOk edition x ⌝ }
 {
-    numbers::between(1, side_limit(edition), x as u16)
+    numbers::between(1, side_limit(edition), x as usize)
 }
 
 pub fn register_ok(register: u8) -> bool

@@ -1,0 +1,13 @@
+use borrow.Author.Needs.{needs}
+use native.Mathlib.Omega.{arith}
+use Rattle.sheet_reader.proofs.contents.fill_length.Statement.{statement}
+use Rattle.sheet_reader.proofs.contents.fill_length.Tie as tie
+use Rattle.sheet_reader.proofs.contents.fill_length.Reads as reads
+use Rattle.sheet_reader.proofs.contents.fill_length.Lts as lts
+
+-- src/contents.rt:298:1
+returns : tie.Need-returns
+returns c = ?
+
+pub fill-length-spec : {M : Type 1} → statement M
+fill-length-spec = tie.close (tie.spec returns)

@@ -1,0 +1,22 @@
+use native.Mathlib.Omega.{arith}
+use borrow.Author.Needs.{needs}
+use Rattle.sheet_reader.proofs.contents.layout_length_ok.Statement.{statement}
+use Rattle.sheet_reader.proofs.contents.layout_length_ok.Tie as tie
+use Rattle.sheet_reader.proofs.contents.layout_length_ok.Reads as reads
+use Rattle.sheet_reader.proofs.contents.layout_length_ok.Lts as lts
+use Rattle.numbers.proofs.between.Reads as between-reads
+
+-- src/contents.rt:69:9
+between-requires : tie.Need-between-requires
+between-requires c κs = search needs
+
+-- src/contents.rt:70:9
+returns : tie.Need-returns
+returns c = ?
+
+-- src/contents.rt:66:1
+returns-2 : tie.Need-returns-2
+returns-2 c = ?
+
+pub layout-length-ok-spec : {M : Type 1} → statement M
+layout-length-ok-spec = tie.close (tie.spec between-requires returns returns-2)

@@ -1,0 +1,59 @@
+use borrow.Author.Needs.{needs}
+use native.Mathlib.Omega.{arith}
+use Rattle.sheet_reader.proofs.contents.permutation_at.Statement.{statement}
+use Rattle.sheet_reader.proofs.contents.permutation_at.Tie as tie
+use Rattle.sheet_reader.proofs.contents.permutation_at.Reads as reads
+use Rattle.sheet_reader.proofs.contents.permutation_at.Lts as lts
+
+abbrev Inv-loop : tie.InvT-loop
+Inv-loop s p rank entries₀ k₀ entries k = ?
+
+abbrev μ-loop : tie.MeasureT-loop
+μ-loop s p rank entries₀ k₀ entries k = ?
+
+-- src/contents.rt:96:5
+loop-holds : tie.Need-loop-holds Inv-loop μ-loop
+loop-holds c = ?
+
+-- src/contents.rt:97:24
+add-entries : tie.Need-add-entries Inv-loop μ-loop
+add-entries c = ?
+
+-- src/contents.rt:97:22
+shared-slice-read-entries : tie.Need-shared-slice-read-entries Inv-loop μ-loop
+shared-slice-read-entries c = ?
+
+-- src/contents.rt:97:9
+array-write-entries : tie.Need-array-write-entries Inv-loop μ-loop
+array-write-entries c = ?
+
+-- src/contents.rt:98:9
+add-k : tie.Need-add-k Inv-loop μ-loop
+add-k c = ?
+
+-- src/contents.rt:96:5
+loop-less : tie.Need-loop-less Inv-loop μ-loop
+loop-less c = ?
+
+-- src/contents.rt:96:5
+loop-again : tie.Need-loop-again Inv-loop μ-loop
+loop-again c = ?
+
+-- src/contents.rt:90:1
+returns : tie.Need-returns Inv-loop μ-loop
+returns c = ?
+
+pub permutation-at-spec : {M : Type 1} → statement M
+permutation-at-spec =
+    tie.close
+    (tie.spec
+    Inv-loop
+    μ-loop
+    loop-holds
+    add-entries
+    shared-slice-read-entries
+    array-write-entries
+    add-k
+    loop-less
+    loop-again
+    returns)

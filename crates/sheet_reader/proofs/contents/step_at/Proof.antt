@@ -1,0 +1,77 @@
+use borrow.Author.Needs.{needs}
+use native.Mathlib.Omega.{arith}
+use Rattle.sheet_reader.proofs.contents.step_at.Statement.{statement}
+use Rattle.sheet_reader.proofs.contents.step_at.Tie as tie
+use Rattle.sheet_reader.proofs.contents.step_at.Reads as reads
+use Rattle.sheet_reader.proofs.contents.step_at.Lts as lts
+use Rattle.sheet_reader.proofs.contents.fill_at.Reads as fill-at-reads
+use Rattle.sheet_reader.proofs.contents.load_at.Reads as load-at-reads
+use Rattle.sheet_reader.proofs.contents.multiply_at.Reads as multiply-at-reads
+use Rattle.sheet_reader.proofs.contents.reduce_at.Reads as reduce-at-reads
+use Rattle.sheet_reader.proofs.contents.store_at.Reads as store-at-reads
+use Rattle.sheet_reader.proofs.contents.transpose_at.Reads as transpose-at-reads
+
+-- src/contents.rt:288:17
+fill-at-requires : tie.Need-fill-at-requires
+fill-at-requires c κs = ?
+
+-- src/contents.rt:289:17
+load-at-requires : tie.Need-load-at-requires
+load-at-requires c κs = ?
+
+-- src/contents.rt:290:17
+store-at-requires : tie.Need-store-at-requires
+store-at-requires c κs = ?
+
+-- src/contents.rt:291:17
+reduce-at-requires : tie.Need-reduce-at-requires
+reduce-at-requires c κs = ?
+
+-- src/contents.rt:292:17
+transpose-at-requires : tie.Need-transpose-at-requires
+transpose-at-requires c κs = ?
+
+-- src/contents.rt:293:14
+multiply-at-requires : tie.Need-multiply-at-requires
+multiply-at-requires c κs = ?
+
+-- src/contents.rt:283:1
+returns : tie.Need-returns
+returns c = ?
+
+-- src/contents.rt:283:1
+returns-2 : tie.Need-returns-2
+returns-2 c = ?
+
+-- src/contents.rt:283:1
+returns-3 : tie.Need-returns-3
+returns-3 c = ?
+
+-- src/contents.rt:283:1
+returns-4 : tie.Need-returns-4
+returns-4 c = ?
+
+-- src/contents.rt:283:1
+returns-5 : tie.Need-returns-5
+returns-5 c = ?
+
+-- src/contents.rt:283:1
+returns-6 : tie.Need-returns-6
+returns-6 c = ?
+
+pub step-at-spec : {M : Type 1} → statement M
+step-at-spec =
+    tie.close
+    (tie.spec
+    fill-at-requires
+    load-at-requires
+    store-at-requires
+    reduce-at-requires
+    transpose-at-requires
+    multiply-at-requires
+    returns
+    returns-2
+    returns-3
+    returns-4
+    returns-5
+    returns-6)
