@@ -3,7 +3,7 @@ use Prim.Native.Nat.{ℕ, zero, suc, _+_, _<_, _≤_}
 use mathlib.Core.Path.{_≡_, refl, sym, ap, _∙_}
 use mathlib.Core.List.{List, [], _∷_, _++_, append-assoc}
 use mathlib.Core.Bool.{Bool, true, false}
-use native.Mathlib.Nat.{add-zero, le-refl, not-suc-le-zero}
+use native.Mathlib.Nat.{add-zero, zero-add, le-refl, not-suc-le-zero}
 use borrow.Author.Tests.{eqb-true, eqb-false}
 use lib.Dec.{eqb}
 use native.Mathlib.Numerals.{add-one}
@@ -69,3 +69,13 @@ sets-append out at (x ∷ a) b =
 
 pub puts-after : {A : Type 0} (l0 : List A) (at : ℕ) (a b : List A) {l1 l2 : List A} → l1 ≡ sets l0 at a → l2 ≡ sets l1 (at + length a) b → l2 ≡ sets l0 at (a ++ b)
 puts-after l0 at a b p q = q ∙ ap (λ (l : List _). sets l (at + length a) b) p ∙ sets-append l0 at a b
+
+pub line-next : {A : Type 0} (d : List A) (g : ℕ → A) (n : ℕ) → set (line d 0 g n) n (g n) ≡ line d 0 g (n + 1)
+line-next d g n = ap (λ (k : ℕ). set (line d 0 g n) k (g n)) (sym (zero-add n)) ∙ line-more d 0 g n
+
+-- a loop that writes place after place: where it begins, and one turn
+pub line-start : {A : Type 0} (d : List A) (g : ℕ → A) → d ≡ line d 0 g 0
+line-start d g = sym (line-none d 0 g)
+
+pub line-step : {A : Type 0} (d : List A) (g : ℕ → A) (n : ℕ) {ds : List A} {x : A} → ds ≡ line d 0 g n → x ≡ g n → set ds n x ≡ line d 0 g (n + 1)
+line-step d g n p q = rw (p, q) (line-next d g n)

@@ -1,3 +1,4 @@
+use Rattle.sheet_reader.specs.Contents.{dimensionAt}
 use native.Mathlib.Omega.{arith}
 use borrow.Author.Needs.{needs}
 use Rattle.sheet_reader.proofs.contents.dimension_at.Statement.{statement}
@@ -44,7 +45,8 @@ u16-at-requires-5 c κs = search needs
 
 -- src/contents.rt:21:1
 returns : tie.Need-returns
-returns c = ?
+unfolding dimensionAt
+returns c = cc
 
 pub dimension-at-spec : {M : Type 1} → statement M
 dimension-at-spec =

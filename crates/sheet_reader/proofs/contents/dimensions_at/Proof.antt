@@ -1,3 +1,10 @@
+use Rattle.numbers.specs.Lists.{line, line-start, line-step}
+use mathlib.Core.Path.{_≡_}
+use Prim.Native.Nat.{ℕ, _+_, _*_, _-_, _≤_}
+use lib.ListN.{replicate}
+use Rattle.sheet.specs.Layouts.{noDimension}
+use Rattle.sheet_reader.specs.Contents.{dimensionAt, dimensionsAt}
+use denote.Ref.{now}
 use borrow.Author.Needs.{needs}
 use native.Mathlib.Omega.{arith}
 use Rattle.sheet_reader.proofs.contents.dimensions_at.Statement.{statement}
@@ -8,54 +15,58 @@ use Rattle.sheet.proofs.layouts.no_dimension.Reads as no-dimension-reads
 use Rattle.sheet_reader.proofs.contents.dimension_at.Reads as dimension-at-reads
 
 abbrev Inv-loop : tie.InvT-loop
-Inv-loop s p rank ds₀ k₀ ds k = ?
+Inv-loop s p rank ds₀ k₀ ds k = (k ≤ rank) × (ds ≡ line (replicate 5 noDimension) 0 (λ (i : ℕ). dimensionAt s (p + i * 10)) k)
 
 abbrev μ-loop : tie.MeasureT-loop
-μ-loop s p rank ds₀ k₀ ds k = ?
+μ-loop s p rank ds₀ k₀ ds k = rank - k
 
 -- src/contents.rt:38:9
 no-dimension-requires : tie.Need-no-dimension-requires Inv-loop μ-loop
-no-dimension-requires c κs = ?
+no-dimension-requires c κs = search needs
 
 -- src/contents.rt:41:5
 loop-holds : tie.Need-loop-holds Inv-loop μ-loop
-loop-holds c = ?
+loop-holds c = (search needs, cc (line-start (replicate 5 noDimension) (λ (i : ℕ). dimensionAt (now (c .before .before .args .s)) (c .before .before .args .p + i * 10))))
 
 -- src/contents.rt:42:37
 mul-dimension-at : tie.Need-mul-dimension-at Inv-loop μ-loop
-mul-dimension-at c = ?
+mul-dimension-at c = search needs
 
 -- src/contents.rt:42:33
 add-dimension-at : tie.Need-add-dimension-at Inv-loop μ-loop
-add-dimension-at c = ?
+add-dimension-at c = search needs
 
 -- src/contents.rt:42:17
 dimension-at-requires : tie.Need-dimension-at-requires Inv-loop μ-loop
-dimension-at-requires c κs = ?
+dimension-at-requires c κs = search needs
 
 -- src/contents.rt:42:9
 mul-ds : tie.Need-mul-ds Inv-loop μ-loop
-mul-ds c = ?
+mul-ds c = search needs
 
 -- src/contents.rt:42:9
 array-set-from-ds : tie.Need-array-set-from-ds Inv-loop μ-loop
-array-set-from-ds c = ?
+array-set-from-ds c = search needs
 
 -- src/contents.rt:43:9
 add-k : tie.Need-add-k Inv-loop μ-loop
-add-k c = ?
+add-k c = search needs
 
 -- src/contents.rt:41:5
 loop-less : tie.Need-loop-less Inv-loop μ-loop
-loop-less c = ?
+loop-less c = search needs
 
 -- src/contents.rt:41:5
 loop-again : tie.Need-loop-again Inv-loop μ-loop
-loop-again c = ?
+loop-again c = (search needs, line-step _ _ _ (c .before .before .loop .inv .1) (c .dimension-at .ensures))
 
 -- src/contents.rt:34:1
 returns : tie.Need-returns Inv-loop μ-loop
-returns c = ?
+unfolding dimensionsAt
+returns c =
+    let i = c .before .loop in
+    let e : i .k ≡ c .before .before .before .before .args .rank = omega arith in
+    rw e at (i .inv .1)
 
 pub dimensions-at-spec : {M : Type 1} → statement M
 dimensions-at-spec =

@@ -1,3 +1,4 @@
+use Rattle.sheet_reader.specs.Contents.{fillAt}
 use native.Mathlib.Omega.{arith}
 use borrow.Author.Needs.{needs}
 use Rattle.sheet_reader.proofs.contents.fill_at.Statement.{statement}
@@ -44,7 +45,8 @@ u32-at-requires c κs = search needs
 
 -- src/contents.rt:197:1
 returns : tie.Need-returns
-returns c = ?
+unfolding fillAt
+returns c = cc
 
 pub fill-at-spec : {M : Type 1} → statement M
 fill-at-spec =

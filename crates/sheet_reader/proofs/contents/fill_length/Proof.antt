@@ -1,3 +1,5 @@
+use mathlib.Core.Path.{refl}
+use Rattle.sheet_reader.specs.Contents.{fillLength}
 use borrow.Author.Needs.{needs}
 use native.Mathlib.Omega.{arith}
 use Rattle.sheet_reader.proofs.contents.fill_length.Statement.{statement}
@@ -7,7 +9,8 @@ use Rattle.sheet_reader.proofs.contents.fill_length.Lts as lts
 
 -- src/contents.rt:298:1
 returns : tie.Need-returns
-returns c = ?
+unfolding fillLength
+returns c = refl
 
 pub fill-length-spec : {M : Type 1} → statement M
 fill-length-spec = tie.close (tie.spec returns)

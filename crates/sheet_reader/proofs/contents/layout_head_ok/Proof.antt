@@ -1,3 +1,5 @@
+use Rattle.numbers.specs.Choice.{tests, stop, pass}
+use Rattle.sheet_reader.specs.Contents.{layoutHeadOk}
 use native.Mathlib.Omega.{arith}
 use borrow.Author.Needs.{needs}
 use Rattle.sheet_reader.proofs.contents.layout_head_ok.Statement.{statement}
@@ -17,7 +19,8 @@ rank-ok-requires c κs = search needs
 
 -- src/contents.rt:82:9
 returns : tie.Need-returns
-returns c = ?
+unfolding layoutHeadOk
+returns c = stop _ (search tests)
 
 -- src/contents.rt:84:13
 wide-requires : tie.Need-wide-requires
@@ -37,7 +40,8 @@ add-if2 c = search needs
 
 -- src/contents.rt:85:9
 returns-2 : tie.Need-returns-2
-returns-2 c = ?
+unfolding layoutHeadOk
+returns-2 c = pass (search tests) (rw (← c .before .wide .ensures .0) (stop _ (search tests)))
 
 -- src/contents.rt:87:7
 add-result : tie.Need-add-result
@@ -49,7 +53,8 @@ shared-slice-read-result c = search needs
 
 -- src/contents.rt:76:1
 returns-3 : tie.Need-returns-3
-returns-3 c = ?
+unfolding layoutHeadOk
+returns-3 c = pass (search tests) (pass (rw (← c .before .before .wide .ensures .0) (search tests)) (search tests))
 
 pub layout-head-ok-spec : {M : Type 1} → statement M
 layout-head-ok-spec =

@@ -1,3 +1,5 @@
+use Rattle.numbers.specs.Choice.{tests, stop, pass}
+use Rattle.sheet_reader.specs.Contents.{layoutLengthOk}
 use native.Mathlib.Omega.{arith}
 use borrow.Author.Needs.{needs}
 use Rattle.sheet_reader.proofs.contents.layout_length_ok.Statement.{statement}
@@ -12,11 +14,13 @@ between-requires c κs = search needs
 
 -- src/contents.rt:70:9
 returns : tie.Need-returns
-returns c = ?
+unfolding layoutLengthOk
+returns c = stop _ (search tests)
 
 -- src/contents.rt:66:1
 returns-2 : tie.Need-returns-2
-returns-2 c = ?
+unfolding layoutLengthOk
+returns-2 c = pass (search tests) (search tests)
 
 pub layout-length-ok-spec : {M : Type 1} → statement M
 layout-length-ok-spec = tie.close (tie.spec between-requires returns returns-2)

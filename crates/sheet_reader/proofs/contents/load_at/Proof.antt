@@ -1,3 +1,4 @@
+use Rattle.sheet_reader.specs.Contents.{loadAt}
 use native.Mathlib.Omega.{arith}
 use borrow.Author.Needs.{needs}
 use Rattle.sheet_reader.proofs.contents.load_at.Statement.{statement}
@@ -44,7 +45,8 @@ u32-at-requires c κs = search needs
 
 -- src/contents.rt:210:1
 returns : tie.Need-returns
-returns c = ?
+unfolding loadAt
+returns c = cc
 
 pub load-at-spec : {M : Type 1} → statement M
 load-at-spec =

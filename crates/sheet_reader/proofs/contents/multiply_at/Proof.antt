@@ -1,3 +1,4 @@
+use Rattle.sheet_reader.specs.Contents.{multiplyAt}
 use native.Mathlib.Omega.{arith}
 use borrow.Author.Needs.{needs}
 use Rattle.sheet_reader.proofs.contents.multiply_at.Statement.{statement}
@@ -35,7 +36,8 @@ shared-slice-read-t13 c = search needs
 
 -- src/contents.rt:270:1
 returns : tie.Need-returns
-returns c = ?
+unfolding multiplyAt
+returns c = cc
 
 pub multiply-at-spec : {M : Type 1} → statement M
 multiply-at-spec =

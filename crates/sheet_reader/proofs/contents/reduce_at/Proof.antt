@@ -1,3 +1,6 @@
+use mathlib.Core.Path.{refl}
+use Rattle.numbers.specs.Choice.{tests, taken, left}
+use Rattle.sheet_reader.specs.Contents.{reduceAt}
 use native.Mathlib.Omega.{arith}
 use borrow.Author.Needs.{needs}
 use Rattle.sheet_reader.proofs.contents.reduce_at.Statement.{statement}
@@ -39,11 +42,13 @@ between-requires c κs = search needs
 
 -- src/contents.rt:243:9
 returns : tie.Need-returns
-returns c = ?
+unfolding reduceAt
+returns c = left _ (rw (← c .before .before .wide .ensures .0) (search tests)) refl
 
 -- src/contents.rt:246:9
 returns-2 : tie.Need-returns-2
-returns-2 c = ?
+unfolding reduceAt
+returns-2 c = taken _ (rw (← c .before .before .before .wide .ensures .0) (search tests)) (left _ (search tests) refl)
 
 -- src/contents.rt:248:9
 reduce-mode-requires : tie.Need-reduce-mode-requires
@@ -83,7 +88,9 @@ shared-slice-read-t22 c = search needs
 
 -- src/contents.rt:236:1
 returns-3 : tie.Need-returns-3
-returns-3 c = ?
+unfolding reduceAt
+returns-3 c =
+    taken _ (rw (← c .before .before .before .before .before .before .before .before .before .wide .ensures .0) (search tests)) (taken _ (search tests) (cc))
 
 pub reduce-at-spec : {M : Type 1} → statement M
 reduce-at-spec =

@@ -1,3 +1,6 @@
+use borrow.Author.Tests.{ne-eqb}
+use Rattle.numbers.specs.Choice.{pick}
+use Rattle.sheet_reader.specs.Contents.{stepLength}
 use native.Mathlib.Omega.{arith}
 use borrow.Author.Needs.{needs}
 use Rattle.sheet_reader.proofs.contents.step_length.Statement.{statement}
@@ -12,27 +15,35 @@ fill-length-requires c κs = search needs
 
 -- src/contents.rt:304:1
 returns : tie.Need-returns
-returns c = ?
+unfolding stepLength pick
+returns c = rw (c .before .match .keys1) (c .fill-length .ensures)
 
 -- src/contents.rt:304:1
 returns-2 : tie.Need-returns-2
-returns-2 c = ?
+unfolding stepLength pick
+returns-2 c = rw (c .match .keys2)
 
 -- src/contents.rt:304:1
 returns-3 : tie.Need-returns-3
-returns-3 c = ?
+unfolding stepLength pick
+returns-3 c = rw (c .match .keys3)
 
 -- src/contents.rt:304:1
 returns-4 : tie.Need-returns-4
-returns-4 c = ?
+unfolding stepLength pick
+returns-4 c = rw (c .match .keys4)
 
 -- src/contents.rt:304:1
 returns-5 : tie.Need-returns-5
-returns-5 c = ?
+unfolding stepLength pick
+returns-5 c = rw (c .match .keys5)
 
 -- src/contents.rt:304:1
 returns-6 : tie.Need-returns-6
-returns-6 c = ?
+unfolding stepLength pick
+returns-6 c =
+    let m = c .match .rest in
+    rw (ne-eqb _ _ (m .0 .0 .0 .0 .1), ne-eqb _ _ (m .0 .0 .0 .1), ne-eqb _ _ (m .0 .0 .1), ne-eqb _ _ (m .0 .1), ne-eqb _ _ (m .1))
 
 pub step-length-spec : {M : Type 1} → statement M
 step-length-spec =

@@ -1,3 +1,4 @@
+use Rattle.sheet_reader.specs.Contents.{storeAt}
 use native.Mathlib.Omega.{arith}
 use borrow.Author.Needs.{needs}
 use Rattle.sheet_reader.proofs.contents.store_at.Statement.{statement}
@@ -36,7 +37,8 @@ u32-at-requires c κs = search needs
 
 -- src/contents.rt:223:1
 returns : tie.Need-returns
-returns c = ?
+unfolding storeAt
+returns c = cc
 
 pub store-at-spec : {M : Type 1} → statement M
 store-at-spec =

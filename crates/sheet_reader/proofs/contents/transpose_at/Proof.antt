@@ -1,3 +1,4 @@
+use Rattle.sheet_reader.specs.Contents.{transposeAt}
 use native.Mathlib.Omega.{arith}
 use borrow.Author.Needs.{needs}
 use Rattle.sheet_reader.proofs.contents.transpose_at.Statement.{statement}
@@ -19,7 +20,8 @@ shared-slice-read-t7 c = search needs
 
 -- src/contents.rt:260:1
 returns : tie.Need-returns
-returns c = ?
+unfolding transposeAt
+returns c = cc
 
 pub transpose-at-spec : {M : Type 1} → statement M
 transpose-at-spec = tie.close (tie.spec shared-slice-read-t4 add-t5 shared-slice-read-t7 returns)

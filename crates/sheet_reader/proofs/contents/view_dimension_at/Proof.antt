@@ -1,3 +1,4 @@
+use Rattle.sheet_reader.specs.Contents.{viewDimensionAt}
 use native.Mathlib.Omega.{arith}
 use borrow.Author.Needs.{needs}
 use Rattle.sheet_reader.proofs.contents.view_dimension_at.Statement.{statement}
@@ -20,7 +21,8 @@ u16-at-requires-2 c κs = search needs
 
 -- src/contents.rt:103:1
 returns : tie.Need-returns
-returns c = ?
+unfolding viewDimensionAt
+returns c = cc
 
 pub view-dimension-at-spec : {M : Type 1} → statement M
 view-dimension-at-spec = tie.close (tie.spec u16-at-requires add-u16-at u16-at-requires-2 returns)

@@ -1,3 +1,10 @@
+use Rattle.numbers.specs.Lists.{line, line-start, line-step}
+use denote.Ref.{now}
+use mathlib.Core.Path.{_≡_}
+use Prim.Native.Nat.{ℕ, _+_, _*_, _-_, _≤_}
+use lib.ListN.{replicate}
+use Rattle.sheet.specs.Views.{noViewDimension}
+use Rattle.sheet_reader.specs.Contents.{viewDimensionAt, viewDimensionsAt}
 use borrow.Author.Needs.{needs}
 use native.Mathlib.Omega.{arith}
 use Rattle.sheet_reader.proofs.contents.view_dimensions_at.Statement.{statement}
@@ -8,54 +15,58 @@ use Rattle.sheet.proofs.views.no_view_dimension.Reads as no-view-dimension-read
 use Rattle.sheet_reader.proofs.contents.view_dimension_at.Reads as view-dimension-at-reads
 
 abbrev Inv-loop : tie.InvT-loop
-Inv-loop s p count ds₀ k₀ ds k = ?
+Inv-loop s p count ds₀ k₀ ds k = (k ≤ count) × (ds ≡ line (replicate 5 noViewDimension) 0 (λ (i : ℕ). viewDimensionAt s (p + i * 4)) k)
 
 abbrev μ-loop : tie.MeasureT-loop
-μ-loop s p count ds₀ k₀ ds k = ?
+μ-loop s p count ds₀ k₀ ds k = count - k
 
 -- src/contents.rt:117:9
 no-view-dimension-requires : tie.Need-no-view-dimension-requires Inv-loop μ-loop
-no-view-dimension-requires c κs = ?
+no-view-dimension-requires c κs = search needs
 
 -- src/contents.rt:120:5
 loop-holds : tie.Need-loop-holds Inv-loop μ-loop
-loop-holds c = ?
+loop-holds c = (search needs, cc (line-start (replicate 5 noViewDimension) (λ (i : ℕ). viewDimensionAt (now (c .before .before .args .s)) (c .before .before .args .p + i * 4))))
 
 -- src/contents.rt:121:42
 mul-view-dimension-at : tie.Need-mul-view-dimension-at Inv-loop μ-loop
-mul-view-dimension-at c = ?
+mul-view-dimension-at c = search needs
 
 -- src/contents.rt:121:38
 add-view-dimension-at : tie.Need-add-view-dimension-at Inv-loop μ-loop
-add-view-dimension-at c = ?
+add-view-dimension-at c = search needs
 
 -- src/contents.rt:121:17
 view-dimension-at-requires : tie.Need-view-dimension-at-requires Inv-loop μ-loop
-view-dimension-at-requires c κs = ?
+view-dimension-at-requires c κs = search needs
 
 -- src/contents.rt:121:9
 mul-ds : tie.Need-mul-ds Inv-loop μ-loop
-mul-ds c = ?
+mul-ds c = search needs
 
 -- src/contents.rt:121:9
 array-set-from-ds : tie.Need-array-set-from-ds Inv-loop μ-loop
-array-set-from-ds c = ?
+array-set-from-ds c = search needs
 
 -- src/contents.rt:122:9
 add-k : tie.Need-add-k Inv-loop μ-loop
-add-k c = ?
+add-k c = search needs
 
 -- src/contents.rt:120:5
 loop-less : tie.Need-loop-less Inv-loop μ-loop
-loop-less c = ?
+loop-less c = search needs
 
 -- src/contents.rt:120:5
 loop-again : tie.Need-loop-again Inv-loop μ-loop
-loop-again c = ?
+loop-again c = (search needs, line-step _ _ _ (c .before .before .loop .inv .1) (c .view-dimension-at .ensures))
 
 -- src/contents.rt:113:1
 returns : tie.Need-returns Inv-loop μ-loop
-returns c = ?
+unfolding viewDimensionsAt
+returns c =
+    let i = c .before .loop in
+    let e : i .k ≡ c .before .before .before .before .args .count = omega arith in
+    rw e at (i .inv .1)
 
 pub view-dimensions-at-spec : {M : Type 1} → statement M
 view-dimensions-at-spec =

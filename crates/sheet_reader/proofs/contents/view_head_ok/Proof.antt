@@ -1,3 +1,5 @@
+use Rattle.numbers.specs.Choice.{tests, stop, pass}
+use Rattle.sheet_reader.specs.Contents.{viewHeadOk}
 use native.Mathlib.Omega.{arith}
 use borrow.Author.Needs.{needs}
 use Rattle.sheet_reader.proofs.contents.view_head_ok.Statement.{statement}
@@ -26,11 +28,13 @@ rank-ok-requires c κs = search needs
 
 -- src/contents.rt:188:9
 returns : tie.Need-returns
-returns c = ?
+unfolding viewHeadOk
+returns c = stop _ (search tests)
 
 -- src/contents.rt:191:9
 returns-2 : tie.Need-returns-2
-returns-2 c = ?
+unfolding viewHeadOk
+returns-2 c = pass (search tests) (stop _ (search tests))
 
 -- src/contents.rt:193:9
 sized-rank-requires : tie.Need-sized-rank-requires
@@ -66,7 +70,9 @@ add-result-2 c = search needs
 
 -- src/contents.rt:181:1
 returns-3 : tie.Need-returns-3
-returns-3 c = ?
+unfolding viewHeadOk
+returns-3 c =
+    pass (search tests) (pass (search tests) (rw (c .before .wide .ensures .0, c .wide2 .ensures .0, c .before .before .sized-rank .ensures)))
 
 pub view-head-ok-spec : {M : Type 1} → statement M
 view-head-ok-spec =

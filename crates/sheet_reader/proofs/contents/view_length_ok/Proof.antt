@@ -1,3 +1,6 @@
+use mathlib.Core.Path.{refl}
+use Rattle.numbers.specs.Choice.{tests, taken, left, stop, pass}
+use Rattle.sheet_reader.specs.Contents.{viewLengthOk}
 use native.Mathlib.Omega.{arith}
 use borrow.Author.Needs.{needs}
 use Rattle.sheet_reader.proofs.contents.view_length_ok.Statement.{statement}
@@ -12,7 +15,8 @@ between-requires c κs = search needs
 
 -- src/contents.rt:172:9
 returns : tie.Need-returns
-returns c = ?
+unfolding viewLengthOk
+returns c = taken _ (search tests) refl
 
 -- src/contents.rt:174:9
 between-requires-2 : tie.Need-between-requires-2
@@ -20,11 +24,13 @@ between-requires-2 c κs = search needs
 
 -- src/contents.rt:175:9
 returns-2 : tie.Need-returns-2
-returns-2 c = ?
+unfolding viewLengthOk
+returns-2 c = left _ (search tests) (stop _ (search tests))
 
 -- src/contents.rt:168:1
 returns-3 : tie.Need-returns-3
-returns-3 c = ?
+unfolding viewLengthOk
+returns-3 c = left _ (search tests) (pass (search tests) (search tests))
 
 pub view-length-ok-spec : {M : Type 1} → statement M
 view-length-ok-spec =

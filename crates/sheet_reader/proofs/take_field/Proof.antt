@@ -1,0 +1,66 @@
+use native.Mathlib.Omega.{arith}
+use borrow.Author.Needs.{needs}
+use Rattle.sheet_reader.proofs.take_field.Statement.{statement}
+use Rattle.sheet_reader.proofs.take_field.Tie as tie
+use Rattle.sheet_reader.proofs.take_field.Reads as reads
+use Rattle.sheet_reader.proofs.take_field.Lts as lts
+use Rattle.sheet_reader.proofs.refuse.Reads as refuse-reads
+use Rattle.sheet_reader.proofs.take_edition.Reads as take-edition-reads
+use Rattle.sheet_reader.proofs.take_layout.Reads as take-layout-reads
+use Rattle.sheet_reader.proofs.take_step.Reads as take-step-reads
+use Rattle.sheet_reader.proofs.take_view.Reads as take-view-reads
+
+-- src/lib.rt:197:17
+take-edition-requires : tie.Need-take-edition-requires
+take-edition-requires c κs = search needs
+
+-- src/lib.rt:198:17
+take-layout-requires : tie.Need-take-layout-requires
+take-layout-requires c κs = search needs
+
+-- src/lib.rt:199:17
+take-view-requires : tie.Need-take-view-requires
+take-view-requires c κs = search needs
+
+-- src/lib.rt:200:24
+take-step-requires : tie.Need-take-step-requires
+take-step-requires c κs = search needs
+
+-- src/lib.rt:201:14
+refuse-requires : tie.Need-refuse-requires
+refuse-requires c κs = search needs
+
+-- src/lib.rt:192:1
+returns : tie.Need-returns
+returns c = ?
+
+-- src/lib.rt:192:1
+returns-2 : tie.Need-returns-2
+returns-2 c = ?
+
+-- src/lib.rt:192:1
+returns-3 : tie.Need-returns-3
+returns-3 c = ?
+
+-- src/lib.rt:192:1
+returns-4 : tie.Need-returns-4
+returns-4 c = ?
+
+-- src/lib.rt:192:1
+returns-5 : tie.Need-returns-5
+returns-5 c = ?
+
+pub take-field-spec : {M : Type 1} → statement M
+take-field-spec =
+    tie.close
+    (tie.spec
+    take-edition-requires
+    take-layout-requires
+    take-view-requires
+    take-step-requires
+    refuse-requires
+    returns
+    returns-2
+    returns-3
+    returns-4
+    returns-5)
