@@ -1,5 +1,6 @@
 -- The limits of document 01's Sizes. Those that depend on the edition take it.
-use Prim.Native.Nat.{ℕ}
+use Prim.Native.Nat.{ℕ, _≤_}
+use native.Mathlib.Nat.{le-refl}
 use mathlib.Core.Bool.{Bool, true, false}
 use lib.Dec.{ltb, leb, eqb}
 use Rattle.numbers.specs.Choice.{pick, between}
@@ -14,6 +15,11 @@ sideLimit edition = 16
 -- the most steps of a sheet
 unfoldable pub stepLimit : ℕ → ℕ
 stepLimit edition = 32
+
+-- a sheet has places for so many steps, whatever its edition
+pub step-limit-places : (edition : ℕ) → stepLimit edition ≤ 32
+unfolding stepLimit
+step-limit-places edition = le-refl 32
 
 -- a layout or a view has 1 to 5 dimensions
 abbrev pub rankOk : ℕ → Bool

@@ -11,12 +11,12 @@ use lib.ListN.{length, getD}
 use borrow.Author.Tests.{ltb-true, ltb-false, leb-true, leb-false, eqb-true, le-ltb, lt-ltb}
 use Rattle.numbers.specs.Choice.{pick, both, between, both-left, both-right, between-low, between-high, pick-inv}
 use Rattle.numbers.specs.Little.{u16At}
-use Rattle.sheet.specs.Sizes.{rankOk}
+use Rattle.sheet.specs.Sizes.{rankOk, stepLimit, step-limit-places}
 use Rattle.sheet.specs.Views.{sizedRank}
 use Rattle.sheet.specs.declared.Sheet.{Sheet}
 use Rattle.sheet_reader.specs.Fields.{fieldAt}
 use Rattle.sheet_reader.specs.Contents.{layoutLength, layoutLengthOk, layoutHeadOk, viewLength, viewLengthOk, viewHeadOk, hasDimensions}
-use Rattle.sheet_reader.specs.Reading.{takeField, refusedRead, endRead, Turn, over, on, turnTaken, turnField, turn, afterTurn, readFrom}
+use Rattle.sheet_reader.specs.Reading.{layoutMayCome, viewMayCome, stepMayCome, takeField, refusedRead, endRead, Turn, over, on, turnTaken, turnField, turn, afterTurn, readFrom}
 use Rattle.sheet_reader.specs.declared.Taken.{Taken}
 use Rattle.sheet_reader.specs.declared.ReadAnswer.{ReadAnswer}
 use Rattle.sheet_reader.specs.declared.fields.Cursor.{Cursor}
@@ -65,6 +65,21 @@ view-room len e =
     ⊎-elim (λ w. let h : 11 ≤ len = between-low 11 15 len (w .0) in omega arith)
     (λ w. let h : 20 ≤ len = between-low 20 35 len (both-left _ _ (w .1)) in omega arith)
     (pick-inv _ _ _ e)
+
+-- what may come has a place
+pub layout-place : (edition layouts views steps : ℕ) → layoutMayCome edition layouts views steps ≡ true → layouts < 4
+unfolding layoutMayCome
+layout-place edition layouts views steps e = ltb-true _ _ (both-right _ _ (both-right _ _ (both-right _ _ e)))
+
+pub view-place : (edition views steps : ℕ) → viewMayCome edition views steps ≡ true → views < 4
+unfolding viewMayCome
+view-place edition views steps e = ltb-true _ _ (both-right _ _ (both-right _ _ e))
+
+pub step-place : (edition steps : ℕ) → stepMayCome edition steps ≡ true → steps < 32
+unfolding stepMayCome
+step-place edition steps e =
+    let h : steps < stepLimit edition = ltb-true _ _ (both-right _ _ e) in
+    omega (arith, step-limit-places edition)
 
 -- a whole field lies within the bytes, and ends after its head
 pub record FieldIn (s : List ℕ) (at start len : ℕ) (next : Cursor) : Type 0 where

@@ -1,3 +1,4 @@
+use Rattle.sheet_reader.specs.Reading.{refusedRead}
 use native.Mathlib.Omega.{arith}
 use borrow.Author.Needs.{needs}
 use Rattle.sheet_reader.proofs.refused_read.Statement.{statement}
@@ -12,7 +13,8 @@ empty-sheet-requires c κs = search needs
 
 -- src/lib.rt:205:1
 returns : tie.Need-returns
-returns c = ?
+unfolding refusedRead
+returns c = cc
 
 pub refused-read-spec : {M : Type 1} → statement M
 refused-read-spec = tie.close (tie.spec empty-sheet-requires returns)

@@ -1,3 +1,5 @@
+use Rattle.numbers.specs.Choice.{tests, taken, left}
+use Rattle.sheet_reader.specs.Reading.{takeEdition}
 use native.Mathlib.Omega.{arith}
 use borrow.Author.Needs.{needs}
 use Rattle.sheet_reader.proofs.take_edition.Statement.{statement}
@@ -14,7 +16,8 @@ refuse-requires c κs = search needs
 
 -- src/lib.rt:121:9
 returns : tie.Need-returns
-returns c = ?
+unfolding takeEdition
+returns c = taken _ (search tests) (c .refuse .ensures)
 
 -- src/lib.rt:124:9
 refuse-requires-2 : tie.Need-refuse-requires-2
@@ -22,7 +25,8 @@ refuse-requires-2 c κs = search needs
 
 -- src/lib.rt:124:9
 returns-2 : tie.Need-returns-2
-returns-2 c = ?
+unfolding takeEdition
+returns-2 c = left _ (search tests) (left _ (search tests) (c .refuse2 .ensures))
 
 -- src/lib.rt:126:13
 shared-slice-read-e : tie.Need-shared-slice-read-e
@@ -38,7 +42,8 @@ refuse-requires-3 c κs = search needs
 
 -- src/lib.rt:128:9
 returns-3 : tie.Need-returns-3
-returns-3 c = ?
+unfolding takeEdition
+returns-3 c = left _ (search tests) (taken _ (search tests) (left _ (search tests) (c .refuse3 .ensures)))
 
 -- src/lib.rt:130:5
 with-edition-requires : tie.Need-with-edition-requires
@@ -46,7 +51,8 @@ with-edition-requires c κs = search needs
 
 -- src/lib.rt:115:1
 returns-4 : tie.Need-returns-4
-returns-4 c = ?
+unfolding takeEdition
+returns-4 c = left _ (search tests) (taken _ (search tests) (taken _ (search tests) (c .with-edition .ensures)))
 
 pub take-edition-spec : {M : Type 1} → statement M
 take-edition-spec =

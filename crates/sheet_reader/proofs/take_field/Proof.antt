@@ -1,3 +1,7 @@
+use mathlib.Core.Logic.{⊎-elim}
+use borrow.Author.Tests.{le-ltb, lt-ltb, eq-eqb, ne-eqb}
+use Rattle.numbers.specs.Choice.{ways, pick, taken, left}
+use Rattle.sheet_reader.specs.Reading.{takeField}
 use native.Mathlib.Omega.{arith}
 use borrow.Author.Needs.{needs}
 use Rattle.sheet_reader.proofs.take_field.Statement.{statement}
@@ -32,23 +36,37 @@ refuse-requires c κs = search needs
 
 -- src/lib.rt:192:1
 returns : tie.Need-returns
-returns c = ?
+unfolding takeField pick
+returns c = rw (c .before .match .keys1) (c .take-edition .ensures)
 
 -- src/lib.rt:192:1
 returns-2 : tie.Need-returns-2
-returns-2 c = ?
+unfolding takeField pick
+returns-2 c = rw (c .before .match .keys2) (c .take-layout .ensures)
 
 -- src/lib.rt:192:1
 returns-3 : tie.Need-returns-3
-returns-3 c = ?
+unfolding takeField pick
+returns-3 c = rw (c .before .match .keys3) (c .take-view .ensures)
 
 -- src/lib.rt:192:1
 returns-4 : tie.Need-returns-4
-returns-4 c = ?
+unfolding takeField
+returns-4 c =
+    let m = c .before .before .before .match .rest in
+    left _ (ne-eqb _ _ (m .0 .0 .1)) (left _ (ne-eqb _ _ (m .0 .1)) (left _ (ne-eqb _ _ (m .1)) (left _ (search ways) (taken _ (search ways) (c .take-step .ensures)))))
 
 -- src/lib.rt:192:1
 returns-5 : tie.Need-returns-5
-returns-5 c = ?
+unfolding takeField
+returns-5 c =
+    let m = c .before .before .match .rest in
+    left _ (ne-eqb _ _ (m .0 .0 .1))
+    (left _ (ne-eqb _ _ (m .0 .1))
+    (left _ (ne-eqb _ _ (m .1))
+    (⊎-elim (λ w. taken _ (lt-ltb _ _ (w .taken)) (c .refuse .ensures))
+    (λ w. left _ (le-ltb _ _ (w .0 .left)) (left _ (le-ltb _ _ (w .1 .left)) (c .refuse .ensures)))
+    (c .before .if1 .came))))
 
 pub take-field-spec : {M : Type 1} → statement M
 take-field-spec =

@@ -1,3 +1,6 @@
+use Rattle.sheet_reader.proofs.Laws.{layout-room, layout-place}
+use Rattle.numbers.specs.Choice.{tests, taken, left, went-past}
+use Rattle.sheet_reader.specs.Reading.{takeLayout}
 use native.Mathlib.Omega.{arith}
 use borrow.Author.Needs.{needs}
 use Rattle.sheet_reader.proofs.take_layout.Statement.{statement}
@@ -22,7 +25,8 @@ refuse-requires c κs = search needs
 
 -- src/lib.rt:138:9
 returns : tie.Need-returns
-returns c = ?
+unfolding takeLayout
+returns c = left _ (search tests) (c .refuse .ensures)
 
 -- src/lib.rt:140:9
 layout-length-ok-requires : tie.Need-layout-length-ok-requires
@@ -34,11 +38,12 @@ refuse-requires-2 c κs = search needs
 
 -- src/lib.rt:141:9
 returns-2 : tie.Need-returns-2
-returns-2 c = ?
+unfolding takeLayout
+returns-2 c = taken _ (search tests) (left _ (search tests) (c .refuse2 .ensures))
 
 -- src/lib.rt:143:9
 layout-head-ok-requires : tie.Need-layout-head-ok-requires
-layout-head-ok-requires c κs = ?
+layout-head-ok-requires c κs = (layout-room _ (went-past (c .before .layout-length-ok .ensures) (c .if2 .left)), c .before .before .before .before .before .pre)
 
 -- src/lib.rt:144:9
 refuse-requires-3 : tie.Need-refuse-requires-3
@@ -46,11 +51,13 @@ refuse-requires-3 c κs = search needs
 
 -- src/lib.rt:144:9
 returns-3 : tie.Need-returns-3
-returns-3 c = ?
+unfolding takeLayout
+returns-3 c = taken _ (search tests) (taken _ (search tests) (left _ (search tests) (c .refuse3 .ensures)))
 
 -- src/lib.rt:146:9
 layout-at-requires : tie.Need-layout-at-requires
-layout-at-requires c κs = ?
+layout-at-requires c κs =
+    (layout-room _ (went-past (c .before .before .before .layout-length-ok .ensures) (c .before .before .if2 .left)), c .before .before .before .before .before .before .before .pre, went-past (c .before .layout-head-ok .ensures) (c .if3 .left))
 
 -- src/lib.rt:147:9
 layout-ok-requires : tie.Need-layout-ok-requires
@@ -62,15 +69,19 @@ refuse-requires-4 c κs = search needs
 
 -- src/lib.rt:148:9
 returns-4 : tie.Need-returns-4
-returns-4 c = ?
+unfolding takeLayout
+returns-4 c =
+    taken _ (search tests) (taken _ (search tests) (taken _ (search tests) (rw (← c .before .before .before .layout-at .ensures) (left _ (search tests) (c .refuse4 .ensures)))))
 
 -- src/lib.rt:150:5
 with-layout-requires : tie.Need-with-layout-requires
-with-layout-requires c κs = ?
+with-layout-requires c κs = layout-place _ _ _ _ (went-past (c .before .before .before .before .before .before .before .before .layout-may-come .ensures) (c .before .before .before .before .before .before .before .if1 .left))
 
 -- src/lib.rt:133:1
 returns-5 : tie.Need-returns-5
-returns-5 c = ?
+unfolding takeLayout
+returns-5 c =
+    taken _ (search tests) (taken _ (search tests) (taken _ (search tests) (rw (← c .before .before .before .layout-at .ensures) (taken _ (search tests) (c .with-layout .ensures)))))
 
 pub take-layout-spec : {M : Type 1} → statement M
 take-layout-spec =

@@ -1,3 +1,6 @@
+use Rattle.sheet_reader.proofs.Laws.{step-place}
+use Rattle.numbers.specs.Choice.{tests, taken, left, went-past}
+use Rattle.sheet_reader.specs.Reading.{takeStep}
 use native.Mathlib.Omega.{arith}
 use borrow.Author.Needs.{needs}
 use Rattle.sheet_reader.proofs.take_step.Statement.{statement}
@@ -21,7 +24,8 @@ refuse-requires c κs = search needs
 
 -- src/lib.rt:179:9
 returns : tie.Need-returns
-returns c = ?
+unfolding takeStep
+returns c = left _ (search tests) (c .refuse .ensures)
 
 -- src/lib.rt:181:15
 step-length-requires : tie.Need-step-length-requires
@@ -33,7 +37,8 @@ refuse-requires-2 c κs = search needs
 
 -- src/lib.rt:182:9
 returns-2 : tie.Need-returns-2
-returns-2 c = ?
+unfolding takeStep
+returns-2 c = taken _ (search tests) (rw (← c .before .before .step-length .ensures) (left _ (search tests) (c .refuse2 .ensures)))
 
 -- src/lib.rt:184:9
 step-at-requires : tie.Need-step-at-requires
@@ -49,15 +54,19 @@ refuse-requires-3 c κs = search needs
 
 -- src/lib.rt:186:9
 returns-3 : tie.Need-returns-3
-returns-3 c = ?
+unfolding takeStep
+returns-3 c =
+    taken _ (search tests) (taken _ (rw (← c .before .before .before .before .before .step-length .ensures) (search tests)) (rw (← c .before .before .before .step-at .ensures) (left _ (search tests) (c .refuse3 .ensures))))
 
 -- src/lib.rt:188:5
 with-step-requires : tie.Need-with-step-requires
-with-step-requires c κs = ?
+with-step-requires c κs = step-place _ _ (went-past (c .before .before .before .before .before .before .step-may-come .ensures) (c .before .before .before .before .before .if1 .left))
 
 -- src/lib.rt:173:1
 returns-4 : tie.Need-returns-4
-returns-4 c = ?
+unfolding takeStep
+returns-4 c =
+    taken _ (search tests) (taken _ (rw (← c .before .before .before .before .before .step-length .ensures) (search tests)) (rw (← c .before .before .before .step-at .ensures) (taken _ (search tests) (c .with-step .ensures))))
 
 pub take-step-spec : {M : Type 1} → statement M
 take-step-spec =

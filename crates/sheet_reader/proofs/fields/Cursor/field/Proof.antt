@@ -1,3 +1,6 @@
+use mathlib.Core.Path.{refl}
+use Rattle.numbers.specs.Choice.{ways, taken, left}
+use Rattle.sheet_reader.specs.Fields.{fieldAt}
 use native.Mathlib.Omega.{arith}
 use borrow.Author.Needs.{needs}
 use Rattle.sheet_reader.proofs.fields.Cursor.field.Statement.{statement}
@@ -12,7 +15,8 @@ sub-if1 c = search needs
 
 -- src/fields.rt:30:13
 returns : tie.Need-returns
-returns c = ?
+unfolding fieldAt
+returns c = search ways
 
 -- src/fields.rt:32:19
 shared-slice-read-tag : tie.Need-shared-slice-read-tag
@@ -44,11 +48,13 @@ add-t14 c = search needs
 
 -- src/fields.rt:24:5
 returns-2 : tie.Need-returns-2
-returns-2 c = ?
+unfolding fieldAt
+returns-2 c = left _ (search ways) (taken _ (search (ways, ← c .before .u16-at .ensures)) (cc))
 
 -- src/fields.rt:24:5
 returns-3 : tie.Need-returns-3
-returns-3 c = ?
+unfolding fieldAt
+returns-3 c = left _ (search ways) (left _ (search (ways, ← c .before .u16-at .ensures)) refl)
 
 pub field-spec : {M : Type 1} → statement M
 field-spec =
