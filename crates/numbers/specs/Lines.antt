@@ -8,7 +8,7 @@ use native.Mathlib.Decide.{ℕ-discrete}
 use native.Mathlib.Omega.{arith}
 use lib.ListN.{length, getD, set}
 use lib.Seq.{getD-set-same, getD-set-other, set-comm}
-use Rattle.numbers.specs.Lists.{line, length-line}
+use Rattle.numbers.specs.Lists.{line, line-more, length-line}
 
 module _ {A : Type 0} where
   -- a line leaves every place outside it
@@ -59,3 +59,7 @@ module _ {A : Type 0} where
   lines-apart d p q g h m (suc n) e =
       ap (λ (l : List A). set l (q + n) (h n)) (lines-apart d p q g h m n (λ i j k l. e i j k (omega arith)))
       ∙ set-line (line d q h n) p g m (q + n) (h n) (λ i l. e i n l (omega arith))
+
+  -- one more element, as a loop writes it
+  pub line-next : (d : List A) (p : ℕ) (g : ℕ → A) (n : ℕ) {out : List A} {x : A} → out ≡ line d p g n → x ≡ g n → set out (p + n) x ≡ line d p g (n + 1)
+  line-next d p g n e f = ap₂ (λ (l : List A) (x : A). set l (p + n) x) e f ∙ line-more d p g n
