@@ -1,1 +1,5 @@
 pub mod Widths
+pub mod Values
+pub mod Modulo
+pub mod Laws
+pub mod ModuloLaws

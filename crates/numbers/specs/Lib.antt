@@ -2,3 +2,4 @@ pub mod Choice
 pub mod All
 pub mod Little
 pub mod Lists
+pub mod Lines

@@ -1,7 +1,7 @@
 // Ranges, and little-endian numbers in byte slices.
 ghost use mathlib.Core.Path.{_≡_};
 ghost use Prim.Native.Nat.{_+_, _≤_, _<_, _/_, _%_};
-ghost use lib.ListN.{length};
+ghost use lib.ListN.{length, getD};
 ghost use lib.Seq.{sets};
 ghost use Rattle.numbers.specs.Choice.{between};
 ghost use Rattle.numbers.specs.Little.{u16At, u32At, u16Bytes, u32Bytes};
@@ -21,6 +21,16 @@ pub fn wide(x: u8) -> u16
     ensures { λ r. ⌜ (r ≡ x) × (r < 256) ⌝ }
 {
     x as u16
+}
+
+// The element at a place, 0 past the end.
+pub fn at(elements: &[u32], place: usize) -> u32
+    ensures { λ r. ⌜ r ≡ getD (now (elements .entry)) place 0 ⌝ }
+{
+    if place < elements.len() {
+        return elements[place];
+    }
+    0
 }
 
 pub fn u16_at(s: &[u8], at: usize) -> u16

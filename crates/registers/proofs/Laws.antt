@@ -1,0 +1,17 @@
+-- Copying a register's places one by one.
+use mathlib.Core.Path.{_≡_, ap₂, _∙_}
+use mathlib.Core.List.{List}
+use Prim.Native.Nat.{ℕ, _+_, _<_}
+use native.Mathlib.Omega.{arith}
+use lib.ListN.{getD}
+use Rattle.numbers.specs.Lists.{line}
+use Rattle.numbers.specs.Lines.{line-outside}
+use Rattle.registers.specs.Registers.{room, placeOf, elementOf}
+
+-- the place read next is not written yet
+pub unwritten : (es : List ℕ) (r s e to from : ℕ) {out : List ℕ} → e < room → to ≡ placeOf r 0 → from ≡ placeOf s 0
+    → out ≡ line es to (elementOf es s) e → getD out (from + e) 0 ≡ elementOf es s e
+unwritten es r s e to from h p q o =
+    let f : from + e ≡ placeOf s e = omega arith in
+    ap₂ (λ (l : List ℕ) (k : ℕ). getD l k 0) o f
+    ∙ line-outside es to (elementOf es s) e (placeOf s e) 0 (λ i l d. omega arith)

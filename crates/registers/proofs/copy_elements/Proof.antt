@@ -1,0 +1,84 @@
+use mathlib.Core.Path.{_≡_, sym}
+use Prim.Native.Nat.{_≤_, _-_}
+use native.Mathlib.Omega.{arith}
+use borrow.Author.Needs.{needs}
+use Rattle.numbers.specs.Lines.{line-next}
+use Rattle.numbers.specs.Lists.{line, line-none}
+use Rattle.registers.proofs.Laws.{unwritten}
+use Rattle.registers.specs.Registers.{room, elementOf}
+use Rattle.registers.proofs.copy_elements.Statement.{statement}
+use Rattle.registers.proofs.copy_elements.Tie as tie
+
+abbrev Inv-loop : tie.InvT-loop
+Inv-loop elements₀ register source to from e₀ elements e = (e ≤ room) × (elements ≡ line elements₀ to (elementOf elements₀ source) e)
+
+abbrev μ-loop : tie.MeasureT-loop
+μ-loop elements₀ register source to from e₀ elements e = room - e
+
+place-of-requires : tie.Need-place-of-requires Inv-loop μ-loop
+place-of-requires c κs = search needs
+
+place-of-requires-2 : tie.Need-place-of-requires-2 Inv-loop μ-loop
+place-of-requires-2 c κs = search needs
+
+loop-holds : tie.Need-loop-holds Inv-loop μ-loop
+loop-holds c = (search needs, sym (line-none _ _ _))
+
+add-elements : tie.Need-add-elements Inv-loop μ-loop
+add-elements c = search needs
+
+mul-elements : tie.Need-mul-elements Inv-loop μ-loop
+mul-elements c = search needs
+
+element-copy-out-elements : tie.Need-element-copy-out-elements Inv-loop μ-loop
+element-copy-out-elements c = search needs
+
+add-elements-2 : tie.Need-add-elements-2 Inv-loop μ-loop
+add-elements-2 c = search needs
+
+mul-elements-2 : tie.Need-mul-elements-2 Inv-loop μ-loop
+mul-elements-2 c = search needs
+
+element-write-elements : tie.Need-element-write-elements Inv-loop μ-loop
+element-write-elements c = search needs
+
+add-e : tie.Need-add-e Inv-loop μ-loop
+add-e c = search needs
+
+loop-less : tie.Need-loop-less Inv-loop μ-loop
+loop-less c = search needs
+
+loop-again : tie.Need-loop-again Inv-loop μ-loop
+loop-again c =
+    let a = c .before .before .before .before .before .args in
+    let i = c .before .before .loop in (
+      search needs,
+      line-next _ _ _ _ (i .inv .1)
+          (unwritten (a .elements .now) (a .register) (a .source) (i .e) _ _ (search needs)
+          (c .before .before .before .before .place-of .ensures) (c .before .before .before .place-of2 .ensures) (i .inv .1)),
+    )
+
+returns : tie.Need-returns Inv-loop μ-loop
+returns c =
+    let e : c .before .loop .e ≡ room = omega arith in
+    rw (e, c .before .before .before .place-of .ensures) at (c .before .loop .inv .1)
+
+pub copy-elements-spec : {M : Type 1} → statement M
+copy-elements-spec =
+    tie.close
+    (tie.spec
+    Inv-loop
+    μ-loop
+    place-of-requires
+    place-of-requires-2
+    loop-holds
+    add-elements
+    mul-elements
+    element-copy-out-elements
+    add-elements-2
+    mul-elements-2
+    element-write-elements
+    add-e
+    loop-less
+    loop-again
+    returns)

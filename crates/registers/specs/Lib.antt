@@ -1,0 +1,4 @@
+pub mod Types
+pub mod Registers
+pub mod Sized
+pub mod Laws

@@ -1,0 +1,46 @@
+-- Types within Sizes, and that every change of types keeps to them.
+use mathlib.Core.Path.{_≡_, refl}
+use mathlib.Core.List.{List, [], _∷_}
+use Prim.Native.Nat.{ℕ, zero, suc, _<_, _≤_}
+use native.Mathlib.Omega.{arith}
+use lib.ListN.{replicate}
+use Rattle.registers.specs.Types.{noType, theType, withType}
+use Rattle.registers.specs.Registers.{emptyRegisters, copied}
+use Rattle.registers.specs.declared.MatrixType.{MatrixType}
+use Rattle.registers.specs.declared.Registers.{Registers}
+
+-- a type of at most 16 by 16 elements of a kind, or none
+pub record SizedType (t : MatrixType) : Type 0 where
+  pub kind : t .kind ≤ 5
+  pub rows : t .rows ≤ 16
+  pub columns : t .columns ≤ 16
+  pub some : 0 < t .rows → 0 < t .columns
+  pub none : t .rows ≡ 0 → t ≡ noType
+
+pub record Sized (ts : List MatrixType) : Type 0 where
+  pub each : (r : ℕ) → SizedType (theType ts r)
+
+pub sized-none : SizedType noType
+sized-none = record { kind = omega arith; rows = omega arith; columns = omega arith; some = λ h. h; none = λ e. refl }
+
+at-set : (P : MatrixType → Type 0) (ts : List MatrixType) (r : ℕ) (t : MatrixType) (k : ℕ) → P (theType ts k) → P t → P (theType (withType ts r t) k)
+at-set P [] r t k p q = p
+at-set P (x ∷ ts) zero t zero p q = q
+at-set P (x ∷ ts) zero t (suc k) p q = p
+at-set P (x ∷ ts) (suc r) t zero p q = p
+at-set P (x ∷ ts) (suc r) t (suc k) p q = at-set P ts r t k p q
+
+pub sized-with : (ts : List MatrixType) (r : ℕ) (t : MatrixType) → Sized ts → SizedType t → Sized (withType ts r t)
+sized-with ts r t s p = record { each = λ k. at-set SizedType ts r t k (s .each k) p }
+
+pub sized-copied : (g : Registers) (r s : ℕ) → Sized (g .types) → Sized (copied g r s .types)
+sized-copied g r s p = sized-with (g .types) r (theType (g .types) s) p (p .each s)
+
+none-at : (n k : ℕ) → SizedType (theType (replicate n noType) k)
+none-at zero k = sized-none
+none-at (suc n) zero = sized-none
+none-at (suc n) (suc k) = none-at n k
+
+pub sized-empty : Sized (emptyRegisters .types)
+unfolding emptyRegisters
+sized-empty = record { each = λ k. none-at 4 k }

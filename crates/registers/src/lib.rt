@@ -1,0 +1,130 @@
+// The four registers: a type each, and their elements in one array.
+ghost use mathlib.Core.Path.{_≡_};
+ghost use Prim.Native.Nat.{_<_, _≤_};
+ghost use lib.ListN.{getD};
+ghost use Rattle.registers.specs.Types.{noType, theType, isEmpty, withType};
+ghost use Rattle.registers.specs.Registers.{room, placeOf, elementOf, withElementOf, withBlock, copiedElements, copied, emptyRegisters};
+
+// Kind and sides of a matrix. Rows 0: the register is empty, and all three are 0.
+pub struct MatrixType {
+    pub kind: u8,
+    pub rows: u8,
+    pub columns: u8,
+}
+
+// Register r's element number e stands at place 256 * r + e. Places past a register's matrix are 0, so equal registers are
+// equal structs.
+pub struct Registers {
+    pub types: [MatrixType; 4],
+    pub elements: [u32; 1024],
+}
+
+// The places of a register.
+pub const ROOM: usize = 256;
+
+pub fn no_type() -> MatrixType
+    ensures { λ r. ⌜ r ≡ noType ⌝ }
+{
+    MatrixType {
+        kind: 0,
+        rows: 0,
+        columns: 0,
+    }
+}
+
+pub fn empty_registers() -> Registers
+    ensures { λ r. ⌜ r ≡ emptyRegisters ⌝ }
+{
+    Registers {
+        types: [no_type(); 4],
+        elements: [0u32; 1024],
+    }
+}
+
+pub fn is_empty(t: MatrixType) -> bool
+    ensures { λ r. ⌜ r ≡ isEmpty t ⌝ }
+{
+    t.rows == 0
+}
+
+pub fn the_type(types: [MatrixType; 4], register: u8) -> MatrixType
+    requires { ⌜ register < 4 ⌝ }
+    ensures { λ r. ⌜ r ≡ theType types register ⌝ }
+{
+    let at = register as usize;
+    types[at]
+}
+
+pub fn with_type(types: [MatrixType; 4], register: u8, t: MatrixType) -> [MatrixType; 4]
+    requires { ⌜ register < 4 ⌝ }
+    ensures { λ r. ⌜ r ≡ withType types register t ⌝ }
+{
+    let at = register as usize;
+    let mut out = types;
+    out[at] = t;
+    out
+}
+
+// Where an element of a register stands.
+pub fn place_of(register: u8, element: usize) -> usize
+    requires { ⌜ (register < 4) × (element < room) ⌝ }
+    ensures { λ r. ⌜ r ≡ placeOf register element ⌝ }
+{
+    ROOM * (register as usize) + element
+}
+
+pub fn element_of(elements: &[u32; 1024], register: u8, element: usize) -> u32
+    requires { ⌜ (register < 4) × (element < room) ⌝ }
+    ensures { λ r. ⌜ r ≡ elementOf (now (elements .entry)) register element ⌝ }
+{
+    elements[place_of(register, element)]
+}
+
+pub fn put_element_of(elements: &mut [u32; 1024], register: u8, element: usize, x: u32)
+    requires { ⌜ (register < 4) × (element < room) ⌝ }
+    ensures { λ _. ⌜ now (elements .exit) ≡ withElementOf (now (elements .entry)) register element x ⌝ }
+{
+    elements[place_of(register, element)] = x;
+}
+
+// A register's places made those of a block.
+pub fn put_block(elements: &mut [u32; 1024], register: u8, block: &[u32; 256])
+    requires { ⌜ register < 4 ⌝ }
+    ensures { λ _. ⌜ now (elements .exit) ≡ withBlock (now (elements .entry)) register (now (block .entry)) ⌝ }
+{
+    let base = place_of(register, 0);
+    let mut e = 0;
+    while e < ROOM {
+        elements[base + e] = block[e];
+        e += 1;
+    }
+}
+
+// A register's places made those of another.
+pub fn copy_elements(elements: &mut [u32; 1024], register: u8, source: u8)
+    requires { ⌜ (register < 4) × (source < 4) ⌝ }
+    ensures { λ _. ⌜ now (elements .exit) ≡ copiedElements (now (elements .entry)) register source ⌝ }
+{
+    let to = place_of(register, 0);
+    let from = place_of(source, 0);
+    let mut e = 0;
+    while e < ROOM {
+        elements[to + e] = elements[from + e];
+        e += 1;
+    }
+}
+
+// A register made equal to another.
+pub fn copied(registers: Registers, register: u8, source: u8) -> Registers
+    requires { ⌜ (register < 4) × (source < 4) ⌝ }
+    ensures { λ r. ⌜ r ≡ copied registers register source ⌝ }
+{
+    let types = registers.types;
+    let t = the_type(types, source);
+    let mut elements = registers.elements;
+    copy_elements(&mut elements, register, source);
+    Registers {
+        types: with_type(types, register, t),
+        elements,
+    }
+}
