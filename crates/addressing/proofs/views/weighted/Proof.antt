@@ -1,0 +1,80 @@
+use borrow.Author.Needs.{needs}
+use native.Mathlib.Omega.{arith}
+use Rattle.addressing.proofs.views.weighted.Statement.{statement}
+use Rattle.addressing.proofs.views.weighted.Tie as tie
+use Rattle.addressing.proofs.views.weighted.Reads as reads
+use Rattle.addressing.proofs.views.weighted.Lts as lts
+use Rattle.addressing.proofs.views.long.Reads as long-reads
+
+abbrev Inv-loop : tie.InvT-loop
+Inv-loop n cs strides sum₀ i₀ sum i = ?
+
+abbrev μ-loop : tie.MeasureT-loop
+μ-loop n cs strides sum₀ i₀ sum i = ?
+
+-- src/views.rt:112:5
+loop-holds : tie.Need-loop-holds Inv-loop μ-loop
+loop-holds c = ?
+
+-- src/views.rt:113:21
+mul-long : tie.Need-mul-long Inv-loop μ-loop
+mul-long c = ?
+
+-- src/views.rt:113:21
+array-read-long : tie.Need-array-read-long Inv-loop μ-loop
+array-read-long c = ?
+
+-- src/views.rt:113:16
+long-requires : tie.Need-long-requires Inv-loop μ-loop
+long-requires c κs = ?
+
+-- src/views.rt:113:30
+mul-sum : tie.Need-mul-sum Inv-loop μ-loop
+mul-sum c = ?
+
+-- src/views.rt:113:30
+array-read-sum : tie.Need-array-read-sum Inv-loop μ-loop
+array-read-sum c = ?
+
+-- src/views.rt:113:16
+mul-sum-2 : tie.Need-mul-sum-2 Inv-loop μ-loop
+mul-sum-2 c = ?
+
+-- src/views.rt:113:9
+add-sum : tie.Need-add-sum Inv-loop μ-loop
+add-sum c = ?
+
+-- src/views.rt:114:9
+add-i : tie.Need-add-i Inv-loop μ-loop
+add-i c = ?
+
+-- src/views.rt:112:5
+loop-less : tie.Need-loop-less Inv-loop μ-loop
+loop-less c = ?
+
+-- src/views.rt:112:5
+loop-again : tie.Need-loop-again Inv-loop μ-loop
+loop-again c = ?
+
+-- src/views.rt:106:1
+returns : tie.Need-returns Inv-loop μ-loop
+returns c = ?
+
+pub weighted-spec : {M : Type 1} → statement M
+weighted-spec =
+    tie.close
+    (tie.spec
+    Inv-loop
+    μ-loop
+    loop-holds
+    mul-long
+    array-read-long
+    long-requires
+    mul-sum
+    array-read-sum
+    mul-sum-2
+    add-sum
+    add-i
+    loop-less
+    loop-again
+    returns)
