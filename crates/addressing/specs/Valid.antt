@@ -7,6 +7,8 @@ use Rattle.sheet.specs.Layouts.{layoutOk}
 use Rattle.sheet.specs.Views.{viewOk}
 use Rattle.addressing.specs.declared.Access.{Access}
 use Rattle.addressing.specs.declared.Plan.{Plan}
+use Rattle.addressing.specs.declared.Clamped.{Clamped}
+use Rattle.addressing.specs.declared.Clamped.the-variants.{Refused, Discarded, Filled, At}
 use Rattle.addressing.specs.Rules.{planned}
 
 -- the layout and the view keep to Sizes, a view without dimensions has the layout's count (refusal 10), an element is 1, 2 or 4 bytes
@@ -24,3 +26,10 @@ pub record Planned (p : Plan) : Type 0 where
   pub valid : ValidAccess (p .access)
   pub same : p ≡ planned (p .access) (p .columns)
   pub strides : (i : ℕ) → getD (p .strides) i 0 ≤ 4096 ^ 4
+
+-- what rule 5 gives is at most n, where it gives an index
+abbrev pub AtMost : ℕ → Clamped → Type 0
+AtMost n Refused = Unit {0}
+AtMost n Discarded = Unit {0}
+AtMost n Filled = Unit {0}
+AtMost n (At x) = x ≤ n

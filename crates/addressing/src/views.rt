@@ -104,7 +104,7 @@ fn long(x: u32) -> u64
 
 // At most five products of at most 4,096 to the fifth, 2 to the 60th, do not wrap.
 fn weighted(cs: [u32; 5], strides: [u64; 5], n: usize) -> u64
-    requires { ⌜ (n ≤ 5) × ((i : ℕ) → getD cs i 0 ≤ 4096) × ((i : ℕ) → getD strides i 0 ≤ 4096 ^ 4) ⌝ }
+    requires { ⌜ (n ≤ 5) × ((i : ℕ) → getD cs i 0 < 4096) × ((i : ℕ) → getD strides i 0 ≤ 4096 ^ 4) ⌝ }
     ensures { λ r. ⌜ r ≡ weighted cs strides n ⌝ }
 {
     let mut sum: u64 = 0;
