@@ -18,9 +18,11 @@ use Rattle.sheet.specs.declared.ClampMode.{ClampMode}
 use Rattle.sheet.specs.declared.ClampMode.the-variants.{Undefined, Constant, ClampToEdge, Repeat, MirrorRepeat}
 use Rattle.sheet.specs.declared.Clip.{Clip}
 use Rattle.sheet.specs.declared.Dimension.{Dimension}
+use Rattle.sheet.specs.declared.Layout.{Layout}
+use Rattle.sheet.specs.Layouts.{theDimension}
 use Rattle.addressing.specs.declared.Clamped.{Clamped}
 use Rattle.addressing.specs.declared.Clamped.the-variants.{Refused, Discarded, Filled, At}
-use Rattle.addressing.specs.Rules.{outsideClip, rowMajor, coordinates, weighted, twos, remainder, folded, mirrored, onLoad, onStore, outside, clamped, scaled, part}
+use Rattle.addressing.specs.Rules.{outsideClip, rowMajor, coordinates, weighted, twos, remainder, folded, mirrored, onLoad, onStore, outside, clamped, scaled, part, plus, tensorIndex}
 
 -- Rule 1: inside the clip the offset can be subtracted
 pub clip-low : (c : Clip) (x : ℕ) → outsideClip c x ≡ false → c .offset ≤ x
@@ -176,3 +178,24 @@ part-is load mode d s e = rw e
 
 pub scaled-le : {x n stride : ℕ} (block : ℕ) → x < n → n ≤ 4096 → stride < 65536 → x / block * stride ≤ 268435456
 scaled-le {x} block h m t = mul-le-mul {n₂ = 4096} {m₂ = 65536} (omega (arith, div-le-self x block)) (omega arith)
+
+-- Rules 4 and 5: the dimensions before n, one after the other
+module _ (load : Bool) (l : Layout) (cs : List ℕ) where
+  pub tensor-none : At 0 ≡ tensorIndex load l cs 0
+  unfolding tensorIndex
+  tensor-none = refl
+
+  pub tensor-more : (d sum x : ℕ) → At sum ≡ tensorIndex load l cs d → At x ≡ part load (l .mode) (theDimension (l .dimensions) d) (getD cs d 0)
+      → At (sum + x) ≡ tensorIndex load l cs (d + 1)
+  unfolding tensorIndex
+  tensor-more d sum x e f = rw (add-one, ← e, ← f)
+
+  -- the first dimension with no coordinate decides
+  pub tensor-stop : (x : Clamped) → ((y : Clamped) → plus x y ≡ x) → ((a : ℕ) → plus (At a) x ≡ x) → (d n sum : ℕ) → d < n
+      → At sum ≡ tensorIndex load l cs d → part load (l .mode) (theDimension (l .dimensions) d) (getD cs d 0) ≡ x → x ≡ tensorIndex load l cs n
+  unfolding tensorIndex
+  tensor-stop x before after d zero sum h e f = absurd (not-suc-le-zero h)
+  tensor-stop x before after d (suc n) sum h e f =
+      by-test (eqb d n) (λ t. let q : d ≡ n = eqb-true d n t in rw (← q, ← e, f) (sym (after sum)))
+      (λ t. let q : d ≡ n → ⊥ = eqb-false d n t in
+      rw (← tensor-stop x before after d n sum (omega arith) e f) (sym (before _)))

@@ -52,11 +52,10 @@ pub fn tensor_index(load: bool, l: Layout, cs: [u32; 5]) -> Clamped
     ensures { λ r. ⌜ (r ≡ tensorIndex load l cs (l .rank)) × AtMost (5 * 2 ^ 28) r ⌝ }
 {
     let rank = l.rank as usize;
-    let mode = l.mode;
     let mut sum: u32 = 0;
     let mut d = 0;
     while d < rank {
-        match part(load, mode, l.dimensions[d], cs[d]) {
+        match part(load, l.mode, l.dimensions[d], cs[d]) {
             Clamped::Refused => return Clamped::Refused,
             Clamped::Discarded => return Clamped::Discarded,
             Clamped::Filled => return Clamped::Filled,
