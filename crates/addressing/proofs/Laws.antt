@@ -11,18 +11,19 @@ use lib.IntN.{ℤ, pos, negsuc, _+ℤ_}
 use lib.ListN.{length, getD, set, replicate}
 use lib.Seq.{getD-set-same, getD-set-other, set-out}
 use mathlib.Core.List.{List, [], _∷_}
-use borrow.Author.Tests.{lt-ltb, le-ltb, ltb-true, ltb-false, leb-true, leb-false, eqb-true, eqb-false}
+use borrow.Author.Tests.{lt-ltb, le-ltb, le-leb, lt-leb, ltb-true, ltb-false, leb-true, leb-false, eqb-true, eqb-false}
 use Rattle.numbers.specs.Choice.{pick, pick-case}
-use Rattle.sheet.specs.Facts.{InSize}
+use Rattle.sheet.specs.Facts.{InSize, layout-span}
 use Rattle.sheet.specs.declared.ClampMode.{ClampMode}
 use Rattle.sheet.specs.declared.ClampMode.the-variants.{Undefined, Constant, ClampToEdge, Repeat, MirrorRepeat}
 use Rattle.sheet.specs.declared.Clip.{Clip}
 use Rattle.sheet.specs.declared.Dimension.{Dimension}
 use Rattle.sheet.specs.declared.Layout.{Layout}
-use Rattle.sheet.specs.Layouts.{theDimension}
+use Rattle.sheet.specs.Layouts.{theDimension, layoutOk}
+use Rattle.addressing.specs.declared.Access.{Access}
 use Rattle.addressing.specs.declared.Clamped.{Clamped}
 use Rattle.addressing.specs.declared.Clamped.the-variants.{Refused, Discarded, Filled, At}
-use Rattle.addressing.specs.Rules.{outsideClip, rowMajor, coordinates, weighted, twos, remainder, folded, mirrored, onLoad, onStore, outside, clamped, scaled, part, plus, tensorIndex}
+use Rattle.addressing.specs.Rules.{outsideClip, rowMajor, coordinates, weighted, twos, remainder, folded, mirrored, onLoad, onStore, outside, clamped, scaled, part, plus, tensorIndex, spanOf, spanCoordinates, refused, settled, reached}
 
 -- Rule 1: inside the clip the offset can be subtracted
 pub clip-low : (c : Clip) (x : ℕ) → outsideClip c x ≡ false → c .offset ≤ x
@@ -199,3 +200,17 @@ module _ (load : Bool) (l : Layout) (cs : List ℕ) where
       by-test (eqb d n) (λ t. let q : d ≡ n = eqb-true d n t in rw (← q, ← e, f) (sym (after sum)))
       (λ t. let q : d ≡ n → ⊥ = eqb-false d n t in
       rw (← tensor-stop x before after d n sum (omega arith) e f) (sym (before _)))
+
+pub span-coordinates-lt : (l : Layout) → layoutOk l ≡ true → (index i : ℕ) → getD (spanCoordinates l index) i 0 < 4096
+unfolding spanCoordinates
+span-coordinates-lt l ok index i = coordinates-lt (λ (d : ℕ). d) (spanOf l) (l .rank) index (replicate 5 0) (layout-span l ok) zeros-lt i
+
+module _ (a : Access) where
+  pub reached-far : (index : ℕ) → 2 ^ 32 ≤ index → refused 12 ≡ reached a index
+  unfolding reached pick
+  reached-far index h = rw (le-leb _ _ h)
+
+  pub reached-is : (index : ℕ) (x : Clamped) → index < 2 ^ 32
+      → tensorIndex (a .load) (a .layout) (spanCoordinates (a .layout) index) (a .layout .rank) ≡ x → settled a x ≡ reached a index
+  unfolding reached pick
+  reached-is index x h e = rw (lt-leb _ _ h, e)
