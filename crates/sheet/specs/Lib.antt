@@ -4,3 +4,4 @@ pub mod Layouts
 pub mod Views
 pub mod Steps
 pub mod Sheets
+pub mod Facts

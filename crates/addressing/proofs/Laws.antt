@@ -1,0 +1,216 @@
+-- Laws of the rules' definitions.
+use Prim.Native.Nat.{ℕ, zero, suc, _+_, _-_, _*_, _/_, _%_, _^_, _<_, _≤_, zero-le}
+use mathlib.Core.Path.{_≡_, refl, sym, _∙_}
+use mathlib.Core.Bool.{Bool, true, false, true≢false}
+use mathlib.Core.Logic.{_⊎_, ⊎-elim}
+use native.Mathlib.Nat.{mod-lt, mul-le-mul, pow-suc, pow-le-pow-right, le-trans, not-suc-le-zero, div-le-self}
+use native.Mathlib.Numerals.{add-one}
+use native.Mathlib.Omega.{arith}
+use lib.Dec.{ltb, leb, eqb, lit<, lit≤}
+use lib.IntN.{ℤ, pos, negsuc, _+ℤ_}
+use lib.ListN.{length, getD, set, replicate}
+use lib.Seq.{getD-set-same, getD-set-other, set-out}
+use mathlib.Core.List.{List, [], _∷_}
+use borrow.Author.Tests.{lt-ltb, le-ltb, le-leb, lt-leb, ltb-true, ltb-false, leb-true, leb-false, eqb-true, eqb-false}
+use Rattle.numbers.specs.Choice.{pick, pick-case}
+use Rattle.sheet.specs.Facts.{InSize, layout-span}
+use Rattle.sheet.specs.declared.ClampMode.{ClampMode}
+use Rattle.sheet.specs.declared.ClampMode.the-variants.{Undefined, Constant, ClampToEdge, Repeat, MirrorRepeat}
+use Rattle.sheet.specs.declared.Clip.{Clip}
+use Rattle.sheet.specs.declared.Dimension.{Dimension}
+use Rattle.sheet.specs.declared.Layout.{Layout}
+use Rattle.sheet.specs.Layouts.{theDimension, layoutOk}
+use Rattle.addressing.specs.declared.Access.{Access}
+use Rattle.addressing.specs.declared.Clamped.{Clamped}
+use Rattle.addressing.specs.declared.Clamped.the-variants.{Refused, Discarded, Filled, At}
+use Rattle.addressing.specs.Rules.{outsideClip, rowMajor, coordinates, weighted, twos, remainder, folded, mirrored, onLoad, onStore, outside, clamped, scaled, part, plus, tensorIndex, spanOf, spanCoordinates, refused, settled, reached}
+
+-- Rule 1: inside the clip the offset can be subtracted
+pub clip-low : (c : Clip) (x : ℕ) → outsideClip c x ≡ false → c .offset ≤ x
+unfolding outsideClip
+clip-low c x e =
+    pick-case (λ (b : Bool). b ≡ false → c .offset ≤ x) (ltb x (c .offset)) true (leb (c .offset + c .span) x)
+    (λ t q. absurd (true≢false q)) (λ t q. ltb-false _ _ t) e
+
+-- the product of two sides
+pub sides : (a b : ℕ) → a < 256 → b < 256 → a * b ≤ 65025
+sides a b g h = mul-le-mul {n₁ = a} {m₁ = b} {n₂ = 255} {m₂ = 255} (omega arith) (omega arith)
+
+by-test : {P : Type 0} (b : Bool) → (b ≡ true → P) → (b ≡ false → P) → P
+by-test true f g = f refl
+by-test false f g = g refl
+
+-- a list of numbers below m stays so
+pub set-below : (m : ℕ) (l : List ℕ) (j x : ℕ) → x < m → ((i : ℕ) → getD l i 0 < m) → (i : ℕ) → getD (set l j x) i 0 < m
+set-below m l j x h below i =
+    by-test (eqb i j)
+    (λ t. let q : i ≡ j = eqb-true i j t in
+    by-test (ltb j (length l)) (λ s. rw (q, getD-set-same l j x 0 (ltb-true _ _ s)) h) (λ s. rw (set-out l j x (ltb-false _ _ s)) (below i)))
+    (λ t. rw (getD-set-other l j i x 0 (eqb-false i j t)) (below i))
+
+pub remainder-lt : (c : ℤ) {n : ℕ} → 0 < n → remainder c n < n
+remainder-lt (pos a) {n} h = mod-lt a h
+remainder-lt (negsuc a) {n} h = omega arith
+
+-- Rule 2: the row-major stride of dimension i of n
+module _ (span : ℕ → ℕ) (i : ℕ) where
+  pub row-major-past : (n : ℕ) → n ≤ i + 1 → rowMajor span n i ≡ 1
+  unfolding rowMajor pick
+  row-major-past zero h = refl
+  row-major-past (suc n) h = let l : n ≤ i = omega arith in rw (le-ltb i n l)
+
+  pub row-major-more : (n : ℕ) → i < n → rowMajor span (n + 1) i ≡ rowMajor span n i * span n
+  unfolding rowMajor pick
+  row-major-more n h = rw (add-one, lt-ltb i n h)
+
+  -- a loop that went over the dimensions after i, up to j
+  pub row-major-end : (n j : ℕ) → n ≤ j → ((j ≤ n) ⊎ (j ≡ i + 1)) → rowMajor span j i ≡ rowMajor span n i
+  row-major-end n j h w =
+      ⊎-elim (λ l. let e : j ≡ n = omega arith in rw e)
+      (λ e. row-major-past j (omega arith) ∙ sym (row-major-past n (omega arith))) w
+
+  row-major-le : (n : ℕ) → ((k : ℕ) → k < suc n → span k ≤ 4096) → rowMajor span (suc n) i ≤ 4096 ^ n
+  unfolding rowMajor
+  row-major-le zero h = pick-case (λ (x : ℕ). x ≤ 1) (ltb i 0) _ _ (λ t. absurd (true≢false (sym t ∙ le-ltb i 0 zero-le))) (λ t. lit≤ tt)
+  row-major-le (suc n) h =
+      pick-case (λ (x : ℕ). x ≤ 4096 ^ suc n) (ltb i (suc n)) _ _
+      (λ t. rw pow-suc (mul-le-mul (row-major-le n (λ k l. h k (omega arith))) (h (suc n) (omega arith))))
+      (λ t. pow-le-pow-right {n = 4096} (lit< tt) {i = 0} {j = suc n} zero-le)
+
+  -- of at most five dimensions
+  pub row-major-most : (n : ℕ) → 0 < n → n ≤ 5 → ((k : ℕ) → k < n → span k ≤ 4096) → rowMajor span n i ≤ 4096 ^ 4
+  row-major-most zero p m h = absurd (not-suc-le-zero p)
+  row-major-most (suc n) p m h = le-trans (row-major-le n h) (pow-le-pow-right {n = 4096} (lit< tt) {i = n} {j = 4} (omega arith))
+
+-- each of five numbers is at most m
+pub five-most : (m : ℕ) {a b c d e : ℕ} → a ≤ m → b ≤ m → c ≤ m → d ≤ m → e ≤ m → (i : ℕ) → getD (a ∷ b ∷ c ∷ d ∷ e ∷ []) i 0 ≤ m
+five-most m p q r s t zero = p
+five-most m p q r s t (suc zero) = q
+five-most m p q r s t (suc (suc zero)) = r
+five-most m p q r s t (suc (suc (suc zero))) = s
+five-most m p q r s t (suc (suc (suc (suc zero)))) = t
+five-most m p q r s t (suc (suc (suc (suc (suc i))))) = zero-le
+
+-- Rules 2 and 3: a loop from dimension k - 1 on, and its end
+module _ (place size : ℕ → ℕ) where
+  pub coordinates-more : (k index : ℕ) (cs : List ℕ) → 0 < k
+      → coordinates place size (k - 1) (index / size (place (k - 1))) (set cs (place (k - 1)) (index % size (place (k - 1))))
+      ≡ coordinates place size k index cs
+  unfolding coordinates
+  coordinates-more zero index cs h = absurd (not-suc-le-zero h)
+  coordinates-more (suc k) index cs h = let e : suc k - 1 ≡ k = omega arith in rw e refl
+
+  pub coordinates-end : (k index : ℕ) (cs : List ℕ) → k ≤ 0 → cs ≡ coordinates place size k index cs
+  unfolding coordinates
+  coordinates-end zero index cs h = refl
+  coordinates-end (suc k) index cs h = absurd (not-suc-le-zero h)
+
+  -- a coordinate is below 4,096 where each size is 1 to 4,096
+  pub coordinates-lt : (n index : ℕ) (cs : List ℕ) → ((k : ℕ) → k < n → InSize (size (place k))) → ((i : ℕ) → getD cs i 0 < 4096)
+      → (i : ℕ) → getD (coordinates place size n index cs) i 0 < 4096
+  unfolding coordinates
+  coordinates-lt zero index cs sized below i = below i
+  coordinates-lt (suc n) index cs sized below i =
+      let s : InSize (size (place n)) = sized n (omega arith) in
+      coordinates-lt n (index / size (place n)) (set cs (place n) (index % size (place n))) (λ k h. sized k (omega arith))
+      (set-below 4096 cs (place n) (index % size (place n)) (omega (arith, mod-lt index (s .some))) below) i
+
+pub zeros-lt : (i : ℕ) → getD (replicate 5 0) i 0 < 4096
+zeros-lt i = omega (arith, five-most 0 {a = 0} {b = 0} {c = 0} {d = 0} {e = 0} zero-le zero-le zero-le zero-le zero-le i)
+
+-- Rule 2: one product more
+pub weighted-none : (cs strides : List ℕ) → 0 ≡ weighted cs strides 0
+unfolding weighted
+weighted-none cs strides = refl
+
+pub weighted-more : (cs strides : List ℕ) (n : ℕ) → weighted cs strides n + getD cs n 0 * getD strides n 0 ≡ weighted cs strides (n + 1)
+unfolding weighted
+weighted-more cs strides n = rw add-one
+
+-- Rule 4: a coordinate that is there is below n
+abbrev Under : ℕ → Clamped → Type 0
+Under n Refused = Unit {0}
+Under n Discarded = Unit {0}
+Under n Filled = Unit {0}
+Under n (At x) = x < n
+
+mirrored-lt : (c : ℤ) {n : ℕ} → 0 < n → mirrored c n < n
+unfolding mirrored folded
+mirrored-lt c {n} h =
+    let m = 2 * n - 2 in
+    pick-case (λ (x : ℕ). x < n) (eqb n 1) _ _ (λ e. h)
+    (λ e. let g : n ≡ 1 → ⊥ = eqb-false n 1 e in
+    let r : remainder c (2 * n - 2) < 2 * n - 2 = remainder-lt c (omega arith) in
+    pick-case (λ (x : ℕ). x < n) (leb n (remainder c m)) _ _ (λ t. let u : n ≤ remainder c m = leb-true _ _ t in omega arith) (λ t. leb-false _ _ t))
+
+onLoad-under : (mode : ClampMode) (c : ℤ) {n : ℕ} → 0 < n → Under n (onLoad mode c n)
+onLoad-under Undefined c h = tt
+onLoad-under Constant c h = tt
+onLoad-under ClampToEdge (pos a) h = omega arith
+onLoad-under ClampToEdge (negsuc a) h = h
+onLoad-under Repeat c h = remainder-lt c h
+onLoad-under MirrorRepeat c h = mirrored-lt c h
+
+onStore-under : (mode : ClampMode) (n : ℕ) → Under n (onStore mode)
+onStore-under Undefined n = tt
+onStore-under Constant n = tt
+onStore-under ClampToEdge n = tt
+onStore-under Repeat n = tt
+onStore-under MirrorRepeat n = tt
+
+outside-under : (load : Bool) (mode : ClampMode) (c : ℤ) {n : ℕ} → 0 < n → Under n (outside load mode c n)
+unfolding outside
+outside-under load mode c {n} h = pick-case (Under n) load _ _ (λ t. onLoad-under mode c h) (λ t. onStore-under mode n)
+
+clamped-under : (load : Bool) (mode : ClampMode) (c : ℤ) {n : ℕ} → 0 < n → Under n (clamped load mode c n)
+unfolding clamped
+clamped-under load mode (negsuc a) h = outside-under load mode (negsuc a) h
+clamped-under load mode (pos a) {n} h =
+    pick-case (Under n) (leb n a) _ _ (λ t. outside-under load mode (pos a) h) (λ t. leb-false _ _ t)
+
+pub clamped-lt : (load : Bool) (mode : ClampMode) (c : ℤ) (n : ℕ) {x : ℕ} → 0 < n → clamped load mode c n ≡ At x → x < n
+clamped-lt load mode c n h e = rw e at (clamped-under load mode c h)
+
+-- Rules 4 and 5 for one dimension
+pub part-is : (load : Bool) (mode : ClampMode) (d : Dimension) (s : ℕ) {x : Clamped}
+    → clamped load mode (pos s +ℤ twos (d .offset)) (d .size) ≡ x → scaled d x ≡ part load mode d s
+unfolding part
+part-is load mode d s e = rw e
+
+pub scaled-le : {x n stride : ℕ} (block : ℕ) → x < n → n ≤ 4096 → stride < 65536 → x / block * stride ≤ 268435456
+scaled-le {x} block h m t = mul-le-mul {n₂ = 4096} {m₂ = 65536} (omega (arith, div-le-self x block)) (omega arith)
+
+-- Rules 4 and 5: the dimensions before n, one after the other
+module _ (load : Bool) (l : Layout) (cs : List ℕ) where
+  pub tensor-none : At 0 ≡ tensorIndex load l cs 0
+  unfolding tensorIndex
+  tensor-none = refl
+
+  pub tensor-more : (d sum x : ℕ) → At sum ≡ tensorIndex load l cs d → At x ≡ part load (l .mode) (theDimension (l .dimensions) d) (getD cs d 0)
+      → At (sum + x) ≡ tensorIndex load l cs (d + 1)
+  unfolding tensorIndex
+  tensor-more d sum x e f = rw (add-one, ← e, ← f)
+
+  -- the first dimension with no coordinate decides
+  pub tensor-stop : (x : Clamped) → ((y : Clamped) → plus x y ≡ x) → ((a : ℕ) → plus (At a) x ≡ x) → (d n sum : ℕ) → d < n
+      → At sum ≡ tensorIndex load l cs d → part load (l .mode) (theDimension (l .dimensions) d) (getD cs d 0) ≡ x → x ≡ tensorIndex load l cs n
+  unfolding tensorIndex
+  tensor-stop x before after d zero sum h e f = absurd (not-suc-le-zero h)
+  tensor-stop x before after d (suc n) sum h e f =
+      by-test (eqb d n) (λ t. let q : d ≡ n = eqb-true d n t in rw (← q, ← e, f) (sym (after sum)))
+      (λ t. let q : d ≡ n → ⊥ = eqb-false d n t in
+      rw (← tensor-stop x before after d n sum (omega arith) e f) (sym (before _)))
+
+pub span-coordinates-lt : (l : Layout) → layoutOk l ≡ true → (index i : ℕ) → getD (spanCoordinates l index) i 0 < 4096
+unfolding spanCoordinates
+span-coordinates-lt l ok index i = coordinates-lt (λ (d : ℕ). d) (spanOf l) (l .rank) index (replicate 5 0) (layout-span l ok) zeros-lt i
+
+module _ (a : Access) where
+  pub reached-far : (index : ℕ) → 2 ^ 32 ≤ index → refused 12 ≡ reached a index
+  unfolding reached pick
+  reached-far index h = rw (le-leb _ _ h)
+
+  pub reached-is : (index : ℕ) (x : Clamped) → index < 2 ^ 32
+      → tensorIndex (a .load) (a .layout) (spanCoordinates (a .layout) index) (a .layout .rank) ≡ x → settled a x ≡ reached a index
+  unfolding reached pick
+  reached-is index x h e = rw (lt-leb _ _ h, e)

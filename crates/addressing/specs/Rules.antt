@@ -1,0 +1,216 @@
+-- "Where an element goes": rules 1 to 5 for one element, with refusals 12, 13 and 14.
+use Prim.Native.Nat.{ℕ, zero, suc, _+_, _-_, _*_, _/_, _%_, _^_, min}
+use mathlib.Core.Bool.{Bool, true, false}
+use mathlib.Core.List.{List, [], _∷_}
+use lib.Dec.{ltb, leb, eqb}
+use lib.ListN.{getD, set, replicate}
+use lib.IntN.{ℤ, pos, negsuc, _+ℤ_}
+use Rattle.numbers.specs.Choice.{pick}
+use Rattle.sheet.specs.Layouts.{theDimension}
+use Rattle.sheet.specs.Views.{theViewDimension}
+use Rattle.sheet.specs.declared.ClampMode.{ClampMode}
+use Rattle.sheet.specs.declared.ClampMode.the-variants.{Undefined, Constant, ClampToEdge, Repeat, MirrorRepeat}
+use Rattle.sheet.specs.declared.Clip.{Clip}
+use Rattle.sheet.specs.declared.Dimension.{Dimension}
+use Rattle.sheet.specs.declared.Layout.{Layout}
+use Rattle.sheet.specs.declared.View.{View}
+use Rattle.outcomes.specs.declared.Outcome.{Outcome}
+use Rattle.outcomes.specs.declared.Outcome.the-variants as outcome
+use Rattle.addressing.specs.declared.Access.{Access}
+use Rattle.addressing.specs.declared.Plan.{Plan}
+use Rattle.addressing.specs.declared.Clipped.{Clipped}
+use Rattle.addressing.specs.declared.Clipped.the-variants as clip
+use Rattle.addressing.specs.declared.Coordinate.{Coordinate}
+use Rattle.addressing.specs.declared.Coordinate.the-variants as coordinate
+use Rattle.addressing.specs.declared.Clamped.{Clamped}
+use Rattle.addressing.specs.declared.Clamped.the-variants.{Refused, Discarded, Filled, At}
+use Rattle.addressing.specs.declared.Located.{Located}
+
+-- Rule 1: outside the clip: below its offset, or at or past offset plus span
+unfoldable pub outsideClip : Clip → ℕ → Bool
+outsideClip c x = pick (ltb x (c .offset)) true (leb (c .offset + c .span) x)
+
+-- Rule 1: the width is the smaller of N and the clip column span
+abbrev pub clipWidth : View → ℕ → ℕ
+clipWidth v n = min n (v .columns .span)
+
+-- Rule 1 with a view: a position outside the clip is skipped; otherwise both offsets are subtracted and index = row*width+col
+unfoldable pub clipped : View → ℕ → ℕ → ℕ → Clipped
+clipped v width row col =
+    pick (outsideClip (v .rows) row) clip.Skipped
+    (pick (outsideClip (v .columns) col) clip.Skipped
+    (clip.Index ((row - v .rows .offset) * width + (col - v .columns .offset))))
+
+-- the list g 0 .. g 4
+abbrev pub five : (ℕ → ℕ) → List ℕ
+five g = g 0 ∷ g 1 ∷ g 2 ∷ g 3 ∷ g 4 ∷ []
+
+abbrev pub spanOf : Layout → ℕ → ℕ
+spanOf l i = theDimension (l .dimensions) i .span
+
+-- Rule 2, row-major over the spans: the stride of dimension i of n is the product of the later spans
+unfoldable pub rowMajor : (ℕ → ℕ) → ℕ → ℕ → ℕ
+rowMajor span zero i = 1
+rowMajor span (suc n) i = pick (ltb i n) (rowMajor span n i * span n) 1
+
+-- Rule 2: sizes are the view dimensions, or the layout's spans if it has none
+unfoldable pub viewSizes : Layout → View → List ℕ
+viewSizes l v = pick (v .sized) (five (λ (i : ℕ). theViewDimension (v .dimensions) i .size)) (five (spanOf l))
+
+-- Rule 2: the stride is the view's, or row-major over the spans
+unfoldable pub viewStrides : Layout → View → List ℕ
+viewStrides l v =
+    pick (v .sized) (five (λ (i : ℕ). theViewDimension (v .dimensions) i .stride)) (five (rowMajor (spanOf l) (l .rank)))
+
+-- Rules 2 and 3: from the last of k dimensions to the first, with i the dimension's place:
+-- coordinate i = index mod size i, then index is divided by size i; what is left of the index after the last is dropped
+unfoldable pub coordinates : (ℕ → ℕ) → (ℕ → ℕ) → ℕ → ℕ → List ℕ → List ℕ
+coordinates place size zero index cs = cs
+coordinates place size (suc k) index cs =
+    coordinates place size k (index / size (place k)) (set cs (place k) (index % size (place k)))
+
+-- Rule 2: the place of a view dimension is its permutation entry
+unfoldable pub viewCoordinates : View → List ℕ → ℕ → List ℕ
+viewCoordinates v sizes index =
+    coordinates (λ (k : ℕ). getD (v .permutation) k 0) (λ (i : ℕ). getD sizes i 0) (v .rank) index (replicate 5 0)
+
+-- Rule 2: the sum of coordinate i times stride i, for i from 0 up to n - 1
+unfoldable pub weighted : List ℕ → List ℕ → ℕ → ℕ
+weighted cs strides zero = 0
+weighted cs strides (suc n) = weighted cs strides n + getD cs n 0 * getD strides n 0
+
+-- Rule 2: the new index
+unfoldable pub viewIndex : View → List ℕ → List ℕ → ℕ → ℕ
+viewIndex v sizes strides index = weighted (viewCoordinates v sizes index) strides (v .rank)
+
+-- Rule 3: span coordinates, from the last dimension to the first, remainder and quotient by the span
+unfoldable pub spanCoordinates : Layout → ℕ → List ℕ
+spanCoordinates l index = coordinates (λ (d : ℕ). d) (spanOf l) (l .rank) index (replicate 5 0)
+
+-- sixteen bits read as a signed number, two's complement
+unfoldable pub twos : ℕ → ℤ
+twos x = pick (ltb x 32768) (pos x) (negsuc (65535 - x))
+
+-- the integer that a coordinate of the code stands for
+abbrev pub integer : Coordinate → ℤ
+integer (coordinate.Below a) = negsuc a
+integer (coordinate.At a) = pos a
+
+-- Rule 4: a remainder takes the divisor's sign: -1 leaves n - 1
+abbrev pub remainder : ℤ → ℕ → ℕ
+remainder (pos a) n = a % n
+remainder (negsuc a) n = n - 1 - a % n
+
+-- Rule 4, ClampToEdge of a coordinate outside: 0 or n-1
+abbrev pub edge : ℤ → ℕ → ℕ
+edge (pos a) n = n - 1
+edge (negsuc a) n = 0
+
+-- Rule 4: c, and m-c if that is at or above n
+unfoldable pub folded : ℕ → ℕ → ℕ → ℕ
+folded n m c = pick (leb n c) (m - c) c
+
+-- Rule 4, MirrorRepeat: m = 2n-2, c mod m, and m-c if that is at or above n; for n = 1 it gives 0
+unfoldable pub mirrored : ℤ → ℕ → ℕ
+mirrored c n = pick (eqb n 1) 0 (folded n (2 * n - 2) (remainder c (2 * n - 2)))
+
+-- Rule 4 outside on a load
+abbrev pub onLoad : ClampMode → ℤ → ℕ → Clamped
+onLoad Undefined c n = Refused
+onLoad Constant c n = Filled
+onLoad ClampToEdge c n = At (edge c n)
+onLoad Repeat c n = At (remainder c n)
+onLoad MirrorRepeat c n = At (mirrored c n)
+
+-- Rule 4 outside on a store: every other mode discards
+abbrev pub onStore : ClampMode → Clamped
+onStore Undefined = Refused
+onStore Constant = Discarded
+onStore ClampToEdge = Discarded
+onStore Repeat = Discarded
+onStore MirrorRepeat = Discarded
+
+unfoldable pub outside : Bool → ClampMode → ℤ → ℕ → Clamped
+outside load mode c n = pick load (onLoad mode c n) (onStore mode)
+
+-- Rule 4: a coordinate below 0 or at or above n is outside, any other stays
+unfoldable pub clamped : Bool → ClampMode → ℤ → ℕ → Clamped
+clamped load mode (negsuc a) n = outside load mode (negsuc a) n
+clamped load mode (pos a) n = pick (leb n a) (outside load mode (pos a) n) (At a)
+
+-- Rule 5: c divided by block size, floor, times stride
+abbrev pub scaled : Dimension → Clamped → Clamped
+scaled d Refused = Refused
+scaled d Discarded = Discarded
+scaled d Filled = Filled
+scaled d (At c) = At (c / d .block * d .stride)
+
+-- Rules 4 and 5 for a dimension at its span coordinate: c = span coordinate + offset
+unfoldable pub part : Bool → ClampMode → Dimension → ℕ → Clamped
+part load mode d s = scaled d (clamped load mode (pos s +ℤ twos (d .offset)) (d .size))
+
+-- Rule 5: a sum, where the first dimension with no coordinate decides
+abbrev pub plus : Clamped → Clamped → Clamped
+plus Refused y = Refused
+plus Discarded y = Discarded
+plus Filled y = Filled
+plus (At a) Refused = Refused
+plus (At a) Discarded = Discarded
+plus (At a) Filled = Filled
+plus (At a) (At b) = At (a + b)
+
+-- Rules 4 and 5, for dimensions 0 up to n - 1: the tensor index
+unfoldable pub tensorIndex : Bool → Layout → List ℕ → ℕ → Clamped
+tensorIndex load l cs zero = At 0
+tensorIndex load l cs (suc n) =
+    plus (tensorIndex load l cs n) (part load (l .mode) (theDimension (l .dimensions) n) (getD cs n 0))
+
+abbrev pub refused : ℕ → Located
+refused number = record { refusal = number; outcome = outcome.Skipped }
+
+abbrev pub answered : Outcome → Located
+answered o = record { refusal = 0; outcome = o }
+
+-- Rule 5: the byte is base + tensor index * element size; refusal 14: the element's bytes don't all lie in memory
+unfoldable pub addressed : Access → ℕ → Located
+addressed a t =
+    pick (leb (a .base + t * a .size + a .size) (a .memory)) (answered (outcome.Placed (a .base + t * a .size))) (refused 14)
+
+-- Rule 4: Constant yields the low bits of the clamp value
+abbrev pub lowBits : Access → ℕ
+lowBits a = a .layout .clamp % 2 ^ (8 * a .size)
+
+-- each element is skipped, filled, discarded, or has a byte; refusal 13: Undefined and outside in some dimension
+abbrev pub settled : Access → Clamped → Located
+settled a Refused = refused 13
+settled a Discarded = answered outcome.Discarded
+settled a Filled = answered (outcome.Filled (lowBits a))
+settled a (At t) = addressed a t
+
+-- Refusal 12: the index after rule 2 is 2^32 or more; then rules 3 to 5
+unfoldable pub reached : Access → ℕ → Located
+reached a index =
+    pick (leb (2 ^ 32) index) (refused 12)
+    (settled a (tensorIndex (a .load) (a .layout) (spanCoordinates (a .layout) index) (a .layout .rank)))
+
+-- Rule 2, for what rule 1 leaves
+abbrev pub throughView : Access → Clipped → Located
+throughView a clip.Skipped = answered outcome.Skipped
+throughView a (clip.Index i) = reached a (viewIndex (a .view) (viewSizes (a .layout) (a .view)) (viewStrides (a .layout) (a .view)) i)
+
+-- Rules 1 to 5: element (row, col) of a matrix of n columns; without a view the index is row*N+col
+unfoldable pub located : Access → ℕ → ℕ → ℕ → Located
+located a n row col =
+    pick (a .viewed) (throughView a (clipped (a .view) (clipWidth (a .view) n) row col)) (reached a (row * n + col))
+
+-- what the elements of an access to a matrix of n columns share
+unfoldable pub planned : Access → ℕ → Plan
+planned a n =
+    record {
+      access = a;
+      columns = n;
+      width = clipWidth (a .view) n;
+      sizes = viewSizes (a .layout) (a .view);
+      strides = viewStrides (a .layout) (a .view);
+      fill = lowBits a;
+    }

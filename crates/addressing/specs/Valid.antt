@@ -1,0 +1,35 @@
+-- What an access must keep to for its elements to be looked at.
+use Prim.Native.Nat.{ℕ, _^_, _<_, _≤_}
+use mathlib.Core.Path.{_≡_}
+use mathlib.Core.Bool.{true, false}
+use lib.ListN.{getD}
+use Rattle.sheet.specs.Layouts.{layoutOk}
+use Rattle.sheet.specs.Views.{viewOk}
+use Rattle.addressing.specs.declared.Access.{Access}
+use Rattle.addressing.specs.declared.Plan.{Plan}
+use Rattle.addressing.specs.declared.Clamped.{Clamped}
+use Rattle.addressing.specs.declared.Clamped.the-variants.{Refused, Discarded, Filled, At}
+use Rattle.addressing.specs.Rules.{planned}
+
+-- the layout and the view keep to Sizes, a view without dimensions has the layout's count (refusal 10), an element is 1, 2 or 4 bytes
+pub record ValidAccess (a : Access) : Type 0 where
+  pub layout : layoutOk (a .layout) ≡ true
+  pub view : a .viewed ≡ true → viewOk (a .view) ≡ true
+  pub ranks : a .viewed ≡ true → a .view .sized ≡ false → a .view .rank ≡ a .layout .rank
+  pub some : 0 < a .size
+  pub most : a .size ≤ 4
+  pub odd : a .size ≡ 3 → ⊥
+  pub memory : a .memory ≤ 65536
+
+-- a plan is what its access and its columns make; a stride is a 16-bit number, or a product of at most four spans
+pub record Planned (p : Plan) : Type 0 where
+  pub valid : ValidAccess (p .access)
+  pub same : p ≡ planned (p .access) (p .columns)
+  pub strides : (i : ℕ) → getD (p .strides) i 0 ≤ 4096 ^ 4
+
+-- what rule 5 gives is at most n, where it gives an index
+abbrev pub AtMost : ℕ → Clamped → Type 0
+AtMost n Refused = Unit {0}
+AtMost n Discarded = Unit {0}
+AtMost n Filled = Unit {0}
+AtMost n (At x) = x ≤ n

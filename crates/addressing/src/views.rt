@@ -1,0 +1,126 @@
+// Rule 2.
+ghost use mathlib.Core.Path.{_≡_};
+ghost use mathlib.Core.Bool.{true, false};
+ghost use Prim.Native.Nat.{ℕ, _^_, _≤_, _<_};
+ghost use lib.ListN.{getD};
+ghost use Rattle.sheet.specs.Layouts.{theDimension, layoutOk};
+ghost use Rattle.sheet.specs.Views.{theViewDimension, viewOk};
+ghost use Rattle.sheet.specs.Facts.{InSize};
+ghost use Rattle.addressing.specs.Rules.{five, spanOf, rowMajor, viewSizes, viewStrides, viewCoordinates, weighted, viewIndex};
+use sheet::Layout;
+use sheet::View;
+use sheet::ViewDimension;
+use super::wide;
+
+pub fn span_at(l: Layout, k: usize) -> u32
+    requires { ⌜ k < 5 ⌝ }
+    ensures { λ r. ⌜ r ≡ spanOf l k ⌝ }
+{
+    let d = l.dimensions[k];
+    wide(d.span)
+}
+
+fn spans(l: Layout) -> [u32; 5]
+    ensures { λ r. ⌜ r ≡ five (spanOf l) ⌝ }
+{
+    [span_at(l, 0), span_at(l, 1), span_at(l, 2), span_at(l, 3), span_at(l, 4)]
+}
+
+fn size_at(v: View, k: usize) -> u32
+    requires { ⌜ k < 5 ⌝ }
+    ensures { λ r. ⌜ r ≡ theViewDimension (v .dimensions) k .size ⌝ }
+{
+    let d = v.dimensions[k];
+    wide(d.size)
+}
+
+pub fn view_sizes(l: Layout, v: View) -> [u32; 5]
+    ensures { λ r. ⌜ r ≡ viewSizes l v ⌝ }
+{
+    if v.sized {
+        [size_at(v, 0), size_at(v, 1), size_at(v, 2), size_at(v, 3), size_at(v, 4)]
+    } else {
+        spans(l)
+    }
+}
+
+// The product of the spans after dimension i.
+fn row_major(l: Layout, i: usize) -> u64
+    requires { ⌜ (layoutOk l ≡ true) × (i < 5) ⌝ }
+    ensures { λ r. ⌜ (r ≡ rowMajor (spanOf l) (l .rank) i) × (r ≤ 4096 ^ 4) ⌝ }
+{
+    let rank = l.rank as usize;
+    let mut product: u64 = 1;
+    let mut j = i + 1;
+    while j < rank {
+        product *= span_at(l, j) as u64;
+        j += 1;
+    }
+    product
+}
+
+fn stride_at(v: View, k: usize) -> u64
+    requires { ⌜ k < 5 ⌝ }
+    ensures { λ r. ⌜ (r ≡ theViewDimension (v .dimensions) k .stride) × (r ≤ 4096 ^ 4) ⌝ }
+{
+    let d = v.dimensions[k];
+    wide(d.stride) as u64
+}
+
+pub fn view_strides(l: Layout, v: View) -> [u64; 5]
+    requires { ⌜ layoutOk l ≡ true ⌝ }
+    ensures { λ r. ⌜ (r ≡ viewStrides l v) × ((i : ℕ) → getD r i 0 ≤ 4096 ^ 4) ⌝ }
+{
+    if v.sized {
+        [stride_at(v, 0), stride_at(v, 1), stride_at(v, 2), stride_at(v, 3), stride_at(v, 4)]
+    } else {
+        [row_major(l, 0), row_major(l, 1), row_major(l, 2), row_major(l, 3), row_major(l, 4)]
+    }
+}
+
+// The coordinates within the view. The sizes of the view's dimensions are 1 to 4,096.
+fn view_coordinates(v: View, sizes: [u32; 5], index: u32) -> [u32; 5]
+    requires { ⌜ (viewOk v ≡ true) × ((i : ℕ) → i < v .rank → InSize (getD sizes i 0)) ⌝ }
+    ensures { λ r. ⌜ r ≡ viewCoordinates v sizes index ⌝ }
+{
+    let mut cs = [0u32; 5];
+    let mut left = index;
+    let mut k = v.rank as usize;
+    while 0 < k {
+        k -= 1;
+        let i = v.permutation[k] as usize;
+        let size = sizes[i];
+        cs[i] = left % size;
+        left /= size;
+    }
+    cs
+}
+
+fn long(x: u32) -> u64
+    ensures { λ r. ⌜ r ≡ x ⌝ }
+{
+    x as u64
+}
+
+// At most five products of at most 4,096 to the fifth, 2 to the 60th, do not wrap.
+fn weighted(cs: [u32; 5], strides: [u64; 5], n: usize) -> u64
+    requires { ⌜ (n ≤ 5) × ((i : ℕ) → getD cs i 0 < 4096) × ((i : ℕ) → getD strides i 0 ≤ 4096 ^ 4) ⌝ }
+    ensures { λ r. ⌜ r ≡ weighted cs strides n ⌝ }
+{
+    let mut sum: u64 = 0;
+    let mut i = 0;
+    while i < n {
+        sum += long(cs[i]) * strides[i];
+        i += 1;
+    }
+    sum
+}
+
+pub fn view_index(v: View, sizes: [u32; 5], strides: [u64; 5], index: u32) -> u64
+    requires { ⌜ (viewOk v ≡ true) × ((i : ℕ) → i < v .rank → InSize (getD sizes i 0)) × ((i : ℕ) → getD strides i 0 ≤ 4096 ^ 4) ⌝ }
+    ensures { λ r. ⌜ r ≡ viewIndex v sizes strides index ⌝ }
+{
+    let cs = view_coordinates(v, sizes, index);
+    let rank = v.rank as usize;
+    weighted(cs, strides, rank)
+}

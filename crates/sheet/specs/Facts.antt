@@ -1,0 +1,103 @@
+-- What is known of the numbers of a layout and of a view that keep to Sizes.
+use Prim.Native.Nat.{ℕ, _<_, _≤_}
+use mathlib.Core.Path.{_≡_, sym, _∙_}
+use mathlib.Core.Bool.{Bool, true, false}
+use lib.ListN.{getD}
+use lib.Dec.{ltb}
+use borrow.Author.Tests.{lt-ltb, ltb-true}
+use native.Mathlib.Omega.{arith}
+use Rattle.numbers.specs.Choice.{pick, both, both-left, both-right, between, between-low, between-high}
+use Rattle.numbers.specs.All.{all-at}
+use Rattle.sheet.specs.Sizes.{rankOk, sizeOk, offsetOk}
+use Rattle.sheet.specs.Layouts.{theDimension, dimensionOk, dimensionAtOk, dimensionsOk, layoutOk}
+use Rattle.sheet.specs.Views.{theViewDimension, fresh, entryOk, permutationOk, viewDimensionAtOk, viewDimensionsOk, sizedRank, viewOk}
+use Rattle.sheet.specs.declared.Dimension.{Dimension}
+use Rattle.sheet.specs.declared.Layout.{Layout}
+use Rattle.sheet.specs.declared.View.{View}
+
+-- a number from 1 to 4,096
+pub record InSize (x : ℕ) : Type 0 where
+  pub some : 0 < x
+  pub most : x ≤ 4096
+
+in-size : (x : ℕ) → sizeOk x ≡ true → InSize x
+in-size x e = record { some = between-low 1 4096 x e; most = between-high 1 4096 x e }
+
+taken-way : {A : Type 0} {b : Bool} (x y : A) → b ≡ true → pick b x y ≡ x
+unfolding pick
+taken-way x y e = rw e
+
+-- a layout's count of dimensions, and the numbers of each dimension
+module _ (l : Layout) (ok : layoutOk l ≡ true) where
+  pub layout-some : 0 < l .rank
+  unfolding layoutOk
+  layout-some = between-low 1 5 (l .rank) (both-left (rankOk (l .rank)) (dimensionsOk (l .rank) (l .dimensions)) ok)
+
+  pub layout-most : l .rank ≤ 5
+  unfolding layoutOk
+  layout-most = between-high 1 5 (l .rank) (both-left (rankOk (l .rank)) (dimensionsOk (l .rank) (l .dimensions)) ok)
+
+  module _ (i : ℕ) (h : i < l .rank) where
+    abbrev the : Dimension
+    the = theDimension (l .dimensions) i
+
+    layout-dimension : dimensionOk the ≡ true
+    unfolding layoutOk dimensionAtOk
+    layout-dimension =
+        sym (taken-way _ _ (lt-ltb i (l .rank) h))
+        ∙ all-at 5 (dimensionAtOk (l .rank) (l .dimensions)) (both-right (rankOk (l .rank)) (dimensionsOk (l .rank) (l .dimensions)) ok) i
+        (omega (arith, layout-most))
+
+    pub layout-block : InSize (theDimension (l .dimensions) i .block)
+    unfolding dimensionOk
+    layout-block =
+        in-size (the .block)
+        (both-left (sizeOk (the .block)) (both (sizeOk (the .size)) (both (offsetOk (the .offset)) (sizeOk (the .span)))) layout-dimension)
+
+    past-block : both (sizeOk (the .size)) (both (offsetOk (the .offset)) (sizeOk (the .span))) ≡ true
+    unfolding dimensionOk
+    past-block =
+        both-right (sizeOk (the .block)) (both (sizeOk (the .size)) (both (offsetOk (the .offset)) (sizeOk (the .span)))) layout-dimension
+
+    pub layout-size : InSize (theDimension (l .dimensions) i .size)
+    layout-size = in-size (the .size) (both-left (sizeOk (the .size)) (both (offsetOk (the .offset)) (sizeOk (the .span))) past-block)
+
+    pub layout-span : InSize (theDimension (l .dimensions) i .span)
+    layout-span =
+        in-size (the .span)
+        (both-right (offsetOk (the .offset)) (sizeOk (the .span)) (both-right (sizeOk (the .size)) (both (offsetOk (the .offset)) (sizeOk (the .span))) past-block))
+
+-- a view's count of dimensions, its permutation entries, and the view dimensions of one that has them
+module _ (v : View) (ok : viewOk v ≡ true) where
+  abbrev sizedOk : Bool
+  sizedOk = viewDimensionsOk (sizedRank (v .sized) (v .rank)) (v .dimensions)
+
+  pub view-some : 0 < v .rank
+  unfolding viewOk
+  view-some = between-low 1 5 (v .rank) (both-left (rankOk (v .rank)) (both (permutationOk (v .rank) (v .permutation)) sizedOk) ok)
+
+  pub view-most : v .rank ≤ 5
+  unfolding viewOk
+  view-most = between-high 1 5 (v .rank) (both-left (rankOk (v .rank)) (both (permutationOk (v .rank) (v .permutation)) sizedOk) ok)
+
+  past-rank : both (permutationOk (v .rank) (v .permutation)) sizedOk ≡ true
+  unfolding viewOk
+  past-rank = both-right (rankOk (v .rank)) (both (permutationOk (v .rank) (v .permutation)) sizedOk) ok
+
+  module _ (k : ℕ) (h : k < v .rank) where
+    pub view-entry : getD (v .permutation) k 0 < v .rank
+    unfolding entryOk
+    view-entry =
+        ltb-true (getD (v .permutation) k 0) (v .rank)
+        (both-left (ltb (getD (v .permutation) k 0) (v .rank)) (fresh (v .permutation) k)
+        (sym (taken-way _ _ (lt-ltb k (v .rank) h))
+        ∙ all-at 5 (entryOk (v .rank) (v .permutation)) (both-left (permutationOk (v .rank) (v .permutation)) sizedOk past-rank) k
+        (omega (arith, view-most))))
+
+    pub view-size : v .sized ≡ true → InSize (theViewDimension (v .dimensions) k .size)
+    unfolding viewDimensionAtOk sizedRank
+    view-size e =
+        in-size (theViewDimension (v .dimensions) k .size)
+        (sym (taken-way _ _ (lt-ltb k (sizedRank (v .sized) (v .rank)) (rw (taken-way (v .rank) 0 e) h)))
+        ∙ all-at 5 (viewDimensionAtOk (sizedRank (v .sized) (v .rank)) (v .dimensions))
+        (both-right (permutationOk (v .rank) (v .permutation)) sizedOk past-rank) k (omega (arith, view-most)))
