@@ -4,10 +4,12 @@ ghost use Prim.Native.Nat.{ℕ, _+_, _*_, _^_, _%_, _≤_, _<_, min};
 ghost use lib.ListN.{getD};
 ghost use Rattle.addressing.specs.Rules.{lowBits, addressed, reached, located, refused, answered, planned};
 ghost use Rattle.addressing.specs.Valid.{ValidAccess, Planned};
+
 pub mod clamps;
 pub mod clips;
 pub mod tensors;
 pub mod views;
+
 use outcomes::Outcome;
 use sheet::Layout;
 use sheet::View;

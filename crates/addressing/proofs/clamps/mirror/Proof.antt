@@ -31,7 +31,7 @@ rest-requires c κs = search needs
 
 -- src/clamps.rt:55:17
 sub-result : tie.Need-sub-result
-sub-result c = 
+sub-result c =
     let a = c .before .before .before .args in
     rw (c .before .rest .ensures) (omega (arith, remainder-lt (integer (a .c)) {n = 2 * a .n - 2} (search needs)))
 

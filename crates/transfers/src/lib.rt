@@ -1,0 +1,65 @@
+// Elements between registers and memory.
+ghost use mathlib.Core.Path.{_≡_};
+ghost use Prim.Native.Nat.{_<_, _≤_, _^_};
+ghost use lib.ListN.{length};
+ghost use Rattle.kinds.specs.Laws.{ElementSize};
+ghost use Rattle.registers.specs.Registers.{room};
+ghost use Rattle.transfers.specs.Acts.{state, loaded, stored, Inside};
+use outcomes::Outcome;
+
+// One element of a load. The answer is the count, one more where the element had a byte.
+pub fn load_element(
+    elements: &mut [u32; 1024],
+    memory: &[u8],
+    size: usize,
+    register: u8,
+    element: usize,
+    o: Outcome,
+    count: usize,
+) -> usize
+    requires { ⌜ (register < 4) × (element < room) × (count < 2 ^ 32) × ElementSize size ⌝ }
+    requires { ⌜ Inside size (length (now memory)) o ⌝ }
+    ensures { λ r. ⌜ now (elements .exit) ≡ loaded size register element o (state (now (elements .entry)) (now (memory .entry)) count) .elements ⌝ }
+    ensures { λ r. ⌜ r ≡ loaded size register element o (state (now (elements .entry)) (now (memory .entry)) count) .count ⌝ }
+{
+    match o {
+        Outcome::Skipped => count,
+        Outcome::Filled(bits) => {
+            registers::put_element_of(elements, register, element, bits);
+            count
+        }
+        Outcome::Discarded => count,
+        Outcome::Placed(byte) => {
+            let x = memory::element_at(memory, byte, size);
+            registers::put_element_of(elements, register, element, x);
+            count + 1
+        }
+    }
+}
+
+// One element of a store. The answer is the count, one more where the element had a byte.
+pub fn store_element(
+    elements: &[u32; 1024],
+    memory: &mut [u8],
+    size: usize,
+    register: u8,
+    element: usize,
+    o: Outcome,
+    count: usize,
+) -> usize
+    requires { ⌜ (register < 4) × (element < room) × (count < 2 ^ 32) × ElementSize size ⌝ }
+    requires { ⌜ Inside size (length (now memory)) o ⌝ }
+    ensures { λ r. ⌜ now (memory .exit) ≡ stored size register element o (state (now (elements .entry)) (now (memory .entry)) count) .memory ⌝ }
+    ensures { λ r. ⌜ r ≡ stored size register element o (state (now (elements .entry)) (now (memory .entry)) count) .count ⌝ }
+{
+    match o {
+        Outcome::Skipped => count,
+        Outcome::Filled(_) => count,
+        Outcome::Discarded => count,
+        Outcome::Placed(byte) => {
+            let x = registers::element_of(elements, register, element);
+            memory::put_element(memory, byte, size, x);
+            count + 1
+        }
+    }
+}
