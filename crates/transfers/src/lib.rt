@@ -1,10 +1,13 @@
 // Elements between registers and memory.
 ghost use mathlib.Core.Path.{_≡_};
 ghost use Prim.Native.Nat.{_<_, _≤_, _^_};
+ghost use Rattle.addressing.specs.Valid.{Planned};
 ghost use lib.ListN.{length};
 ghost use Rattle.kinds.specs.Laws.{ElementSize};
 ghost use Rattle.registers.specs.Registers.{room};
 ghost use Rattle.transfers.specs.Acts.{state, loaded, stored, Inside};
+ghost use Rattle.transfers.specs.Transfers.{loadedElements, storedElements};
+use addressing::Plan;
 use outcomes::Outcome;
 
 // One element of a load. The answer is the count, one more where the element had a byte.
@@ -62,4 +65,56 @@ pub fn store_element(
             count + 1
         }
     }
+}
+
+// The first `n` elements of a load. The answer is the count with each element that had a byte.
+pub fn load_elements(
+    elements: &mut [u32; 1024],
+    memory: &[u8],
+    p: Plan,
+    register: u8,
+    n: usize,
+    counted: usize,
+) -> usize
+    requires { ⌜ Planned p × (0 < p .columns) × (p .columns < 256) × (p .access .memory ≡ length (now memory)) ⌝ }
+    requires { ⌜ (register < 4) × (n ≤ room) × (counted < 2 ^ 31) ⌝ }
+    ensures { λ r. ⌜ now (elements .exit) ≡ loadedElements (p .access) (p .columns) register n (state (now (elements .entry)) (now (memory .entry)) counted) .elements ⌝ }
+    ensures { λ r. ⌜ r ≡ loadedElements (p .access) (p .columns) register n (state (now (elements .entry)) (now (memory .entry)) counted) .count ⌝ }
+{
+    let size = p.access.size;
+    let mut count = counted;
+    let mut k = 0;
+    while k < n {
+        let r = accesses::element(p, k as u32);
+        let o = r.outcome;
+        count = load_element(elements, memory, size, register, k, o, count);
+        k += 1;
+    }
+    count
+}
+
+// The first `n` elements of a store. The answer is the count with each element that had a byte.
+pub fn store_elements(
+    elements: &[u32; 1024],
+    memory: &mut [u8],
+    p: Plan,
+    register: u8,
+    n: usize,
+    counted: usize,
+) -> usize
+    requires { ⌜ Planned p × (0 < p .columns) × (p .columns < 256) × (p .access .memory ≡ length (now memory)) ⌝ }
+    requires { ⌜ (register < 4) × (n ≤ room) × (counted < 2 ^ 31) ⌝ }
+    ensures { λ r. ⌜ now (memory .exit) ≡ storedElements (p .access) (p .columns) register n (state (now (elements .entry)) (now (memory .entry)) counted) .memory ⌝ }
+    ensures { λ r. ⌜ r ≡ storedElements (p .access) (p .columns) register n (state (now (elements .entry)) (now (memory .entry)) counted) .count ⌝ }
+{
+    let size = p.access.size;
+    let mut count = counted;
+    let mut k = 0;
+    while k < n {
+        let r = accesses::element(p, k as u32);
+        let o = r.outcome;
+        count = store_element(elements, memory, size, register, k, o, count);
+        k += 1;
+    }
+    count
 }

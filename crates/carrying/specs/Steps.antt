@@ -1,0 +1,128 @@
+-- One step of a sheet: when it is refused, and what it does.
+use Prim.Native.Nat.{ℕ, _*_}
+use mathlib.Core.List.{List}
+use mathlib.Core.Bool.{Bool, true, false, not}
+use lib.ListN.{length}
+use lib.Dec.{eqb}
+use Rattle.numbers.specs.Choice.{pick}
+use Rattle.kinds.specs.Widths.{bytesOf}
+use Rattle.sheet.specs.Layouts.{theLayout}
+use Rattle.sheet.specs.Views.{theView, noView}
+use Rattle.sheet.specs.declared.View.{View}
+use Rattle.sheet.specs.declared.Sheet.{Sheet}
+use Rattle.sheet.specs.declared.Step.{Step}
+use Rattle.sheet.specs.declared.Step.the-variants.{Nothing, Fill, Load, Store, Reduce, Transpose, MultiplyAdd}
+use Rattle.registers.specs.Types.{theType, isEmpty, withType}
+use Rattle.registers.specs.Registers.{copied}
+use Rattle.registers.specs.declared.MatrixType.{MatrixType}
+use Rattle.registers.specs.declared.Registers.{Registers}
+use Rattle.addressing.specs.declared.Access.{Access}
+use Rattle.accesses.specs.Refusals.{checkedAccess, stopAt}
+use Rattle.accesses.specs.declared.Checked.{Checked}
+use Rattle.whole_steps.specs.Refusals.{wholeRefusal}
+use Rattle.whole_steps.specs.Whole.{wholeTypes, wholeDone}
+use Rattle.transfers.specs.Acts.{State, state}
+use Rattle.transfers.specs.Transfers.{loadedElements, storedElements}
+use Rattle.carrying.specs.declared.StepCheck.{StepCheck}
+
+-- the view that a step names, 255 being none
+abbrev pub viewed : ℕ → Bool
+viewed view = not (eqb view 255)
+
+abbrev pub viewNamed : Sheet → ℕ → View
+viewNamed sh view = pick (viewed view) (theView (sh .view) view) noView
+
+-- a load or a store of a matrix of a type, in a memory of a length
+abbrev pub accessOf : Sheet → Bool → ℕ → ℕ → ℕ → MatrixType → ℕ → Access
+accessOf sh load layout view base t len =
+    record {
+      load = load;
+      layout = theLayout (sh .layout) layout;
+      viewed = viewed view;
+      view = viewNamed sh view;
+      base = base;
+      size = bytesOf (t .kind);
+      memory = len;
+    }
+
+-- with object 255 the register is its own object
+abbrev pub objectOf : ℕ → ℕ → ℕ
+objectOf register object = pick (eqb object 255) register object
+
+abbrev pub stepCheck : ℕ → ℕ → List MatrixType → ℕ → StepCheck
+stepCheck number element types placed = record { stop = stopAt number element; types = types; placed = placed }
+
+abbrev pub accessCheck : List MatrixType → Checked → StepCheck
+accessCheck types c = record { stop = c .stop; types = types; placed = c .placed }
+
+-- refusal 7 of a load or a store, then 9 to 15; the types that it leaves, and how many of its elements have a byte
+unfoldable pub loadCheck : Sheet → List MatrixType → ℕ → ℕ → MatrixType → ℕ → ℕ → ℕ → StepCheck
+loadCheck sh ts len register t layout view base =
+    pick (isEmpty t) (stepCheck 7 0 ts 0)
+    (accessCheck (withType ts register t) (checkedAccess (accessOf sh true layout view base t len) (t .rows) (t .columns)))
+
+unfoldable pub storeCheck : Sheet → List MatrixType → ℕ → MatrixType → ℕ → ℕ → ℕ → StepCheck
+storeCheck sh ts len t layout view base =
+    pick (isEmpty t) (stepCheck 7 0 ts 0)
+    (accessCheck ts (checkedAccess (accessOf sh false layout view base t len) (t .rows) (t .columns)))
+
+abbrev pub wholeCheck : List MatrixType → Step → StepCheck
+wholeCheck ts step = stepCheck (wholeRefusal ts step) 0 (wholeTypes ts step) 0
+
+-- refusals 7 to 15 of a step, over the registers' types and the memory's length; load gives its register the object's type
+unfoldable pub checkedStep : Sheet → List MatrixType → ℕ → Step → StepCheck
+checkedStep sh ts len Nothing = wholeCheck ts Nothing
+checkedStep sh ts len (Fill register rows columns kind value) = wholeCheck ts (Fill register rows columns kind value)
+checkedStep sh ts len (Load register object layout view base) =
+    loadCheck sh ts len register (theType ts (objectOf register object)) layout view base
+checkedStep sh ts len (Store register layout view base) = storeCheck sh ts len (theType ts register) layout view base
+checkedStep sh ts len (Reduce result source rows columns mode combine) = wholeCheck ts (Reduce result source rows columns mode combine)
+checkedStep sh ts len (Transpose result source) = wholeCheck ts (Transpose result source)
+checkedStep sh ts len (MultiplyAdd result a b c) = wholeCheck ts (MultiplyAdd result a b c)
+
+-- registers, memory, and how many elements of loads and stores had a byte
+pub record Machine : Type 0 where
+  pub registers : Registers
+  pub memory : List ℕ
+  pub count : ℕ
+
+abbrev pub machine : Registers → List ℕ → ℕ → Machine
+machine registers memory count = record { registers = registers; memory = memory; count = count }
+
+-- what elements of a register of a type work on, and the machine that they leave
+abbrev pub stateOf : Machine → State
+stateOf m = state (m .registers .elements) (m .memory) (m .count)
+
+abbrev pub machineOf : List MatrixType → State → Machine
+machineOf types s = machine (record { types = types; elements = s .elements }) (s .memory) (s .count)
+
+-- the elements of a load into a register that its object was copied to, and of a store
+unfoldable pub loadDone : Sheet → ℕ → ℕ → ℕ → ℕ → Machine → Machine
+loadDone sh register layout view base m =
+    let t = theType (m .registers .types) register in
+    machineOf (m .registers .types)
+    (loadedElements (accessOf sh true layout view base t (length (m .memory))) (t .columns) register (t .rows * t .columns) (stateOf m))
+
+unfoldable pub storeDone : Sheet → ℕ → ℕ → ℕ → ℕ → Machine → Machine
+storeDone sh register layout view base m =
+    let t = theType (m .registers .types) register in
+    machineOf (m .registers .types)
+    (storedElements (accessOf sh false layout view base t (length (m .memory))) (t .columns) register (t .rows * t .columns) (stateOf m))
+
+-- a load first gives its register the object, type and elements
+unfoldable pub objectDone : ℕ → ℕ → Machine → Machine
+objectDone register object m =
+    pick (eqb object 255) m (machine (copied (m .registers) register object) (m .memory) (m .count))
+
+abbrev pub wholeStepDone : Step → Machine → Machine
+wholeStepDone step m = machine (wholeDone (m .registers) step) (m .memory) (m .count)
+
+-- what a step does
+unfoldable pub performedStep : Sheet → Step → Machine → Machine
+performedStep sh Nothing m = m
+performedStep sh (Fill register rows columns kind value) m = wholeStepDone (Fill register rows columns kind value) m
+performedStep sh (Load register object layout view base) m = loadDone sh register layout view base (objectDone register object m)
+performedStep sh (Store register layout view base) m = storeDone sh register layout view base m
+performedStep sh (Reduce result source rows columns mode combine) m = wholeStepDone (Reduce result source rows columns mode combine) m
+performedStep sh (Transpose result source) m = wholeStepDone (Transpose result source) m
+performedStep sh (MultiplyAdd result a b c) m = wholeStepDone (MultiplyAdd result a b c) m

@@ -1,0 +1,66 @@
+// Carrying out a sheet: a check over types that refuses or accepts, then a performance that cannot fail.
+pub mod checks;
+pub mod performing;
+
+ghost use mathlib.Core.Path.{_≡_};
+ghost use lib.ListN.{length};
+ghost use Rattle.carrying.specs.Carrying.{checkRefused, checkedSheet, carryAnswer, carried, carriedMemory};
+use accesses::Stop;
+use registers::MatrixType;
+use registers::Registers;
+use sheet::Refusal;
+
+// What the check of a step tells: its refusal, or the types that it leaves and how many of its elements have a byte.
+pub struct StepCheck {
+    pub stop: Stop,
+    pub types: [MatrixType; 4],
+    pub placed: usize,
+}
+
+// The answer of a check: a refusal, or how many elements of loads and stores have a byte.
+pub struct CheckAnswer {
+    pub refusal: Refusal,
+    pub count: usize,
+}
+
+// The answer of carrying out: a refusal with empty registers and a count of 0, or the registers and how many elements of loads and
+// stores had a byte.
+pub struct CarryAnswer {
+    pub refusal: Refusal,
+    pub count: usize,
+    pub registers: Registers,
+}
+
+const MEMORY_TOO_LARGE: u8 = 18;
+
+fn refusal_at(number: u8, place: usize, element: usize) -> Refusal
+    ensures { λ r. ⌜ r ≡ refusalAt number place element ⌝ }
+{
+    Refusal {
+        number,
+        place,
+        element,
+    }
+}
+
+fn check_refused(refusal: Refusal) -> CheckAnswer
+    ensures { λ r. ⌜ r ≡ checkRefused refusal ⌝ }
+{
+    CheckAnswer { refusal, count: 0 }
+}
+
+// Whether a sheet would be refused for a memory of a length, and how many elements of its loads and stores have a byte.
+pub fn check_sheet(sheet: &[u8], memory_len: usize) -> CheckAnswer
+    ensures { λ r. ⌜ r ≡ checkedSheet (now (sheet .entry)) memory_len ⌝ }
+{
+    if MEMORY_LIMIT < memory_len {
+        return check_refused(refusal_at(MEMORY_TOO_LARGE, 0, 0));
+    }
+    let read = sheet_reader::read_sheet(sheet);
+    let refusal = read.refusal;
+    if 0 < refusal.number {
+        return check_refused(refusal);
+    }
+    let model = read.sheet;
+    checks::check(model, memory_len)
+}
