@@ -1,1 +1,3 @@
 pub mod Stretches
+pub mod Codes
+pub mod Typed
