@@ -7,7 +7,7 @@ use native.Mathlib.Nat.{zero-add, not-suc-le-zero}
 use native.Mathlib.Omega.{arith}
 use borrow.Author.Tests.{eqb-true, eqb-false, ltb-true, ltb-false, lt-ltb, le-ltb}
 use lib.Dec.{eqb, ltb}
-use lib.ListN.{length, getD, set, replicate, length-set, length-append, length-replicate, getD-replicate}
+use lib.ListN.{length, getD, set, replicate, length-set, length-append, length-replicate, getD-replicate, List·getD-eq-default}
 use lib.Seq.{ext-getD, getD-set-same, getD-set-other}
 use Rattle.numbers.specs.Choice.{pick, pick-case}
 use Rattle.numbers.specs.All.{all, all-at, all-true}
@@ -57,6 +57,16 @@ module _ {A : Type 0} (N : ℕ) (none d : A) (g : ℕ → A) (n : ℕ) (h : n �
       (λ k l.
       let m : k < N = omega (arith, places-count) in
       by-order k n (λ q. places-given k q ∙ f k q) (λ q. places-past k q m ∙ sym (u k q m)))
+
+-- what holds of none and of each one given holds at every place
+pub places-all : {A : Type 0} (P : A → Type 0) (N : ℕ) (none : A) (g : ℕ → A) (n : ℕ) → n ≤ N → P none → ((k : ℕ) → k < n → P (g k)) → (k : ℕ) → P (getD (line (replicate N none) 0 g n) k none)
+places-all P N none g n h p f k =
+    by-order k n (λ q. rw (places-given N none none g n h k q) (f k q))
+    (λ q.
+    rw (line-past (replicate N none) g none n k q)
+    (by-order k N (λ m. rw (getD-replicate N k none none m) p) (λ m.
+    let l : length (replicate N none) ≤ k = rw (length-replicate N none) m in
+    rw (List·getD-eq-default (replicate N none) none l) p)))
 
 -- of N places the first count hold what is ok, the others what is unused
 pub record Held {A : Type 0} (N : ℕ) (ok unused : A → Bool) (d : A) (count : ℕ) (xs : List A) : Type 0 where

@@ -1,3 +1,4 @@
 pub mod Stretches
 pub mod Codes
 pub mod Typed
+pub mod Layouts
