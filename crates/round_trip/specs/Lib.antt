@@ -2,3 +2,4 @@ pub mod Stretches
 pub mod Codes
 pub mod Typed
 pub mod Layouts
+pub mod Views

@@ -65,6 +65,9 @@ module _ (s : List ℕ) (p : ℕ) where
   has-each zero f h = tt
   has-each (suc n) f h = has-join (each n f) (f n) (has-each n f (λ k l. h k (omega arith))) (h n (omega arith))
 
+pub has-at : (s : List ℕ) (p q : ℕ) (bs : List ℕ) → p ≡ q → Has s p 0 bs → Has s q 0 bs
+has-at s p q bs e h = rw e at h
+
 -- lists of one length, joined
 pub length-each : (w n : ℕ) (f : ℕ → List ℕ) → ((k : ℕ) → k < n → length (f k) ≡ w) → length (each n f) ≡ n * w
 unfolding each
