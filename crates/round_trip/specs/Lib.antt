@@ -3,3 +3,4 @@ pub mod Codes
 pub mod Typed
 pub mod Layouts
 pub mod Views
+pub mod Steps
