@@ -4,3 +4,5 @@ pub mod Typed
 pub mod Layouts
 pub mod Views
 pub mod Steps
+pub mod Turns
+pub mod Sheets
