@@ -6,3 +6,4 @@ pub mod Views
 pub mod Steps
 pub mod Turns
 pub mod Sheets
+pub mod Growing
