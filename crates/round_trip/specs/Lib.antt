@@ -7,3 +7,4 @@ pub mod Steps
 pub mod Turns
 pub mod Sheets
 pub mod Growing
+pub mod Returning
