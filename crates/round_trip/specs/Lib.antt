@@ -8,3 +8,4 @@ pub mod Turns
 pub mod Sheets
 pub mod Growing
 pub mod Returning
+pub mod Written

@@ -120,12 +120,17 @@ pub view-rank : (v : View) → viewOk v ≡ true → (1 ≤ v .rank) × (v .rank
 unfolding viewOk
 view-rank v e = (between-low 1 5 (v .rank) (both-left _ _ e), between-high 1 5 (v .rank) (both-left _ _ e))
 
+pub view-held : (v : View) → viewOk v ≡ true → Held 5 (λ (d : ViewDimension). sizeOk (d .size)) viewDimensionUnused noViewDimension (sizedRank (v .sized) (v .rank)) (v .dimensions)
+unfolding viewOk
+view-held v e =
+    let few : own v ≤ 5 = omega (arith, sized-few (v .sized) (v .rank), view-rank v e) in
+    view-dimensions-held (own v) (v .dimensions) few (both-right _ _ (both-right _ _ e))
+
 pub view-shaped : (v : View) → viewOk v ≡ true → ViewSized v → ViewShaped v
 unfolding viewOk
 view-shaped v e z =
     let r = view-rank v e in
-    let few : own v ≤ 5 = omega (arith, sized-few (v .sized) (v .rank)) in
-    let w = view-dimensions-held (own v) (v .dimensions) few (both-right _ _ (both-right _ _ e)) in
+    let w = view-held v e in
     record {
       some = r .0;
       few = r .1;
