@@ -9,3 +9,4 @@ pub mod Sheets
 pub mod Growing
 pub mod Returning
 pub mod Written
+pub mod Theorems
