@@ -296,13 +296,13 @@ module _ (s : List ℕ) where
   abbrev pub SoFar : ℕ → Sheet → Type 0
   SoFar at sh = ((at ≡ 0) × (sh ≡ emptySheet)) ⊎ Grown s at sh
 
-  module _ (R : ReadAnswer → Type 0) (refused : (n at : ℕ) → 0 < n → at ≤ longest → R (refusedRead n at)) (accepted : (sh : Sheet) → Grown s (length s) sh → R (acceptedRead sh)) where
+  module _ (R : ReadAnswer → Type 0) (refused : (n at : ℕ) → 1 ≤ n → n ≤ 6 → at ≤ longest → R (refusedRead n at)) (accepted : (sh : Sheet) → Grown s (length s) sh → R (acceptedRead sh)) where
     start-ways : Ways s SoFar R 0 emptySheet
     unfolding emptySheet layoutMayCome viewMayCome stepMayCome endRead both pick
     start-ways =
         record {
-          refused = λ n h. refused n 0 h (omega arith);
-          ended = λ h. refused 3 (length s) (omega arith) (omega arith);
+          refused = λ n h m. refused n 0 h m (omega arith);
+          ended = λ h. refused 3 (length s) (omega arith) (omega arith) (omega arith);
           edition = λ h t e z one. inr (edition-grown h t e one);
           layout = λ h t may. absurd (true≢false (sym may));
           view = λ h t may. absurd (true≢false (sym may));
@@ -314,7 +314,7 @@ module _ (s : List ℕ) where
     grown-ways at sh g =
         let e = g .within .edition in
         record {
-          refused = λ n h. refused n at h (omega (arith, g .ends, sheet-short sh (g .within)));
+          refused = λ n h m. refused n at h m (omega (arith, g .ends, sheet-short sh (g .within)));
           ended =
               λ h.
               let q : at ≡ length s = omega (arith, g .inside) in
@@ -325,7 +325,7 @@ module _ (s : List ℕ) where
           step = λ h t u may l ok. inr (step-grown s at sh g h t u may l ok);
         }
 
-    ways : (at : ℕ) (sh : Sheet) → SoFar at sh → Ways s SoFar R at sh
+    pub ways : (at : ℕ) (sh : Sheet) → SoFar at sh → Ways s SoFar R at sh
     ways at sh p = ⊎-elim (λ q. rw (q .0, q .1) start-ways) (λ q. grown-ways at sh q) p
 
     -- a reading is a refusal at one of the first bytes, or accepts a sheet that has grown from all the bytes

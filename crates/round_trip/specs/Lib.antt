@@ -10,3 +10,4 @@ pub mod Growing
 pub mod Returning
 pub mod Written
 pub mod Theorems
+pub mod Prefixes

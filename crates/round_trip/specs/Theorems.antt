@@ -27,7 +27,7 @@ grown : (s : List ℕ) (sh : Sheet) → readSheet s ≡ acceptedRead sh → Grow
 unfolding refusedRead acceptedRead
 grown s sh e =
     reading s (λ (r : ReadAnswer). r ≡ acceptedRead sh → Grown s (length s) sh)
-    (λ n at h l q. let z : n ≡ 0 = ap (λ (r : ReadAnswer). r .refusal .number) q in absurd (omega arith))
+    (λ n at h m l q. let z : n ≡ 0 = ap (λ (r : ReadAnswer). r .refusal .number) q in absurd (omega arith))
     (λ sh′ g q. let z : sh′ ≡ sh = ap (λ (r : ReadAnswer). r .sheet) q in rw z at g) e
 
 -- What was read writes back: a sheet that reads as a model gives a writable one, and the model's bytes are the sheet's.
@@ -64,7 +64,7 @@ pub not-refused : (s : List ℕ) → readSheet s .refusal .number ≡ 0 → read
 unfolding refusedRead acceptedRead
 not-refused s e =
     reading s (λ (r : ReadAnswer). r .refusal .number ≡ 0 → r ≡ acceptedRead (r .sheet))
-    (λ n at h l q. absurd (omega arith)) (λ sh g q. refl) e
+    (λ n at h m l q. absurd (omega arith)) (λ sh g q. refl) e
 
 -- An accepted sheet is short, and the place of a refusal is one of the first bytes.
 pub accepted-short : (s : List ℕ) (sh : Sheet) → readSheet s ≡ acceptedRead sh → length s ≤ longest
@@ -72,4 +72,4 @@ accepted-short s sh e = let g = grown s sh e in rw (g .ends) (sheet-short sh (g 
 
 pub place-small : (s : List ℕ) → readSheet s .refusal .place ≤ longest
 unfolding refusedRead acceptedRead
-place-small s = reading s (λ (r : ReadAnswer). r .refusal .place ≤ longest) (λ n at h l. l) (λ sh g. omega arith)
+place-small s = reading s (λ (r : ReadAnswer). r .refusal .place ≤ longest) (λ n at h m l. l) (λ sh g. omega arith)

@@ -4,10 +4,10 @@ use mathlib.Core.Path.{_≡_, refl, sym, ap, _∙_}
 use mathlib.Core.Bool.{Bool, true, false}
 use mathlib.Core.List.{List}
 use native.Mathlib.Omega.{arith}
-use borrow.Author.Tests.{eqb-true, ltb-true, ltb-false, leb-true}
+use borrow.Author.Tests.{eqb-true, ltb-true, ltb-false, leb-true, lt-ltb}
 use lib.Dec.{eqb, ltb, leb}
 use lib.ListN.{length, getD}
-use Rattle.numbers.specs.Choice.{pick, pick-case}
+use Rattle.numbers.specs.Choice.{pick, pick-case, between, between-low, between-high}
 use Rattle.numbers.specs.Little.{u16At}
 use Rattle.sheet.specs.Sizes.{editionOk}
 use Rattle.sheet.specs.Layouts.{layoutOk}
@@ -37,7 +37,7 @@ Goes P R (on at sh) = P at sh
 
 -- every way that a turn at a byte with a sheet can go
 pub record Ways (s : List ℕ) (P : ℕ → Sheet → Type 0) (R : ReadAnswer → Type 0) (at : ℕ) (sh : Sheet) : Type 0 where
-  pub refused : (n : ℕ) → 0 < n → R (refusedRead n at)
+  pub refused : (n : ℕ) → 1 ≤ n → n ≤ 6 → R (refusedRead n at)
   pub ended : length s ≤ at → R (endRead sh (length s))
   pub edition :
     nextAt s at ≤ length s → getD s at 0 ≡ 0x01 → lengthAt s at ≡ 1 → sh .edition ≤ 0 → getD s (at + 3) 0 ≡ 1
@@ -62,16 +62,18 @@ module _ (s : List ℕ) (P : ℕ → Sheet → Type 0) (R : ReadAnswer → Type 
     abbrev To : Taken → Type 0
     To got = Goes P R (turnTaken at (nextAt s at) got)
 
-    refused-to : (n : ℕ) → ltb 0 n ≡ true → To (refuse n sh)
+    refused-to : (n : ℕ) → between 1 6 n ≡ true → To (refuse n sh)
     unfolding turnTaken pick
-    refused-to n e = rw e (w .refused n (ltb-true 0 n e))
+    refused-to n e =
+        let low = between-low 1 6 n e in
+        rw (lt-ltb 0 n low) (w .refused n low (between-high 1 6 n e))
 
     taken-to : (sh′ : Sheet) → P (nextAt s at) sh′ → To (record { number = 0; sheet = sh′ })
     unfolding turnTaken pick
     taken-to sh′ p = p
 
     edition-to : nextAt s at ≤ length s → getD s at 0 ≡ 0x01 → To (takeEdition s (at + 3) (lengthAt s at) sh)
-    unfolding takeEdition
+    unfolding takeEdition between pick
     edition-to h t =
         pick-case To (ltb 0 (sh .edition)) _ _ (λ q. refused-to 3 refl)
         (λ a.
@@ -82,7 +84,7 @@ module _ (s : List ℕ) (P : ℕ → Sheet → Type 0) (R : ReadAnswer → Type 
         (λ q. refused-to 4 refl))
 
     layout-to : nextAt s at ≤ length s → getD s at 0 ≡ 0x10 → To (takeLayout s (at + 3) (lengthAt s at) sh)
-    unfolding takeLayout
+    unfolding takeLayout between pick
     layout-to h t =
         pick-case To (layoutMayCome (sh .edition) (sh .layouts) (sh .views) (sh .steps)) _ _
         (λ a.
@@ -95,7 +97,7 @@ module _ (s : List ℕ) (P : ℕ → Sheet → Type 0) (R : ReadAnswer → Type 
         (λ q. refused-to 3 refl)
 
     view-to : nextAt s at ≤ length s → getD s at 0 ≡ 0x11 → To (takeView s (at + 3) (lengthAt s at) sh)
-    unfolding takeView
+    unfolding takeView between pick
     view-to h t =
         pick-case To (viewMayCome (sh .edition) (sh .views) (sh .steps)) _ _
         (λ a.
@@ -108,7 +110,7 @@ module _ (s : List ℕ) (P : ℕ → Sheet → Type 0) (R : ReadAnswer → Type 
         (λ q. refused-to 3 refl)
 
     step-to : nextAt s at ≤ length s → 0x20 ≤ getD s at 0 → getD s at 0 < 0x26 → To (takeStep s (getD s at 0) (at + 3) (lengthAt s at) sh)
-    unfolding takeStep
+    unfolding takeStep between pick
     step-to h t u =
         pick-case To (stepMayCome (sh .edition) (sh .steps)) _ _
         (λ a.
@@ -120,7 +122,7 @@ module _ (s : List ℕ) (P : ℕ → Sheet → Type 0) (R : ReadAnswer → Type 
         (λ q. refused-to 3 refl)
 
     field-to : nextAt s at ≤ length s → To (takeField s (getD s at 0) (at + 3) (lengthAt s at) sh)
-    unfolding takeField
+    unfolding takeField between pick
     field-to h =
         pick-case To (eqb (getD s at 0) 0x01) _ _ (λ q. edition-to h (eqb-true _ _ q))
         (λ q1.
@@ -137,12 +139,24 @@ module _ (s : List ℕ) (P : ℕ → Sheet → Type 0) (R : ReadAnswer → Type 
     turn-goes =
         pick-case (Goes P R) (ltb at (length s)) _ _
         (λ h.
-        pick-case (λ (f : Field). Goes P R (turnField s at sh f)) (ltb (length s - at) 3) _ _ (λ q. w .refused 1 (omega arith))
+        pick-case (λ (f : Field). Goes P R (turnField s at sh f)) (ltb (length s - at) 3) _ _ (λ q. w .refused 1 (omega arith) (omega arith))
         (λ a.
         pick-case (λ (f : Field). Goes P R (turnField s at sh f)) (leb (lengthAt s at) (length s - (at + 3))) _ _
         (λ b. field-to (omega (arith, ltb-false (length s - at) 3 a, leb-true (lengthAt s at) (length s - (at + 3)) b)))
-        (λ q. w .refused 1 (omega arith))))
+        (λ q. w .refused 1 (omega arith) (omega arith))))
         (λ h. w .ended (ltb-false _ _ h))
+
+  -- a turn that goes on goes on further along
+  pub ways-on : (at : ℕ) (sh : Sheet) → Ways s P R at sh → Ways s (λ (at′ : ℕ) (sh′ : Sheet). P at′ sh′ × (at < at′)) R at sh
+  ways-on at sh w =
+      record {
+        refused = w .refused;
+        ended = w .ended;
+        edition = λ h t l z one. (w .edition h t l z one, omega arith);
+        layout = λ h t may head ok. (w .layout h t may head ok, omega arith);
+        view = λ h t may head ok. (w .view h t may head ok, omega arith);
+        step = λ h t u may l ok. (w .step h t u may l ok, omega arith);
+      }
 
   after : (f : ℕ → Sheet → ReadAnswer) → ((at : ℕ) (sh : Sheet) → P at sh → R (f at sh)) → (t : Turn) → Goes P R t → R (afterTurn f t)
   unfolding afterTurn
@@ -152,7 +166,7 @@ module _ (s : List ℕ) (P : ℕ → Sheet → Type 0) (R : ReadAnswer → Type 
   -- P at the start, kept by each turn, gives R of what is read
   reads-from : ((at : ℕ) (sh : Sheet) → P at sh → Ways s P R at sh) → (n at : ℕ) (sh : Sheet) → P at sh → R (readFrom n s at sh)
   unfolding readFrom
-  reads-from w zero at sh p = w at sh p .refused 1 (omega arith)
+  reads-from w zero at sh p = w at sh p .refused 1 (omega arith) (omega arith)
   reads-from w (suc n) at sh p =
       after (readFrom n s) (λ at sh p. reads-from w n at sh p) (turn s at sh) (turn-goes at sh (w at sh p))
 
