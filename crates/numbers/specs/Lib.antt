@@ -3,3 +3,4 @@ pub mod All
 pub mod Little
 pub mod Lists
 pub mod Lines
+pub mod Places

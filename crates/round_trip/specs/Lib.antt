@@ -1,0 +1,13 @@
+pub mod Stretches
+pub mod Codes
+pub mod Typed
+pub mod Layouts
+pub mod Views
+pub mod Steps
+pub mod Turns
+pub mod Sheets
+pub mod Growing
+pub mod Returning
+pub mod Written
+pub mod Theorems
+pub mod Prefixes
