@@ -48,3 +48,7 @@ module _ (out₀ : List ℕ) (at : ℕ) (f : ℕ → List ℕ) where
   all-turns {k = k} n t h g =
       let e : k ≡ n = omega arith in
       (rw e at (t .next), rw e at (t .bytes))
+
+-- two runs of bytes, the second at a place that is the first's end
+pub puts-at : (l0 : List ℕ) (at : ℕ) (a b : List ℕ) {p : ℕ} {l1 l2 : List ℕ} → p ≡ at + length a → l1 ≡ sets l0 at a → l2 ≡ sets l1 p b → l2 ≡ sets l0 at (a ++ b)
+puts-at l0 at a b {l1 = l1} e q r = puts-after l0 at a b q (r ∙ ap (λ (i : ℕ). sets l1 i b) e)

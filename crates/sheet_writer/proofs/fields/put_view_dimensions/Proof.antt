@@ -33,12 +33,15 @@ array-copy-out-d c = search needs
 put-view-dimension-requires : tie.Need-put-view-dimension-requires Inv-loop μ-loop
 put-view-dimension-requires c κs =
     let t = turn-fits _ _ _ _ (c .before .before .before .loop .inv .1) (c .before .before .before .before .before .pre .1) (c .before .before .loop-test .taken) in
-    let e = length-view-dimension (theViewDimension (c .before .before .before .before .before .args .ds) (c .before .before .before .loop .k)) in
+    let e = length-view-dimension (theViewDimension (c .before .before .before .before .before .args .t4) (c .before .before .before .loop .k)) in
     omega arith
 
 -- src/fields.rt:132:9
 add-p : tie.Need-add-p Inv-loop μ-loop
-add-p c = ?
+add-p c =
+    let t = turn-fits _ _ _ _ (c .before .before .before .before .before .before .loop .inv .1) (c .before .before .before .before .before .before .before .before .pre .1) (c .before .before .before .before .before .loop-test .taken) in
+    let e = length-view-dimension (theViewDimension (c .before .before .before .before .before .before .before .before .args .t4) (c .before .before .before .before .before .before .loop .k)) in
+    search needs
 
 -- src/fields.rt:133:9
 add-k : tie.Need-add-k Inv-loop μ-loop
@@ -50,7 +53,9 @@ loop-less c = search needs
 
 -- src/fields.rt:129:5
 loop-again : tie.Need-loop-again Inv-loop μ-loop
-loop-again c = ?
+loop-again c =
+    let e = length-view-dimension (theViewDimension (c .before .before .before .before .before .before .before .before .args .t4) (c .before .before .before .before .before .before .loop .k)) in
+    (search needs, one-turn _ _ _ (c .before .before .before .before .before .before .loop .inv .1) (rw e) (c .before .before .put-view-dimension .ensures))
 
 -- src/fields.rt:122:1
 same-length : tie.Need-same-length Inv-loop μ-loop
