@@ -1,8 +1,10 @@
 // How many bytes each part of a sheet takes.
 ghost use mathlib.Core.Path.{_≡_};
+ghost use mathlib.Core.Bool.{true};
 ghost use Prim.Native.Nat.{_+_, _*_, _≤_};
 ghost use lib.ListN.{length};
 ghost use Rattle.numbers.specs.Lists.{each};
+ghost use Rattle.sheet.specs.Sheets.{writable};
 ghost use Rattle.sheet_writer.specs.Bytes.{layoutBytes, viewBytes, stepBytes, layoutField, viewField, stepField, sheetBytes};
 use sheet::Cell;
 use sheet::Layout;
@@ -127,7 +129,7 @@ fn steps_len(count: usize, cs: [Cell; 32]) -> usize
 }
 
 pub fn sheet_len(model: Sheet) -> usize
-    requires { ⌜ (model .layouts ≤ 4) × ((model .views ≤ 4) × (model .steps ≤ 32)) ⌝ }
+    requires { ⌜ writable model ≡ true ⌝ }
     ensures { λ r. ⌜ r ≡ length (sheetBytes model) ⌝ }
 {
     let ls = model.layout;

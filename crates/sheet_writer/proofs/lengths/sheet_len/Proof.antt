@@ -1,5 +1,5 @@
-use native.Mathlib.Omega.{arith}
 use borrow.Author.Needs.{needs}
+use native.Mathlib.Omega.{arith}
 use Rattle.sheet_writer.proofs.lengths.sheet_len.Statement.{statement}
 use Rattle.sheet_writer.proofs.lengths.sheet_len.Tie as tie
 use Rattle.sheet_writer.proofs.lengths.sheet_len.Reads as reads
@@ -8,31 +8,31 @@ use Rattle.sheet_writer.proofs.lengths.layouts_len.Reads as layouts-len
 use Rattle.sheet_writer.proofs.lengths.steps_len.Reads as steps-len-reads
 use Rattle.sheet_writer.proofs.lengths.views_len.Reads as views-len-reads
 
--- src/lengths.rt:137:11
-layouts-len-requires : tie.Need-layouts-len-requires
-layouts-len-requires c κs = search needs
-
--- src/lengths.rt:136:5
-add-result : tie.Need-add-result
-add-result c = search needs
-
--- src/lengths.rt:138:11
-views-len-requires : tie.Need-views-len-requires
-views-len-requires c κs = search needs
-
--- src/lengths.rt:136:5
-add-result-2 : tie.Need-add-result-2
-add-result-2 c = search needs
-
 -- src/lengths.rt:139:11
+layouts-len-requires : tie.Need-layouts-len-requires
+layouts-len-requires c κs = ?
+
+-- src/lengths.rt:138:5
+add-result : tie.Need-add-result
+add-result c = ?
+
+-- src/lengths.rt:140:11
+views-len-requires : tie.Need-views-len-requires
+views-len-requires c κs = ?
+
+-- src/lengths.rt:138:5
+add-result-2 : tie.Need-add-result-2
+add-result-2 c = ?
+
+-- src/lengths.rt:141:11
 steps-len-requires : tie.Need-steps-len-requires
-steps-len-requires c κs = search needs
+steps-len-requires c κs = ?
 
--- src/lengths.rt:136:5
+-- src/lengths.rt:138:5
 add-result-3 : tie.Need-add-result-3
-add-result-3 c = search needs
+add-result-3 c = ?
 
--- src/lengths.rt:129:1
+-- src/lengths.rt:131:1
 returns : tie.Need-returns
 returns c = ?
 
