@@ -1,9 +1,11 @@
 -- How many bytes each part of a sheet takes.
-use Prim.Native.Nat.{ℕ, _+_, _*_}
+use Prim.Native.Nat.{ℕ, _+_, _*_, _≤_}
 use mathlib.Core.Path.{_≡_, refl}
+use mathlib.Core.Bool.{Bool}
 use mathlib.Core.List.{List, [], _∷_, _++_}
 use native.Mathlib.Omega.{arith}
 use lib.ListN.{length, getD, length-append}
+use Rattle.numbers.specs.Choice.{pick, pick-case}
 use Rattle.numbers.specs.Lists.{each, length-each}
 use Rattle.numbers.specs.Little.{u16Bytes, u32Bytes}
 use Rattle.sheet.specs.Codes.{clampCode}
@@ -13,7 +15,8 @@ use Rattle.sheet.specs.declared.Dimension.{Dimension}
 use Rattle.sheet.specs.declared.Layout.{Layout}
 use Rattle.sheet.specs.declared.ViewDimension.{ViewDimension}
 use Rattle.sheet.specs.declared.View.{View}
-use Rattle.sheet_writer.specs.Bytes.{fieldBytes, dimensionBytes, layoutBytes, viewDimensionBytes, clipBytes, viewBytes}
+use Rattle.sheet.specs.declared.Sheet.{Sheet}
+use Rattle.sheet_writer.specs.Bytes.{fieldBytes, dimensionBytes, layoutBytes, viewDimensionBytes, clipBytes, viewBytes, layoutField, viewField, stepField, sheetBytes}
 
 pub length-field : (tag : ℕ) (content : List ℕ) → length (fieldBytes tag content) ≡ 3 + length content
 unfolding fieldBytes
@@ -46,3 +49,11 @@ length-view v =
     let p = length-permutation (v .rank) (v .permutation) in
     let d = length-view-dimensions (sizedRank (v .sized) (v .rank)) (v .dimensions) in
     simp length-append (omega arith)
+
+pub sized-within : (sized : Bool) (rank : ℕ) → sizedRank sized rank ≤ rank
+unfolding sizedRank
+sized-within sized rank = pick-case (λ (n : ℕ). n ≤ rank) sized rank 0 (λ e. omega arith) (λ e. omega arith)
+
+pub length-sheet : (sh : Sheet) → length (sheetBytes sh) ≡ 4 + length (each (sh .layouts) (layoutField (sh .layout))) + length (each (sh .views) (viewField (sh .view))) + length (each (sh .steps) (stepField (sh .step)))
+unfolding sheetBytes fieldBytes
+length-sheet sh = simp length-append (omega arith)

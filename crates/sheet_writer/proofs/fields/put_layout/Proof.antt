@@ -1,3 +1,7 @@
+use denote.Ref.{now}
+use Rattle.sheet_writer.proofs.Puts.{field-put}
+use Rattle.sheet_writer.proofs.Counts.{length-field}
+use Rattle.sheet_writer.specs.Bytes.{layoutBytes}
 use native.Mathlib.Omega.{arith}
 use borrow.Author.Needs.{needs}
 use Rattle.sheet_writer.proofs.fields.put_layout.Statement.{statement}
@@ -15,7 +19,10 @@ layout-len-requires c κs = search needs
 
 -- src/fields.rt:95:5
 put-head-requires : tie.Need-put-head-requires
-put-head-requires c κs = ?
+put-head-requires c κs =
+    let x = c .before .before .before .args .l in
+    let e = length-field 0x10 (layoutBytes x) in
+    omega arith
 
 -- src/fields.rt:96:29
 add-put-layout-content : tie.Need-add-put-layout-content
@@ -23,7 +30,10 @@ add-put-layout-content c = search needs
 
 -- src/fields.rt:96:5
 put-layout-content-requires : tie.Need-put-layout-content-requires
-put-layout-content-requires c κs = ?
+put-layout-content-requires c κs =
+    let x = c .before .before .before .before .before .before .before .args .l in
+    let e = length-field 0x10 (layoutBytes x) in
+    (c .before .before .before .before .before .before .before .pre .0, omega arith)
 
 -- src/fields.rt:97:10
 field-len-requires : tie.Need-field-len-requires
@@ -39,7 +49,11 @@ same-length c = search needs
 
 -- src/fields.rt:90:1
 returns : tie.Need-returns
-returns c = ?
+returns c =
+    let a = c .before .before .before .before .before .before .before .before .before .before .before .args in
+    let x = a .l in
+    let e = length-field 0x10 (layoutBytes x) in
+    (omega arith, field-put (now (a .out)) (a .at) 0x10 (c .before .before .before .before .before .before .before .before .before .layout-len .result) (layoutBytes x) (c .before .before .before .before .before .before .before .before .before .layout-len .ensures) (c .before .before .before .before .before .before .before .put-head .ensures) (c .before .before .before .put-layout-content .ensures))
 
 pub put-layout-spec : {M : Type 1} → statement M
 put-layout-spec =

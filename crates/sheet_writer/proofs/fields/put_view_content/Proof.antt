@@ -1,3 +1,6 @@
+use denote.Ref.{now}
+use Rattle.sheet.specs.Views.{theViewDimension, sizedRank}
+use Rattle.sheet_writer.proofs.Counts.{length-view, length-permutation, length-view-dimensions, sized-within}
 use native.Mathlib.Omega.{arith}
 use borrow.Author.Needs.{needs}
 use Rattle.sheet_writer.proofs.fields.put_view_content.Statement.{statement}
@@ -21,7 +24,12 @@ sized-code-requires c κs = search needs
 
 -- src/fields.rt:161:5
 put-pair-requires : tie.Need-put-pair-requires
-put-pair-requires c κs = ?
+put-pair-requires c κs =
+    let v = c .before .before .before .before .before .before .before .before .args .v in
+    let sized = sizedRank (v .sized) (v .rank) in
+    let e = length-view v in
+    let p = length-permutation (v .rank) (v .permutation) in
+    omega arith
 
 -- src/fields.rt:162:26
 add-put-permutation : tie.Need-add-put-permutation
@@ -29,7 +37,12 @@ add-put-permutation c = search needs
 
 -- src/fields.rt:162:5
 put-permutation-requires : tie.Need-put-permutation-requires
-put-permutation-requires c κs = ?
+put-permutation-requires c κs =
+    let v = c .before .before .before .before .before .before .before .before .before .before .before .before .args .v in
+    let sized = sizedRank (v .sized) (v .rank) in
+    let e = length-view v in
+    let p = length-permutation (v .rank) (v .permutation) in
+    (c .before .before .before .before .before .before .before .before .before .before .before .before .pre .0, omega arith)
 
 -- src/fields.rt:163:15
 add-own : tie.Need-add-own
@@ -45,7 +58,15 @@ add-own-2 c = search needs
 
 -- src/fields.rt:164:5
 put-view-dimensions-requires : tie.Need-put-view-dimensions-requires
-put-view-dimensions-requires c κs = ?
+put-view-dimensions-requires c κs =
+    let v = c .before .before .before .before .before .before .before .before .before .before .before .before .before .before .before .before .args .v in
+    let sized = sizedRank (v .sized) (v .rank) in
+    let e = length-view v in
+    let p = length-permutation (v .rank) (v .permutation) in
+    let s = c .before .before .before .before .before .before .before .before .before .before .before .before .before .before .sized-rank .ensures in
+    let d = length-view-dimensions sized (v .dimensions) in
+    let w = sized-within (v .sized) (v .rank) in
+    rw s (omega arith, omega arith)
 
 -- src/fields.rt:165:26
 cast-clip : tie.Need-cast-clip
@@ -61,7 +82,14 @@ add-clip c = search needs
 
 -- src/fields.rt:166:5
 put-clip-requires : tie.Need-put-clip-requires
-put-clip-requires c κs = ?
+put-clip-requires c κs =
+    let v = c .before .before .before .before .before .before .before .before .before .before .before .before .before .before .before .before .before .before .before .before .args .v in
+    let sized = sizedRank (v .sized) (v .rank) in
+    let e = length-view v in
+    let p = length-permutation (v .rank) (v .permutation) in
+    let s = c .before .before .before .before .before .before .before .before .before .before .before .before .before .before .before .before .before .before .sized-rank .ensures in
+    let d = length-view-dimensions sized (v .dimensions) in
+    omega arith
 
 -- src/fields.rt:167:19
 add-put-clip : tie.Need-add-put-clip
@@ -69,7 +97,14 @@ add-put-clip c = search needs
 
 -- src/fields.rt:167:5
 put-clip-requires-2 : tie.Need-put-clip-requires-2
-put-clip-requires-2 c κs = ?
+put-clip-requires-2 c κs =
+    let v = c .before .before .before .before .before .before .before .before .before .before .before .before .before .before .before .before .before .before .before .before .before .before .before .before .args .v in
+    let sized = sizedRank (v .sized) (v .rank) in
+    let e = length-view v in
+    let p = length-permutation (v .rank) (v .permutation) in
+    let s = c .before .before .before .before .before .before .before .before .before .before .before .before .before .before .before .before .before .before .before .before .before .before .sized-rank .ensures in
+    let d = length-view-dimensions sized (v .dimensions) in
+    omega arith
 
 -- src/fields.rt:151:1
 same-length : tie.Need-same-length

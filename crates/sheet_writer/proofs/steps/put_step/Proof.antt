@@ -1,3 +1,7 @@
+use denote.Ref.{now}
+use Rattle.sheet_writer.proofs.Puts.{field-put}
+use Rattle.sheet_writer.proofs.Counts.{length-field}
+use Rattle.sheet_writer.specs.Bytes.{stepBytes, stepTag}
 use native.Mathlib.Omega.{arith}
 use borrow.Author.Needs.{needs}
 use Rattle.sheet_writer.proofs.steps.put_step.Statement.{statement}
@@ -20,7 +24,10 @@ step-tag-requires c κs = search needs
 
 -- src/steps.rt:152:5
 put-head-requires : tie.Need-put-head-requires
-put-head-requires c κs = ?
+put-head-requires c κs =
+    let x = c .before .before .before .before .args .s in
+    let e = length-field (stepTag x) (stepBytes x) in
+    omega arith
 
 -- src/steps.rt:153:27
 add-put-step-content : tie.Need-add-put-step-content
@@ -28,7 +35,10 @@ add-put-step-content c = search needs
 
 -- src/steps.rt:153:5
 put-step-content-requires : tie.Need-put-step-content-requires
-put-step-content-requires c κs = ?
+put-step-content-requires c κs =
+    let x = c .before .before .before .before .before .before .before .before .args .s in
+    let e = length-field (stepTag x) (stepBytes x) in
+    omega arith
 
 -- src/steps.rt:154:10
 field-len-requires : tie.Need-field-len-requires
@@ -44,7 +54,11 @@ same-length c = search needs
 
 -- src/steps.rt:147:1
 returns : tie.Need-returns
-returns c = ?
+returns c =
+    let a = c .before .before .before .before .before .before .before .before .before .before .before .before .args in
+    let x = a .s in
+    let e = length-field (stepTag x) (stepBytes x) in
+    (omega arith, field-put (now (a .out)) (a .at) (stepTag x) (c .before .before .before .before .before .before .before .before .before .before .step-len .result) (stepBytes x) (c .before .before .before .before .before .before .before .before .before .before .step-len .ensures) (rw (c .before .before .before .before .before .before .before .before .step-tag .ensures) at (c .before .before .before .before .before .before .before .put-head .ensures)) (c .before .before .before .put-step-content .ensures))
 
 pub put-step-spec : {M : Type 1} → statement M
 put-step-spec =
