@@ -1,3 +1,10 @@
+use lib.ListN.{length-append}
+use Prim.Native.Nat.{ℕ, _+_, _*_}
+use mathlib.Core.List.{[], _∷_, _++_}
+use lib.ListN.{getD}
+use Rattle.numbers.specs.Lists.{each, puts-after}
+use Rattle.sheet_writer.proofs.Puts.{puts-at}
+use Rattle.sheet_writer.specs.Bytes.{viewDimensionBytes, clipBytes, sizedCode, viewBytes}
 use denote.Ref.{now}
 use Rattle.sheet.specs.Views.{theViewDimension, sizedRank}
 use Rattle.sheet_writer.proofs.Counts.{length-view, length-permutation, length-view-dimensions, sized-within}
@@ -112,7 +119,24 @@ same-length c = search needs
 
 -- src/fields.rt:151:1
 returns : tie.Need-returns
-returns c = ?
+unfolding viewBytes clipBytes
+returns c =
+    let a = c .before .before .before .before .before .before .before .before .before .before .before .before .before .before .before .before .before .before .before .before .before .before .before .before .before .before .before .args in
+    let v = a .v in
+    let o = now (a .out) in
+    let s = c .before .before .before .before .before .before .before .before .before .before .before .before .before .before .before .before .before .before .before .before .before .before .before .before .before .sized-rank .ensures in
+    let p = length-permutation (v .rank) (v .permutation) in
+    let d = length-view-dimensions (sizedRank (v .sized) (v .rank)) (v .dimensions) in
+    let head = v .rank ∷ sizedCode (v .sized) ∷ [] in
+    let permutation = each (v .rank) (λ (k : ℕ). getD (v .permutation) k 0 ∷ []) in
+    let dimensions = each (sizedRank (v .sized) (v .rank)) (λ (k : ℕ). viewDimensionBytes (theViewDimension (v .dimensions) k)) in
+    puts-at o (a .at) (head ++ permutation ++ dimensions ++ clipBytes (v .rows)) (clipBytes (v .columns)) (simp length-append (omega arith))
+    (puts-at o (a .at) (head ++ permutation ++ dimensions) (clipBytes (v .rows)) (simp length-append (omega arith))
+    (puts-at o (a .at) (head ++ permutation) dimensions (omega arith)
+    (puts-after o (a .at) head permutation (rw (c .before .before .before .before .before .before .before .before .before .before .before .before .before .before .before .before .before .before .before .sized-code .ensures) at (c .before .before .before .before .before .before .before .before .before .before .before .before .before .before .before .before .before .before .put-pair .ensures)) (c .before .before .before .before .before .before .before .before .before .before .before .before .before .before .put-permutation .ensures))
+    (rw s at (c .before .before .before .before .before .before .before .before .before .before .put-view-dimensions .ensures)))
+    (c .before .before .before .before .before .before .put-clip .ensures))
+    (c .before .before .put-clip2 .ensures)
 
 pub put-view-content-spec : {M : Type 1} → statement M
 put-view-content-spec =

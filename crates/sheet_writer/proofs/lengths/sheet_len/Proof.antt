@@ -36,7 +36,7 @@ add-result-3 c = let n = writable-counts _ (c .before .before .before .before .b
 
 -- src/lengths.rt:131:1
 returns : tie.Need-returns
-returns c = ?
+returns c = let e = length-sheet (c .before .before .before .before .before .before .args .model) in omega arith
 
 pub sheet-len-spec : {M : Type 1} → statement M
 sheet-len-spec =
