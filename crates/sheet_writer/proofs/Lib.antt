@@ -1,0 +1,3 @@
+pub mod Counts
+pub mod Puts
+pub mod Writable

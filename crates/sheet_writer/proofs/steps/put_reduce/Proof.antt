@@ -1,0 +1,58 @@
+use denote.Ref.{now}
+use Rattle.numbers.specs.Lists.{puts-after}
+use mathlib.Core.List.{[], _∷_, _++_}
+use Rattle.sheet.specs.Codes.{reduceCode, combineCode}
+use native.Mathlib.Omega.{arith}
+use borrow.Author.Needs.{needs}
+use Rattle.sheet_writer.proofs.steps.put_reduce.Statement.{statement}
+use Rattle.sheet_writer.proofs.steps.put_reduce.Tie as tie
+use Rattle.sheet_writer.proofs.steps.put_reduce.Reads as reads
+use Rattle.sheet_writer.proofs.steps.put_reduce.Lts as lts
+use Rattle.sheet.proofs.codes.combine_code.Reads as combine-code-reads
+use Rattle.sheet.proofs.codes.reduce_code.Reads as reduce-code-reads
+use Rattle.sheet_writer.proofs.fields.put_pair.Reads as put-pair-reads
+use Rattle.sheet_writer.proofs.steps.put_four.Reads as put-four-reads
+
+-- src/steps.rt:103:5
+put-four-requires : tie.Need-put-four-requires
+put-four-requires c κs = search needs
+
+-- src/steps.rt:104:27
+add-put-pair : tie.Need-add-put-pair
+add-put-pair c = search needs
+
+-- src/steps.rt:104:35
+reduce-code-requires : tie.Need-reduce-code-requires
+reduce-code-requires c κs = search needs
+
+-- src/steps.rt:104:61
+combine-code-requires : tie.Need-combine-code-requires
+combine-code-requires c κs = search needs
+
+-- src/steps.rt:104:5
+put-pair-requires : tie.Need-put-pair-requires
+put-pair-requires c κs = search needs
+
+-- src/steps.rt:90:1
+same-length : tie.Need-same-length
+same-length c = search needs
+
+-- src/steps.rt:90:1
+returns : tie.Need-returns
+returns c =
+    let a = c .before .before .before .before .before .before .before .before .before .before .before .args in
+    puts-after (now (a .out)) (a .at) (a .result ∷ a .source ∷ a .rows ∷ a .columns ∷ []) (reduceCode (a .mode) ∷ combineCode (a .combine) ∷ [])
+    (c .before .before .before .before .before .before .before .before .put-four .ensures)
+    (rw (c .before .before .before .before .reduce-code .ensures, c .before .before .before .combine-code .ensures) at (c .before .before .put-pair .ensures))
+
+pub put-reduce-spec : {M : Type 1} → statement M
+put-reduce-spec =
+    tie.close
+    (tie.spec
+    put-four-requires
+    add-put-pair
+    reduce-code-requires
+    combine-code-requires
+    put-pair-requires
+    same-length
+    returns)
