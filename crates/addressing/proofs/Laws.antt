@@ -16,6 +16,7 @@ use Rattle.numbers.specs.Choice.{pick, pick-case}
 use Rattle.sheet.specs.Facts.{InSize, layout-span, view-most, view-size}
 use Rattle.sheet.specs.Views.{theViewDimension}
 use Rattle.addressing.specs.Valid.{ValidAccess, Planned}
+use Rattle.addressing.specs.Remainder.{remainder-lt}
 use Rattle.addressing.specs.declared.Plan.{Plan}
 use Rattle.addressing.specs.declared.Clipped.{Clipped}
 use Rattle.sheet.specs.declared.ClampMode.{ClampMode}
@@ -51,10 +52,6 @@ set-below m l j x h below i =
     (λ t. let q : i ≡ j = eqb-true i j t in
     by-test (ltb j (length l)) (λ s. rw (q, getD-set-same l j x 0 (ltb-true _ _ s)) h) (λ s. rw (set-out l j x (ltb-false _ _ s)) (below i)))
     (λ t. rw (getD-set-other l j i x 0 (eqb-false i j t)) (below i))
-
-pub remainder-lt : (c : ℤ) {n : ℕ} → 0 < n → remainder c n < n
-remainder-lt (pos a) {n} h = mod-lt a h
-remainder-lt (negsuc a) {n} h = omega arith
 
 -- Rule 2: the row-major stride of dimension i of n
 module _ (span : ℕ → ℕ) (i : ℕ) where
@@ -241,10 +238,10 @@ pub view-sizes-in : (a : Access) → ValidAccess a → a .viewed ≡ true → (i
     → InSize (getD (viewSizes (a .layout) (a .view)) i 0)
 unfolding viewSizes
 view-sizes-in a ok e i h =
-    let m : i < 5 = omega (arith, view-most (a .view) (ok .view e)) in
+    let m : i < 5 = omega (arith, view-most (a .view) (ok .sized .view e)) in
     pick-case (λ (l : List ℕ). InSize (getD l i 0)) (a .view .sized) _ _
-    (λ t. rw (five-at (λ (k : ℕ). theViewDimension (a .view .dimensions) k .size) i m) (view-size (a .view) (ok .view e) i h t))
-    (λ t. rw (five-at (spanOf (a .layout)) i m) (layout-span (a .layout) (ok .layout) i (omega (arith, ok .ranks e t))))
+    (λ t. rw (five-at (λ (k : ℕ). theViewDimension (a .view .dimensions) k .size) i m) (view-size (a .view) (ok .sized .view e) i h t))
+    (λ t. rw (five-at (spanOf (a .layout)) i m) (layout-span (a .layout) (ok .sized .layout) i (omega (arith, ok .ranks e t))))
 
 -- the parts of a plan
 module _ (p : Plan) (ok : Planned p) where
@@ -263,3 +260,7 @@ module _ (p : Plan) (ok : Planned p) where
   pub plan-fill : p .fill ≡ lowBits (p .access)
   unfolding planned
   plan-fill = ap (λ (q : Plan). q .fill) (ok .same)
+
+-- a fact, and what follows from it
+pub and-so : {P Q : Type 0} → P → (P → Q) → P × Q
+and-so p f = (p, f p)

@@ -3,9 +3,9 @@ ghost use mathlib.Core.Path.{_≡_};
 ghost use Prim.Native.Nat.{_≤_, _<_};
 ghost use lib.IntN.{ℤ, pos, _+ℤ_};
 ghost use Rattle.addressing.specs.Rules.{twos, integer, remainder, edge, mirrored, onLoad, onStore, outside, clamped};
-use sheet::ClampMode;
 use super::Clamped;
 use super::Coordinate;
+use sheet::ClampMode;
 
 // A span coordinate plus a signed offset.
 pub fn shifted(s: u32, raw: u32) -> Coordinate

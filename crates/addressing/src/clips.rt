@@ -2,10 +2,10 @@
 ghost use mathlib.Core.Path.{_≡_};
 ghost use Prim.Native.Nat.{_≤_, _<_};
 ghost use Rattle.addressing.specs.Rules.{outsideClip, clipped};
-use sheet::Clip;
-use sheet::View;
 use super::Clipped;
 use super::wide;
+use sheet::Clip;
+use sheet::View;
 
 fn outside_clip(c: Clip, x: u32) -> bool
     ensures { λ r. ⌜ r ≡ outsideClip c x ⌝ }

@@ -4,10 +4,12 @@ ghost use Prim.Native.Nat.{ℕ, _+_, _*_, _^_, _%_, _≤_, _<_, min};
 ghost use lib.ListN.{getD};
 ghost use Rattle.addressing.specs.Rules.{lowBits, addressed, reached, located, refused, answered, planned};
 ghost use Rattle.addressing.specs.Valid.{ValidAccess, Planned};
+
 pub mod clamps;
 pub mod clips;
 pub mod tensors;
 pub mod views;
+
 use outcomes::Outcome;
 use sheet::Layout;
 use sheet::View;
@@ -90,7 +92,7 @@ fn low_bits(value: u32, size: usize) -> u32
 // What is found out once for all elements of an access to a matrix of `columns` columns.
 pub fn plan_of(a: Access, columns: u32) -> Plan
     requires { ⌜ ValidAccess a ⌝ }
-    ensures { λ r. ⌜ (r ≡ planned a columns) × ((i : ℕ) → getD (r .strides) i 0 ≤ 4096 ^ 4) ⌝ }
+    ensures { λ r. ⌜ (r ≡ planned a columns) × Planned r ⌝ }
 {
     let l = a.layout;
     let v = a.view;

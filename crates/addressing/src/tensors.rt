@@ -7,13 +7,13 @@ ghost use Rattle.sheet.specs.Layouts.{layoutOk, theDimension};
 ghost use Rattle.sheet.specs.Facts.{InSize};
 ghost use Rattle.addressing.specs.Rules.{spanCoordinates, part, tensorIndex};
 ghost use Rattle.addressing.specs.Valid.{AtMost};
-use sheet::ClampMode;
-use sheet::Dimension;
-use sheet::Layout;
 use super::Clamped;
 use super::clamps;
 use super::views;
 use super::wide;
+use sheet::ClampMode;
+use sheet::Dimension;
+use sheet::Layout;
 
 // Rule 3.
 pub fn span_coordinates(l: Layout, index: u32) -> [u32; 5]

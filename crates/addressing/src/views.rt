@@ -7,10 +7,10 @@ ghost use Rattle.sheet.specs.Layouts.{theDimension, layoutOk};
 ghost use Rattle.sheet.specs.Views.{theViewDimension, viewOk};
 ghost use Rattle.sheet.specs.Facts.{InSize};
 ghost use Rattle.addressing.specs.Rules.{five, spanOf, rowMajor, viewSizes, viewStrides, viewCoordinates, weighted, viewIndex};
+use super::wide;
 use sheet::Layout;
 use sheet::View;
 use sheet::ViewDimension;
-use super::wide;
 
 pub fn span_at(l: Layout, k: usize) -> u32
     requires { ⌜ k < 5 ⌝ }
@@ -23,7 +23,13 @@ pub fn span_at(l: Layout, k: usize) -> u32
 fn spans(l: Layout) -> [u32; 5]
     ensures { λ r. ⌜ r ≡ five (spanOf l) ⌝ }
 {
-    [span_at(l, 0), span_at(l, 1), span_at(l, 2), span_at(l, 3), span_at(l, 4)]
+    [
+        span_at(l, 0),
+        span_at(l, 1),
+        span_at(l, 2),
+        span_at(l, 3),
+        span_at(l, 4),
+    ]
 }
 
 fn size_at(v: View, k: usize) -> u32
@@ -38,7 +44,13 @@ pub fn view_sizes(l: Layout, v: View) -> [u32; 5]
     ensures { λ r. ⌜ r ≡ viewSizes l v ⌝ }
 {
     if v.sized {
-        [size_at(v, 0), size_at(v, 1), size_at(v, 2), size_at(v, 3), size_at(v, 4)]
+        [
+            size_at(v, 0),
+            size_at(v, 1),
+            size_at(v, 2),
+            size_at(v, 3),
+            size_at(v, 4),
+        ]
     } else {
         spans(l)
     }
@@ -72,9 +84,21 @@ pub fn view_strides(l: Layout, v: View) -> [u64; 5]
     ensures { λ r. ⌜ (r ≡ viewStrides l v) × ((i : ℕ) → getD r i 0 ≤ 4096 ^ 4) ⌝ }
 {
     if v.sized {
-        [stride_at(v, 0), stride_at(v, 1), stride_at(v, 2), stride_at(v, 3), stride_at(v, 4)]
+        [
+            stride_at(v, 0),
+            stride_at(v, 1),
+            stride_at(v, 2),
+            stride_at(v, 3),
+            stride_at(v, 4),
+        ]
     } else {
-        [row_major(l, 0), row_major(l, 1), row_major(l, 2), row_major(l, 3), row_major(l, 4)]
+        [
+            row_major(l, 0),
+            row_major(l, 1),
+            row_major(l, 2),
+            row_major(l, 3),
+            row_major(l, 4),
+        ]
     }
 }
 

@@ -15,7 +15,7 @@ use Rattle.addressing.proofs.views.view_index.Reads as view-index-reads
 
 -- src/lib.rt:168:15
 clip-index-requires : tie.Need-clip-index-requires
-clip-index-requires c κs = 
+clip-index-requires c κs =
     let s = c .before .before .before in
     (rw (plan-width (s .args .p) (s .pre .0)) (omega (arith, min-le-left (s .args .p .columns) (s .args .p .access .view .columns .span))), s .pre .2, s .pre .3)
 
@@ -33,44 +33,44 @@ enum-known-i c = search needs
 
 -- src/lib.rt:173:34
 view-index-requires : tie.Need-view-index-requires
-view-index-requires c κs = 
+view-index-requires c κs =
     let s = c .before .before .before .before .before .before .before .before .before in
     let e = c .before .before .before .before .before .before .before .if1 .taken in
-    (s .pre .0 .valid .view e, rw (plan-sizes (s .args .p) (s .pre .0)) (view-sizes-in (s .args .p .access) (s .pre .0 .valid) e), s .pre .0 .strides)
+    (s .pre .0 .valid .sized .view e, rw (plan-sizes (s .args .p) (s .pre .0)) (view-sizes-in (s .args .p .access) (s .pre .0 .valid) e), s .pre .0 .strides)
 
 -- src/lib.rt:173:17
 reach-requires : tie.Need-reach-requires
-reach-requires c κs = 
+reach-requires c κs =
     let s = c .before .before .before .before .before .before .before .before .before .before in
     (s .pre .0 .valid, plan-fill (s .args .p) (s .pre .0))
 
 -- src/lib.rt:177:27
 mul-reach : tie.Need-mul-reach
-mul-reach c = 
+mul-reach c =
     let s = c .before .before .before in
     omega (arith, sides (s .args .row) (s .args .p .columns) (s .pre .2) (s .pre .1))
 
 -- src/lib.rt:177:27
 add-reach : tie.Need-add-reach
-add-reach c = 
+add-reach c =
     let s = c .before .before .before in
     omega (arith, sides (s .args .row) (s .args .p .columns) (s .pre .2) (s .pre .1))
 
 -- src/lib.rt:177:26
 cast-reach : tie.Need-cast-reach
-cast-reach c = 
+cast-reach c =
     let s = c .before .before .before in
     omega (arith, sides (s .args .row) (s .args .p .columns) (s .pre .2) (s .pre .1))
 
 -- src/lib.rt:177:9
 reach-requires-2 : tie.Need-reach-requires-2
-reach-requires-2 c κs = 
+reach-requires-2 c κs =
     let s = c .before .before .before in
     (s .pre .0 .valid, plan-fill (s .args .p) (s .pre .0))
 
 -- src/lib.rt:161:1
 returns : tie.Need-returns
-returns c = 
+returns c =
     let s = c .before .before .before .before .before .before .before in
     c .answer .ensures
     ∙ located-through (s .args .p .access) _ _ _ Skipped (c .before .before .before .before .before .if1 .taken)
@@ -78,7 +78,7 @@ returns c =
 
 -- src/lib.rt:161:1
 returns-2 : tie.Need-returns-2
-returns-2 c = 
+returns-2 c =
     let s = c .before .before .before .before .before .before .before .before .before .before .before in
     let i = c .before .before .before .before .before .i in
     c .reach .ensures

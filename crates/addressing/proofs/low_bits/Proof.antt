@@ -17,7 +17,7 @@ returns-2 c = rw (c .if2 .taken)
 
 -- src/lib.rt:77:1
 returns-3 : tie.Need-returns-3
-returns-3 c = 
+returns-3 c =
     let a = c .before .before .args in
     let e : a .size ≡ 4 = omega arith in
     rw e (sym (mod-eq-of-lt (omega arith)))

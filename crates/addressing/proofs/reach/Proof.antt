@@ -32,9 +32,9 @@ span-coordinates-requires c κs = search needs
 
 -- src/lib.rt:152:11
 tensor-index-requires : tie.Need-tensor-index-requires
-tensor-index-requires c κs = 
+tensor-index-requires c κs =
     let s = c .before .before .before in
-    (s .pre .0 .layout, rw (c .span-coordinates .ensures) (span-coordinates-lt _ (s .pre .0 .layout) _))
+    (s .pre .0 .sized .layout, rw (c .span-coordinates .ensures) (span-coordinates-lt _ (s .pre .0 .sized .layout) _))
 
 -- src/lib.rt:153:29
 enum-told : tie.Need-enum-told
@@ -66,7 +66,7 @@ enum-known-t c = search needs
 
 -- src/lib.rt:156:27
 address-requires : tie.Need-address-requires
-address-requires c κs = 
+address-requires c κs =
     let m : c .before .t .given .0 .0 ≤ 5 * 2 ^ 28 = rw (c .before .t .given .1) at (c .before .before .before .tensor-index .ensures .1) in
     (c .before .before .before .before .before .before .before .pre .0, m)
 

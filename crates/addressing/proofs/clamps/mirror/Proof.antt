@@ -1,5 +1,5 @@
 use Prim.Native.Nat.{_*_, _-_}
-use Rattle.addressing.proofs.Laws.{remainder-lt}
+use Rattle.addressing.specs.Remainder.{remainder-lt}
 use mathlib.Core.Path.{refl}
 use borrow.Author.Tests.{eq-eqb, ne-eqb, le-leb, lt-leb}
 use Rattle.numbers.specs.Choice.{pick, taken, left, tests}
@@ -31,7 +31,7 @@ rest-requires c κs = search needs
 
 -- src/clamps.rt:55:17
 sub-result : tie.Need-sub-result
-sub-result c = 
+sub-result c =
     let a = c .before .before .before .args in
     rw (c .before .rest .ensures) (omega (arith, remainder-lt (integer (a .c)) {n = 2 * a .n - 2} (search needs)))
 

@@ -40,7 +40,7 @@ sub-t10 c = omega (arith, clip-low _ _ (went (c .before .before .before .before 
 
 -- src/clips.rt:33:20
 mul-t11 : tie.Need-mul-t11
-mul-t11 c = 
+mul-t11 c =
     let s = c .before .before .before .before .before .before .before in
     omega (arith, sides (s .args .row - c .wide .result) (s .args .width) (omega arith) (omega arith))
 
@@ -54,7 +54,7 @@ sub-t13 c = omega (arith, clip-low _ _ (went (c .before .before .before .outside
 
 -- src/clips.rt:33:20
 add-t14 : tie.Need-add-t14
-add-t14 c = 
+add-t14 c =
     let s = c .before .before .before .before .before .before .before .before in
     omega (arith, sides (s .args .row - c .before .wide .result) (s .args .width) (omega arith) (omega arith))
 

@@ -57,9 +57,12 @@ wide-requires-4 c κs = search needs
 
 -- src/tensors.rt:45:39
 mul-t13 : tie.Need-mul-t13
-mul-t13 c = 
-    omega (arith, scaled-le (c .before .wide3 .result)
-    (clamped-lt _ _ _ (c .before .before .before .before .before .before .wide2 .result) (omega arith) (sym (c .before .before .before .before .before .clamp .ensures) ∙ c .before .before .before .x .given .1)) (omega arith) (c .wide4 .ensures .1))
+mul-t13 c =
+    omega (
+      arith,
+      scaled-le (c .before .wide3 .result)
+          (clamped-lt _ _ _ (c .before .before .before .before .before .before .wide2 .result) (omega arith) (sym (c .before .before .before .before .before .clamp .ensures) ∙ c .before .before .before .x .given .1)) (omega arith) (c .wide4 .ensures .1),
+    )
 
 -- src/tensors.rt:36:1
 returns : tie.Need-returns
@@ -75,10 +78,11 @@ returns-3 c = (part-is _ _ _ _ {x = Filled} (cc), tt)
 
 -- src/tensors.rt:36:1
 returns-4 : tie.Need-returns-4
-returns-4 c = 
-    (rw (c .before .wide3 .ensures .0, c .wide4 .ensures .0) (part-is _ _ _ _ {x = At (c .before .before .before .x .given .0 .0)} (cc)),
-    scaled-le (c .before .wide3 .result)
-    (clamped-lt _ _ _ (c .before .before .before .before .before .before .wide2 .result) (omega arith) (sym (c .before .before .before .before .before .clamp .ensures) ∙ c .before .before .before .x .given .1)) (omega arith) (c .wide4 .ensures .1))
+returns-4 c = (
+  rw (c .before .wide3 .ensures .0, c .wide4 .ensures .0) (part-is _ _ _ _ {x = At (c .before .before .before .x .given .0 .0)} (cc)),
+  scaled-le (c .before .wide3 .result)
+      (clamped-lt _ _ _ (c .before .before .before .before .before .before .wide2 .result) (omega arith) (sym (c .before .before .before .before .before .clamp .ensures) ∙ c .before .before .before .x .given .1)) (omega arith) (c .wide4 .ensures .1),
+)
 
 pub part-spec : {M : Type 1} → statement M
 part-spec =

@@ -36,7 +36,7 @@ span-at-requires c κs = omega (arith, layout-most (c .before .before .before .a
 
 -- src/tensors.rt:28:17
 rem-cs : tie.Need-rem-cs Inv-loop μ-loop
-rem-cs c = 
+rem-cs c =
     let s = c .before .before .before .before in
     rw (c .span-at .ensures) (layout-span (s .args .l) (s .pre) (c .before .before .loop .d - 1) (omega arith) .some)
 
@@ -50,7 +50,7 @@ array-write-cs c = omega (arith, layout-most (c .before .before .before .before 
 
 -- src/tensors.rt:29:9
 div-left : tie.Need-div-left Inv-loop μ-loop
-div-left c = 
+div-left c =
     let s = c .before .before .before .before in
     rw (c .span-at .ensures) (layout-span (s .args .l) (s .pre) (c .before .before .loop .d - 1) (omega arith) .some)
 
@@ -60,9 +60,10 @@ loop-less c = search needs
 
 -- src/tensors.rt:25:5
 loop-again : tie.Need-loop-again Inv-loop μ-loop
-loop-again c = 
-    (omega arith,
-    rw (c .span-at .ensures) (coordinates-more (λ (i : ℕ). i) (spanOf (c .before .before .before .before .args .l)) _ _ _ (omega arith) ∙ c .before .before .loop .inv .1))
+loop-again c = (
+  omega arith,
+  rw (c .span-at .ensures) (coordinates-more (λ (i : ℕ). i) (spanOf (c .before .before .before .before .args .l)) _ _ _ (omega arith) ∙ c .before .before .loop .inv .1),
+)
 
 -- src/tensors.rt:18:1
 returns : tie.Need-returns Inv-loop μ-loop

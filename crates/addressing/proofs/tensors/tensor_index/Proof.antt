@@ -46,7 +46,7 @@ array-read-part c = omega (arith, layout-most (c .before .before .before .args .
 
 -- src/tensors.rt:58:15
 part-requires : tie.Need-part-requires Inv-loop μ-loop
-part-requires c κs = 
+part-requires c κs =
     let s = c .before .before .before in
     let d = c .before .before .loop .d in
     (layout-size (s .args .t2) (s .pre .0) d (omega arith), layout-block (s .args .t2) (s .pre .0) d (omega arith), s .pre .1 d)
@@ -57,7 +57,7 @@ enum-told c = search needs
 
 -- src/tensors.rt:59:33
 returns : tie.Need-returns Inv-loop μ-loop
-returns c = 
+returns c =
     let i = c .before .before .before .before .before .loop in
     (tensor-stop _ _ _ Refused (λ y. refl) (λ a. refl) (i .d) _ (i .sum) (omega arith) (i .inv .2) (sym (c .before .before .part .ensures .0) ∙ c .enum-told .given .1), tt)
 
@@ -67,7 +67,7 @@ enum-told-2 c = search needs
 
 -- src/tensors.rt:60:35
 returns-2 : tie.Need-returns-2 Inv-loop μ-loop
-returns-2 c = 
+returns-2 c =
     let i = c .before .before .before .before .before .loop in
     (tensor-stop _ _ _ Discarded (λ y. refl) (λ a. refl) (i .d) _ (i .sum) (omega arith) (i .inv .2) (sym (c .before .before .part .ensures .0) ∙ c .enum-told2 .given .1), tt)
 
@@ -77,7 +77,7 @@ enum-told-3 c = search needs
 
 -- src/tensors.rt:61:32
 returns-3 : tie.Need-returns-3 Inv-loop μ-loop
-returns-3 c = 
+returns-3 c =
     let i = c .before .before .before .before .before .loop in
     (tensor-stop _ _ _ Filled (λ y. refl) (λ a. refl) (i .d) _ (i .sum) (omega arith) (i .inv .2) (sym (c .before .before .part .ensures .0) ∙ c .enum-told3 .given .1), tt)
 
@@ -87,7 +87,7 @@ enum-known-x c = search needs
 
 -- src/tensors.rt:62:31
 add-sum : tie.Need-add-sum Inv-loop μ-loop
-add-sum c = 
+add-sum c =
     let p = c .before .before .before .part in
     let m : c .before .x .given .0 .0 ≤ 2 ^ 28 = rw (c .before .x .given .1) at (p .ensures .1) in
     let s = c .before .before .before .before .before .before .before in
@@ -103,7 +103,7 @@ loop-less c = search needs
 
 -- src/tensors.rt:57:5
 loop-again : tie.Need-loop-again Inv-loop μ-loop
-loop-again c = 
+loop-again c =
     let p = c .before .before .before .part in
     let i = c .before .before .before .before .before .before .loop in
     let m : c .before .x .given .0 .0 ≤ 2 ^ 28 = rw (c .before .x .given .1) at (p .ensures .1) in
@@ -111,7 +111,7 @@ loop-again c =
 
 -- src/tensors.rt:50:1
 returns-4 : tie.Need-returns-4 Inv-loop μ-loop
-returns-4 c = 
+returns-4 c =
     let s = c .before .before in
     let e : c .before .loop .d ≡ s .args .t2 .rank = omega arith in
     (rw e at (c .before .loop .inv .2), omega (arith, layout-most (s .args .t2) (s .pre .0)))

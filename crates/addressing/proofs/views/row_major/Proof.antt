@@ -41,13 +41,16 @@ cast-product c = search needs
 
 -- src/views.rt:56:9
 mul-product : tie.Need-mul-product Inv-loop μ-loop
-mul-product c = 
+mul-product c =
     let s = c .before .before .before .before in
     let j = c .before .before .loop .j in
     rw (c .before .before .loop .inv .2, c .span-at .ensures)
-    (omega (arith, mul-le-mul
-    (row-major-most (spanOf (s .args .l)) (s .args .i) j (omega arith) (omega (arith, layout-most (s .args .l) (s .pre .0))) (λ k h. layout-span (s .args .l) (s .pre .0) k (omega arith) .most))
-    (layout-span (s .args .l) (s .pre .0) j (omega arith) .most)))
+    (omega (
+      arith,
+      mul-le-mul
+          (row-major-most (spanOf (s .args .l)) (s .args .i) j (omega arith) (omega (arith, layout-most (s .args .l) (s .pre .0))) (λ k h. layout-span (s .args .l) (s .pre .0) k (omega arith) .most))
+          (layout-span (s .args .l) (s .pre .0) j (omega arith) .most),
+    ))
 
 -- src/views.rt:57:9
 add-j-2 : tie.Need-add-j-2 Inv-loop μ-loop
@@ -59,18 +62,21 @@ loop-less c = omega arith
 
 -- src/views.rt:55:5
 loop-again : tie.Need-loop-again Inv-loop μ-loop
-loop-again c = 
-    (omega arith, inl (omega arith),
-    rw (c .before .before .loop .inv .2, c .span-at .ensures) (sym (row-major-more _ _ _ (c .before .before .loop .inv .0))))
+loop-again c = (
+  omega arith,
+  inl (omega arith),
+  rw (c .before .before .loop .inv .2, c .span-at .ensures) (sym (row-major-more _ _ _ (c .before .before .loop .inv .0))),
+)
 
 -- src/views.rt:48:1
 returns : tie.Need-returns Inv-loop μ-loop
-returns c = 
+returns c =
     let s = c .before .before .before in
     let e : c .before .loop .product ≡ rowMajor (spanOf (s .args .l)) (s .args .l .rank) (s .args .i) =
-        c .before .loop .inv .2 ∙ row-major-end _ _ _ _ (omega arith) (c .before .loop .inv .1) in
-    (e,
-    rw e (row-major-most (spanOf (s .args .l)) (s .args .i) (s .args .l .rank) (layout-some (s .args .l) (s .pre .0)) (layout-most (s .args .l) (s .pre .0)) (λ k h. layout-span (s .args .l) (s .pre .0) k h .most)))
+    c .before .loop .inv .2 ∙ row-major-end _ _ _ _ (omega arith) (c .before .loop .inv .1) in (
+      e,
+      rw e (row-major-most (spanOf (s .args .l)) (s .args .i) (s .args .l .rank) (layout-some (s .args .l) (s .pre .0)) (layout-most (s .args .l) (s .pre .0)) (λ k h. layout-span (s .args .l) (s .pre .0) k h .most)),
+    )
 
 pub row-major-spec : {M : Type 1} → statement M
 row-major-spec =

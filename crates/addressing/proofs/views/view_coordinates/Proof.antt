@@ -36,43 +36,43 @@ element-copy-out-i c = omega (arith, view-most (c .before .before .args .t1) (c 
 
 -- src/views.rt:91:17
 cast-i : tie.Need-cast-i Inv-loop μ-loop
-cast-i c = 
+cast-i c =
     let s = c .before .before .before in
     omega (arith, view-most (s .args .t1) (s .pre .0), view-entry (s .args .t1) (s .pre .0) (c .before .before .loop .k - 1) (omega arith))
 
 -- src/views.rt:92:20
 mul-size : tie.Need-mul-size Inv-loop μ-loop
-mul-size c = 
+mul-size c =
     let s = c .before .before .before in
     omega (arith, view-most (s .args .t1) (s .pre .0), view-entry (s .args .t1) (s .pre .0) (c .before .before .loop .k - 1) (omega arith))
 
 -- src/views.rt:92:20
 array-read-size : tie.Need-array-read-size Inv-loop μ-loop
-array-read-size c = 
+array-read-size c =
     let s = c .before .before .before in
     omega (arith, view-most (s .args .t1) (s .pre .0), view-entry (s .args .t1) (s .pre .0) (c .before .before .loop .k - 1) (omega arith))
 
 -- src/views.rt:93:17
 rem-cs : tie.Need-rem-cs Inv-loop μ-loop
-rem-cs c = 
+rem-cs c =
     let s = c .before .before .before in
     s .pre .1 _ (view-entry (s .args .t1) (s .pre .0) (c .before .before .loop .k - 1) (omega arith)) .some
 
 -- src/views.rt:93:9
 mul-cs : tie.Need-mul-cs Inv-loop μ-loop
-mul-cs c = 
+mul-cs c =
     let s = c .before .before .before in
     omega (arith, view-most (s .args .t1) (s .pre .0), view-entry (s .args .t1) (s .pre .0) (c .before .before .loop .k - 1) (omega arith))
 
 -- src/views.rt:93:9
 array-write-cs : tie.Need-array-write-cs Inv-loop μ-loop
-array-write-cs c = 
+array-write-cs c =
     let s = c .before .before .before in
     omega (arith, view-most (s .args .t1) (s .pre .0), view-entry (s .args .t1) (s .pre .0) (c .before .before .loop .k - 1) (omega arith))
 
 -- src/views.rt:94:9
 div-left : tie.Need-div-left Inv-loop μ-loop
-div-left c = 
+div-left c =
     let s = c .before .before .before in
     s .pre .1 _ (view-entry (s .args .t1) (s .pre .0) (c .before .before .loop .k - 1) (omega arith)) .some
 
@@ -82,10 +82,11 @@ loop-less c = search needs
 
 -- src/views.rt:89:5
 loop-again : tie.Need-loop-again Inv-loop μ-loop
-loop-again c = 
-    let s = c .before .before .before in
-    (omega arith,
-    coordinates-more (λ (j : ℕ). getD (s .args .t1 .permutation) j 0) (λ (i : ℕ). getD (s .args .t2) i 0) _ _ _ (omega arith) ∙ c .before .before .loop .inv .1)
+loop-again c =
+    let s = c .before .before .before in (
+      omega arith,
+      coordinates-more (λ (j : ℕ). getD (s .args .t1 .permutation) j 0) (λ (i : ℕ). getD (s .args .t2) i 0) _ _ _ (omega arith) ∙ c .before .before .loop .inv .1,
+    )
 
 -- src/views.rt:82:1
 returns : tie.Need-returns Inv-loop μ-loop

@@ -22,10 +22,11 @@ cast-rank c = search needs
 -- src/views.rt:125:5
 weighted-requires : tie.Need-weighted-requires
 unfolding viewCoordinates
-weighted-requires c κs = let s = c .before .before in
-    (view-most (s .args .v) (s .pre .0),
-    rw (c .before .view-coordinates .ensures) (coordinates-lt _ _ _ _ _ (λ k h. s .pre .1 _ (view-entry (s .args .v) (s .pre .0) k h)) zeros-lt),
-    s .pre .2)
+weighted-requires c κs = let s = c .before .before in (
+  view-most (s .args .v) (s .pre .0),
+  rw (c .before .view-coordinates .ensures) (coordinates-lt _ _ _ _ _ (λ k h. s .pre .1 _ (view-entry (s .args .v) (s .pre .0) k h)) zeros-lt),
+  s .pre .2,
+)
 
 -- src/views.rt:119:1
 returns : tie.Need-returns

@@ -54,16 +54,18 @@ row-major-requires-5 c κs = search needs
 -- src/views.rt:70:1
 returns : tie.Need-returns
 unfolding viewStrides
-returns c = let s = c .before .before .before .before in
-    (taken _ (s .before .if1 .taken) (cc),
-    five-most (4096 ^ 4) (s .stride-at .ensures .1) (c .before .before .before .stride-at2 .ensures .1) (c .before .before .stride-at3 .ensures .1) (c .before .stride-at4 .ensures .1) (c .stride-at5 .ensures .1))
+returns c = let s = c .before .before .before .before in (
+  taken _ (s .before .if1 .taken) (cc),
+  five-most (4096 ^ 4) (s .stride-at .ensures .1) (c .before .before .before .stride-at2 .ensures .1) (c .before .before .stride-at3 .ensures .1) (c .before .stride-at4 .ensures .1) (c .stride-at5 .ensures .1),
+)
 
 -- src/views.rt:70:1
 returns-2 : tie.Need-returns-2
 unfolding viewStrides
-returns-2 c = let s = c .before .before .before .before in
-    (left _ (s .before .if1 .left) (cc),
-    five-most (4096 ^ 4) (s .row-major .ensures .1) (c .before .before .before .row-major2 .ensures .1) (c .before .before .row-major3 .ensures .1) (c .before .row-major4 .ensures .1) (c .row-major5 .ensures .1))
+returns-2 c = let s = c .before .before .before .before in (
+  left _ (s .before .if1 .left) (cc),
+  five-most (4096 ^ 4) (s .row-major .ensures .1) (c .before .before .before .row-major2 .ensures .1) (c .before .before .row-major3 .ensures .1) (c .before .row-major4 .ensures .1) (c .row-major5 .ensures .1),
+)
 
 pub view-strides-spec : {M : Type 1} → statement M
 view-strides-spec =

@@ -44,14 +44,14 @@ array-read-sum c = search needs
 
 -- src/views.rt:113:16
 mul-sum-2 : tie.Need-mul-sum-2 Inv-loop μ-loop
-mul-sum-2 c = 
+mul-sum-2 c =
     let s = c .before .before .before in
     let i = c .before .before .loop .i in
     rw (c .long .ensures) (omega (arith, mul-le-mul (le-of-lt (s .pre .1 i)) (s .pre .2 i)))
 
 -- src/views.rt:113:9
 add-sum : tie.Need-add-sum Inv-loop μ-loop
-add-sum c = 
+add-sum c =
     let s = c .before .before .before in
     let i = c .before .before .loop .i in
     rw (c .long .ensures) (omega (arith, mul-le-mul (le-of-lt (s .pre .1 i)) (s .pre .2 i)))
@@ -66,16 +66,17 @@ loop-less c = search needs
 
 -- src/views.rt:112:5
 loop-again : tie.Need-loop-again Inv-loop μ-loop
-loop-again c = 
+loop-again c =
     let s = c .before .before .before in
-    let i = c .before .before .loop .i in
-    (omega arith,
-    rw (c .long .ensures) (omega (arith, mul-le-mul (le-of-lt (s .pre .1 i)) (s .pre .2 i))),
-    rw (c .long .ensures, c .before .before .loop .inv .2) (weighted-more _ _ _))
+    let i = c .before .before .loop .i in (
+      omega arith,
+      rw (c .long .ensures) (omega (arith, mul-le-mul (le-of-lt (s .pre .1 i)) (s .pre .2 i))),
+      rw (c .long .ensures, c .before .before .loop .inv .2) (weighted-more _ _ _),
+    )
 
 -- src/views.rt:106:1
 returns : tie.Need-returns Inv-loop μ-loop
-returns c = 
+returns c =
     let e : c .before .loop .i ≡ c .before .before .args .n = omega arith in
     rw (← e) (c .before .loop .inv .2)
 
