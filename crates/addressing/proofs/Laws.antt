@@ -1,6 +1,6 @@
 -- Laws of the rules' definitions.
 use Prim.Native.Nat.{ℕ, zero, suc, _+_, _-_, _*_, _/_, _%_, _^_, _<_, _≤_, zero-le}
-use mathlib.Core.Path.{_≡_, refl, sym, _∙_}
+use mathlib.Core.Path.{_≡_, refl, sym, ap, _∙_}
 use mathlib.Core.Bool.{Bool, true, false, true≢false}
 use mathlib.Core.Logic.{_⊎_, ⊎-elim}
 use native.Mathlib.Nat.{mod-lt, mul-le-mul, pow-suc, pow-le-pow-right, le-trans, not-suc-le-zero, div-le-self}
@@ -13,7 +13,12 @@ use lib.Seq.{getD-set-same, getD-set-other, set-out}
 use mathlib.Core.List.{List, [], _∷_}
 use borrow.Author.Tests.{lt-ltb, le-ltb, le-leb, lt-leb, ltb-true, ltb-false, leb-true, leb-false, eqb-true, eqb-false}
 use Rattle.numbers.specs.Choice.{pick, pick-case}
-use Rattle.sheet.specs.Facts.{InSize, layout-span}
+use Rattle.sheet.specs.Facts.{InSize, layout-span, view-most, view-size}
+use Rattle.sheet.specs.Views.{theViewDimension}
+use Rattle.addressing.specs.Valid.{ValidAccess, Planned}
+use Rattle.addressing.specs.Remainder.{remainder-lt}
+use Rattle.addressing.specs.declared.Plan.{Plan}
+use Rattle.addressing.specs.declared.Clipped.{Clipped}
 use Rattle.sheet.specs.declared.ClampMode.{ClampMode}
 use Rattle.sheet.specs.declared.ClampMode.the-variants.{Undefined, Constant, ClampToEdge, Repeat, MirrorRepeat}
 use Rattle.sheet.specs.declared.Clip.{Clip}
@@ -23,7 +28,7 @@ use Rattle.sheet.specs.Layouts.{theDimension, layoutOk}
 use Rattle.addressing.specs.declared.Access.{Access}
 use Rattle.addressing.specs.declared.Clamped.{Clamped}
 use Rattle.addressing.specs.declared.Clamped.the-variants.{Refused, Discarded, Filled, At}
-use Rattle.addressing.specs.Rules.{outsideClip, rowMajor, coordinates, weighted, twos, remainder, folded, mirrored, onLoad, onStore, outside, clamped, scaled, part, plus, tensorIndex, spanOf, spanCoordinates, refused, settled, reached}
+use Rattle.addressing.specs.Rules.{outsideClip, clipWidth, clipped, five, rowMajor, viewSizes, viewStrides, lowBits, throughView, located, planned, coordinates, weighted, twos, remainder, folded, mirrored, onLoad, onStore, outside, clamped, scaled, part, plus, tensorIndex, spanOf, spanCoordinates, refused, settled, reached}
 
 -- Rule 1: inside the clip the offset can be subtracted
 pub clip-low : (c : Clip) (x : ℕ) → outsideClip c x ≡ false → c .offset ≤ x
@@ -47,10 +52,6 @@ set-below m l j x h below i =
     (λ t. let q : i ≡ j = eqb-true i j t in
     by-test (ltb j (length l)) (λ s. rw (q, getD-set-same l j x 0 (ltb-true _ _ s)) h) (λ s. rw (set-out l j x (ltb-false _ _ s)) (below i)))
     (λ t. rw (getD-set-other l j i x 0 (eqb-false i j t)) (below i))
-
-pub remainder-lt : (c : ℤ) {n : ℕ} → 0 < n → remainder c n < n
-remainder-lt (pos a) {n} h = mod-lt a h
-remainder-lt (negsuc a) {n} h = omega arith
 
 -- Rule 2: the row-major stride of dimension i of n
 module _ (span : ℕ → ℕ) (i : ℕ) where
@@ -90,6 +91,14 @@ five-most m p q r s t (suc (suc zero)) = r
 five-most m p q r s t (suc (suc (suc zero))) = s
 five-most m p q r s t (suc (suc (suc (suc zero)))) = t
 five-most m p q r s t (suc (suc (suc (suc (suc i))))) = zero-le
+
+pub five-at : (g : ℕ → ℕ) (i : ℕ) → i < 5 → getD (five g) i 0 ≡ g i
+five-at g zero h = refl
+five-at g (suc zero) h = refl
+five-at g (suc (suc zero)) h = refl
+five-at g (suc (suc (suc zero))) h = refl
+five-at g (suc (suc (suc (suc zero)))) h = refl
+five-at g (suc (suc (suc (suc (suc i))))) h = absurd (omega arith)
 
 -- Rules 2 and 3: a loop from dimension k - 1 on, and its end
 module _ (place size : ℕ → ℕ) where
@@ -214,3 +223,44 @@ module _ (a : Access) where
       → tensorIndex (a .load) (a .layout) (spanCoordinates (a .layout) index) (a .layout .rank) ≡ x → settled a x ≡ reached a index
   unfolding reached pick
   reached-is index x h e = rw (lt-leb _ _ h, e)
+
+  module _ (n row col : ℕ) where
+    pub located-plain : a .viewed ≡ false → reached a (row * n + col) ≡ located a n row col
+    unfolding located pick
+    located-plain e = rw e
+
+    pub located-through : (x : Clipped) → a .viewed ≡ true → clipped (a .view) (clipWidth (a .view) n) row col ≡ x → throughView a x ≡ located a n row col
+    unfolding located pick
+    located-through x e f = rw (e, f)
+
+-- Rule 2: the sizes of a view's dimensions
+pub view-sizes-in : (a : Access) → ValidAccess a → a .viewed ≡ true → (i : ℕ) → i < a .view .rank
+    → InSize (getD (viewSizes (a .layout) (a .view)) i 0)
+unfolding viewSizes
+view-sizes-in a ok e i h =
+    let m : i < 5 = omega (arith, view-most (a .view) (ok .sized .view e)) in
+    pick-case (λ (l : List ℕ). InSize (getD l i 0)) (a .view .sized) _ _
+    (λ t. rw (five-at (λ (k : ℕ). theViewDimension (a .view .dimensions) k .size) i m) (view-size (a .view) (ok .sized .view e) i h t))
+    (λ t. rw (five-at (spanOf (a .layout)) i m) (layout-span (a .layout) (ok .sized .layout) i (omega (arith, ok .ranks e t))))
+
+-- the parts of a plan
+module _ (p : Plan) (ok : Planned p) where
+  pub plan-width : p .width ≡ clipWidth (p .access .view) (p .columns)
+  unfolding planned
+  plan-width = ap (λ (q : Plan). q .width) (ok .same)
+
+  pub plan-sizes : p .sizes ≡ viewSizes (p .access .layout) (p .access .view)
+  unfolding planned
+  plan-sizes = ap (λ (q : Plan). q .sizes) (ok .same)
+
+  pub plan-strides : p .strides ≡ viewStrides (p .access .layout) (p .access .view)
+  unfolding planned
+  plan-strides = ap (λ (q : Plan). q .strides) (ok .same)
+
+  pub plan-fill : p .fill ≡ lowBits (p .access)
+  unfolding planned
+  plan-fill = ap (λ (q : Plan). q .fill) (ok .same)
+
+-- a fact, and what follows from it
+pub and-so : {P Q : Type 0} → P → (P → Q) → P × Q
+and-so p f = (p, f p)

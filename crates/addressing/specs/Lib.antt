@@ -1,2 +1,4 @@
 pub mod Rules
+pub mod Remainder
 pub mod Valid
+pub mod Sound

@@ -11,15 +11,19 @@ use Rattle.addressing.specs.declared.Clamped.{Clamped}
 use Rattle.addressing.specs.declared.Clamped.the-variants.{Refused, Discarded, Filled, At}
 use Rattle.addressing.specs.Rules.{planned}
 
--- the layout and the view keep to Sizes, a view without dimensions has the layout's count (refusal 10), an element is 1, 2 or 4 bytes
-pub record ValidAccess (a : Access) : Type 0 where
+-- the layout, the view and the memory keep to Sizes, and an element is 1, 2 or 4 bytes
+pub record SizedAccess (a : Access) : Type 0 where
   pub layout : layoutOk (a .layout) ≡ true
   pub view : a .viewed ≡ true → viewOk (a .view) ≡ true
-  pub ranks : a .viewed ≡ true → a .view .sized ≡ false → a .view .rank ≡ a .layout .rank
   pub some : 0 < a .size
   pub most : a .size ≤ 4
   pub odd : a .size ≡ 3 → ⊥
   pub memory : a .memory ≤ 65536
+
+-- besides, a view without dimensions has the layout's dimension count (no refusal 10)
+pub record ValidAccess (a : Access) : Type 0 where
+  pub sized : SizedAccess a
+  pub ranks : a .viewed ≡ true → a .view .sized ≡ false → a .view .rank ≡ a .layout .rank
 
 -- a plan is what its access and its columns make; a stride is a 16-bit number, or a product of at most four spans
 pub record Planned (p : Plan) : Type 0 where

@@ -92,7 +92,7 @@ fn low_bits(value: u32, size: usize) -> u32
 // What is found out once for all elements of an access to a matrix of `columns` columns.
 pub fn plan_of(a: Access, columns: u32) -> Plan
     requires { ⌜ ValidAccess a ⌝ }
-    ensures { λ r. ⌜ (r ≡ planned a columns) × ((i : ℕ) → getD (r .strides) i 0 ≤ 4096 ^ 4) ⌝ }
+    ensures { λ r. ⌜ (r ≡ planned a columns) × Planned r ⌝ }
 {
     let l = a.layout;
     let v = a.view;

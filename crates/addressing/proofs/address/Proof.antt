@@ -20,21 +20,21 @@ cast-byte c = search needs
 mul-byte : tie.Need-mul-byte
 mul-byte c =
     let s = c .before in
-    let m : s .args .t * s .args .a .size ≤ 5 * 2 ^ 28 * 4 = mul-le-mul (s .pre .1) (s .pre .0 .most) in
+    let m : s .args .t * s .args .a .size ≤ 5 * 2 ^ 28 * 4 = mul-le-mul (s .pre .1) (s .pre .0 .sized .most) in
     omega arith
 
 -- src/lib.rt:134:16
 add-byte : tie.Need-add-byte
 add-byte c =
     let s = c .before in
-    let m : s .args .t * s .args .a .size ≤ 5 * 2 ^ 28 * 4 = mul-le-mul (s .pre .1) (s .pre .0 .most) in
+    let m : s .args .t * s .args .a .size ≤ 5 * 2 ^ 28 * 4 = mul-le-mul (s .pre .1) (s .pre .0 .sized .most) in
     omega arith
 
 -- src/lib.rt:135:8
 add-if1 : tie.Need-add-if1
 add-if1 c =
     let s = c .before in
-    let m : s .args .t * s .args .a .size ≤ 5 * 2 ^ 28 * 4 = mul-le-mul (s .pre .1) (s .pre .0 .most) in
+    let m : s .args .t * s .args .a .size ≤ 5 * 2 ^ 28 * 4 = mul-le-mul (s .pre .1) (s .pre .0 .sized .most) in
     omega arith
 
 -- src/lib.rt:136:9

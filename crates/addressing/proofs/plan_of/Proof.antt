@@ -1,3 +1,4 @@
+use Rattle.addressing.proofs.Laws.{and-so}
 use Rattle.addressing.specs.Rules.{planned}
 use native.Mathlib.Omega.{arith}
 use borrow.Author.Needs.{needs}
@@ -34,7 +35,8 @@ low-bits-requires c κs = search needs
 -- src/lib.rt:91:1
 returns : tie.Need-returns
 unfolding planned
-returns c = ((cc), c .before .before .before .view-strides .ensures .1)
+returns c = let s = c .before .before .before .before .before .before .before .before in
+    and-so (cc) (λ e. record { valid = s .pre; same = e; strides = c .before .before .before .view-strides .ensures .1 })
 
 pub plan-of-spec : {M : Type 1} → statement M
 plan-of-spec =

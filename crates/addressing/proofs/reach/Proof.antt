@@ -34,7 +34,7 @@ span-coordinates-requires c κs = search needs
 tensor-index-requires : tie.Need-tensor-index-requires
 tensor-index-requires c κs =
     let s = c .before .before .before in
-    (s .pre .0 .layout, rw (c .span-coordinates .ensures) (span-coordinates-lt _ (s .pre .0 .layout) _))
+    (s .pre .0 .sized .layout, rw (c .span-coordinates .ensures) (span-coordinates-lt _ (s .pre .0 .sized .layout) _))
 
 -- src/lib.rt:153:29
 enum-told : tie.Need-enum-told

@@ -1,5 +1,5 @@
 use Prim.Native.Nat.{_*_, _-_}
-use Rattle.addressing.proofs.Laws.{remainder-lt}
+use Rattle.addressing.specs.Remainder.{remainder-lt}
 use mathlib.Core.Path.{refl}
 use borrow.Author.Tests.{eq-eqb, ne-eqb, le-leb, lt-leb}
 use Rattle.numbers.specs.Choice.{pick, taken, left, tests}

@@ -1,0 +1,26 @@
+use native.Mathlib.Omega.{arith}
+use borrow.Author.Needs.{needs}
+use Rattle.accesses.proofs.element.Statement.{statement}
+use Rattle.accesses.proofs.element.Tie as tie
+use Rattle.accesses.proofs.element.Reads as reads
+use Rattle.accesses.proofs.element.Lts as lts
+use Rattle.addressing.proofs.locate.Reads as locate-reads
+
+-- src/lib.rt:48:27
+div-locate : tie.Need-div-locate
+div-locate c = search needs
+
+-- src/lib.rt:48:42
+rem-locate : tie.Need-rem-locate
+rem-locate c = search needs
+
+-- src/lib.rt:48:5
+locate-requires : tie.Need-locate-requires
+locate-requires c κs = ?
+
+-- src/lib.rt:44:1
+returns : tie.Need-returns
+returns c = ?
+
+pub element-spec : {M : Type 1} → statement M
+element-spec = tie.close (tie.spec div-locate rem-locate locate-requires returns)

@@ -1,0 +1,105 @@
+-- The elements of a load or a store in order, and refusals 9 to 15.
+use Prim.Native.Nat.{ℕ, zero, suc, _+_, _*_, _/_, _%_}
+use mathlib.Core.Bool.{Bool, true, false, not}
+use lib.Dec.{eqb, leb}
+use Rattle.numbers.specs.Choice.{pick, both}
+use Rattle.numbers.specs.All.{all}
+use Rattle.sheet.specs.Layouts.{theDimension}
+use Rattle.sheet.specs.declared.Layout.{Layout}
+use Rattle.outcomes.specs.declared.Outcome.{Outcome}
+use Rattle.outcomes.specs.declared.Outcome.the-variants.{Skipped, Filled, Discarded, Placed}
+use Rattle.addressing.specs.declared.Access.{Access}
+use Rattle.addressing.specs.declared.Located.{Located}
+use Rattle.addressing.specs.Rules.{located}
+use Rattle.accesses.specs.declared.Stop.{Stop}
+use Rattle.accesses.specs.declared.Checked.{Checked}
+
+-- what becomes of element number k of a matrix of n columns: its row is k / n, its column k mod n
+unfoldable pub elementOutcome : Access → ℕ → ℕ → Located
+elementOutcome a n k = located a n (k / n) (k % n)
+
+abbrev pub stopAt : ℕ → ℕ → Stop
+stopAt number element = record { number = number; element = element }
+
+-- Refusal 9: base not a multiple of 16
+abbrev pub misplaced : Access → Bool
+misplaced a = not (eqb (a .base % 16) 0)
+
+-- Refusal 10: view without dimensions and another dimension count than the layout's
+unfoldable pub ranksDiffer : Access → Bool
+ranksDiffer a = both (a .viewed) (both (not (a .view .sized)) (not (eqb (a .view .rank) (a .layout .rank))))
+
+-- no block size is above 1
+unfoldable pub blocksOne : Layout → Bool
+blocksOne l = all (l .rank) (λ (d : ℕ). leb (theDimension (l .dimensions) d .block) 1)
+
+-- Refusal 11: store with a block size above 1
+unfoldable pub storeBlocked : Access → Bool
+storeBlocked a = both (not (a .load)) (not (blocksOne (a .layout)))
+
+-- Refusals 12, 13 and 14, element by element: the first refused of the m elements from k on
+unfoldable pub firstRefused : (ℕ → Located) → ℕ → ℕ → Stop
+firstRefused f k zero = stopAt 0 0
+firstRefused f k (suc m) = pick (eqb (f k .refusal) 0) (firstRefused f (suc k) m) (stopAt (f k .refusal) k)
+
+-- two elements have the same byte
+abbrev pub sameByte : Outcome → Outcome → Bool
+sameByte (Placed x) (Placed y) = eqb x y
+sameByte (Placed x) Skipped = false
+sameByte (Placed x) (Filled b) = false
+sameByte (Placed x) Discarded = false
+sameByte Skipped o = false
+sameByte (Filled b) o = false
+sameByte Discarded o = false
+
+-- one of the first j elements has the byte of element i; `same` says which two have the same byte
+unfoldable pub meets : (ℕ → ℕ → Bool) → ℕ → ℕ → Bool
+meets same i zero = false
+meets same i (suc j) = pick (same j i) true (meets same i j)
+
+-- the first element from i on, of m, that has an earlier one's byte; i + m where none has
+unfoldable pub clashFrom : (ℕ → ℕ → Bool) → ℕ → ℕ → ℕ
+clashFrom same i zero = i
+clashFrom same i (suc m) = pick (meets same i i) i (clashFrom same (suc i) m)
+
+-- which two elements have the same byte
+abbrev pub sameAt : (ℕ → Located) → ℕ → ℕ → Bool
+sameAt f j i = sameByte (f j .outcome) (f i .outcome)
+
+-- Refusal 15: a store where a later element has an earlier one's byte, at the first such later element
+unfoldable pub clashRefusal : ℕ → ℕ → Stop
+clashRefusal m i = pick (eqb i m) (stopAt 0 0) (stopAt 15 i)
+
+-- Refusals 12 to 15 of m elements: 12, 13, 14 element by element, 15 after all
+unfoldable pub elementsRefusal : Bool → (ℕ → Located) → ℕ → Stop
+elementsRefusal load f m =
+    pick (eqb (firstRefused f 0 m .number) 0)
+    (pick load (stopAt 0 0) (clashRefusal m (clashFrom (sameAt f) 0 m)))
+    (firstRefused f 0 m)
+
+-- Refusals 9 to 15 of an access to a matrix of rows by n
+unfoldable pub accessRefusal : Access → ℕ → ℕ → Stop
+accessRefusal a rows n =
+    pick (misplaced a) (stopAt 9 0)
+    (pick (ranksDiffer a) (stopAt 10 0)
+    (pick (storeBlocked a) (stopAt 11 0)
+    (elementsRefusal (a .load) (elementOutcome a n) (rows * n))))
+
+-- 1 for an element with a byte
+abbrev pub placedOne : Outcome → ℕ
+placedOne Skipped = 0
+placedOne (Filled b) = 0
+placedOne Discarded = 0
+placedOne (Placed b) = 1
+
+-- how many of m elements have a byte
+unfoldable pub placedCount : (ℕ → Located) → ℕ → ℕ
+placedCount f zero = 0
+placedCount f (suc m) = placedCount f m + placedOne (f m .outcome)
+
+-- a refusal, or the number of elements with a byte
+unfoldable pub checked : (ℕ → Located) → ℕ → Stop → Checked
+checked f m s = record { stop = s; placed = pick (eqb (s .number) 0) (placedCount f m) 0 }
+
+abbrev pub checkedAccess : Access → ℕ → ℕ → Checked
+checkedAccess a rows n = checked (elementOutcome a n) (rows * n) (accessRefusal a rows n)
