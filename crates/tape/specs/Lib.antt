@@ -1,0 +1,4 @@
+pub mod Tapes
+pub mod Translating
+pub mod Records
+pub mod Running

@@ -1,0 +1,9 @@
+// Tapes: a sheet translated into records, and a tape run with its sheet.
+use sheet::Refusal;
+
+// The answer of translating: a refusal, or how many elements of loads and stores have a byte and how many records were written.
+pub struct TranslateAnswer {
+    pub refusal: Refusal,
+    pub count: usize,
+    pub records: usize,
+}
