@@ -34,15 +34,15 @@ decodedTypes sh ts Bad = ts
 
 -- n records more, the next of which is number k: out of range at the first such record
 unfoldable pub rangeFrom : ℕ → Sheet → ℕ → (ℕ → Decoded) → ℕ → List MatrixType → Refusal
-rangeFrom zero sh len record k ts = refusalAt 0 0 0
-rangeFrom (suc n) sh len record k ts =
-    pick (decodedOk sh ts len (record k))
-    (rangeFrom n sh len record (k + 1) (decodedTypes sh ts (record k)))
+rangeFrom zero sh len the k ts = refusalAt 0 0 0
+rangeFrom (suc n) sh len the k ts =
+    pick (decodedOk sh ts len (the k))
+    (rangeFrom n sh len the (k + 1) (decodedTypes sh ts (the k)))
     (refusalAt 17 k 0)
 
 -- all records, from empty registers
 abbrev pub rangeRefusal : ℕ → Sheet → ℕ → (ℕ → Decoded) → Refusal
-rangeRefusal n sh len record = rangeFrom n sh len record 0 (emptyRegisters .types)
+rangeRefusal n sh len the = rangeFrom n sh len the 0 (emptyRegisters .types)
 
 abbrev pub ranDecoded : Sheet → Decoded → Machine → Machine
 ranDecoded sh (Good r) m = ranRecord sh r m
@@ -50,12 +50,12 @@ ranDecoded sh Bad m = m
 
 -- n records more, the next of which is number k, each on what the last one left
 unfoldable pub ranFrom : ℕ → Sheet → (ℕ → Decoded) → ℕ → Machine → Machine
-ranFrom zero sh record k m = m
-ranFrom (suc n) sh record k m = ranFrom n sh record (k + 1) (ranDecoded sh (record k) m)
+ranFrom zero sh the k m = m
+ranFrom (suc n) sh the k m = ranFrom n sh the (k + 1) (ranDecoded sh (the k) m)
 
 -- all records, in order
 abbrev pub ran : ℕ → Sheet → (ℕ → Decoded) → Machine → Machine
-ran n sh record m = ranFrom n sh record 0 m
+ran n sh the m = ranFrom n sh the 0 m
 
 -- a record count above 1,024 or past the slice has place 0
 unfoldable pub tapeRefusal : Sheet → List ℤ → ℕ → ℕ → Refusal
