@@ -35,12 +35,6 @@ pub struct Survey {
     pub entries: [u32; 256],
 }
 
-fn stop_at(number: u8, element: usize) -> Stop
-    ensures { λ r. ⌜ r ≡ stopAt number element ⌝ }
-{
-    Stop { number, element }
-}
-
 // Element number k.
 pub fn element(p: Plan, k: u32) -> Located
     requires { ⌜ Planned p × (0 < p .columns) × (p .columns < 256) × (k < 256 * p .columns) ⌝ }
@@ -84,9 +78,11 @@ fn survey_of(p: Plan, count: usize) -> Survey
     while k < count {
         let r = element(p, k as u32);
         if r.refusal != 0 {
-            let stop = stop_at(r.refusal, k);
             return Survey {
-                stop,
+                stop: Stop {
+                    number: r.refusal,
+                    element: k,
+                },
                 placed,
                 entries,
             };
@@ -96,9 +92,11 @@ fn survey_of(p: Plan, count: usize) -> Survey
         placed += placed_one(o);
         k += 1;
     }
-    let stop = stop_at(0, 0);
     Survey {
-        stop,
+        stop: Stop {
+            number: 0,
+            element: 0,
+        },
         placed,
         entries,
     }
@@ -137,7 +135,7 @@ fn refuse(number: u8, element: usize) -> Checked
     ensures { λ r. ⌜ r ≡ checkedBy (stopAt number element) 0 ⌝ }
 {
     Checked {
-        stop: stop_at(number, element),
+        stop: Stop { number, element },
         placed: 0,
     }
 }
@@ -146,7 +144,10 @@ fn accept(placed: usize) -> Checked
     ensures { λ r. ⌜ r ≡ checkedBy (stopAt 0 0) placed ⌝ }
 {
     Checked {
-        stop: stop_at(0, 0),
+        stop: Stop {
+            number: 0,
+            element: 0,
+        },
         placed,
     }
 }

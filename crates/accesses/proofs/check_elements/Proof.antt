@@ -9,43 +9,43 @@ use Rattle.accesses.proofs.first_clash.Reads as first-clash-reads
 use Rattle.accesses.proofs.refuse.Reads as refuse-reads
 use Rattle.accesses.proofs.survey_of.Reads as survey-of-reads
 
--- src/lib.rt:159:9
+-- src/lib.rt:160:9
 survey-of-requires : tie.Need-survey-of-requires
 survey-of-requires c κs = search needs
 
--- src/lib.rt:162:9
+-- src/lib.rt:163:9
 refuse-requires : tie.Need-refuse-requires
 refuse-requires c κs = search needs
 
--- src/lib.rt:162:9
+-- src/lib.rt:163:9
 returns : tie.Need-returns
 returns c = ?
 
--- src/lib.rt:166:9
+-- src/lib.rt:167:9
 accept-requires : tie.Need-accept-requires
 accept-requires c κs = search needs
 
--- src/lib.rt:166:9
+-- src/lib.rt:167:9
 returns-2 : tie.Need-returns-2
 returns-2 c = ?
 
--- src/lib.rt:169:9
+-- src/lib.rt:170:9
 first-clash-requires : tie.Need-first-clash-requires
 first-clash-requires c κs = search needs
 
--- src/lib.rt:171:9
+-- src/lib.rt:172:9
 refuse-requires-2 : tie.Need-refuse-requires-2
 refuse-requires-2 c κs = search needs
 
--- src/lib.rt:171:9
+-- src/lib.rt:172:9
 returns-3 : tie.Need-returns-3
 returns-3 c = ?
 
--- src/lib.rt:173:5
+-- src/lib.rt:174:5
 accept-requires-2 : tie.Need-accept-requires-2
 accept-requires-2 c κs = search needs
 
--- src/lib.rt:155:1
+-- src/lib.rt:156:1
 returns-4 : tie.Need-returns-4
 returns-4 c = ?
 
