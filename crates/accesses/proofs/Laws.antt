@@ -9,8 +9,8 @@ use native.Mathlib.Omega.{arith}
 use lib.Dec.{eqb}
 use lib.ListN.{length, getD, set, length-set}
 use lib.Seq.{getD-set-same, getD-set-other}
-use borrow.Author.Tests.{eq-eqb, ne-eqb, eqb-true, eqb-false}
-use Rattle.numbers.specs.Choice.{pick}
+use borrow.Author.Tests.{lt-ltb, le-ltb, eq-eqb, ne-eqb, eqb-true, eqb-false, not-false}
+use Rattle.numbers.specs.Choice.{pick, both}
 use Rattle.outcomes.specs.declared.Outcome.{Outcome}
 use Rattle.outcomes.specs.declared.Outcome.the-variants.{Skipped, Filled, Discarded, Placed}
 use Rattle.addressing.specs.declared.Access.{Access}
@@ -18,8 +18,9 @@ use Rattle.addressing.specs.declared.Located.{Located}
 use Rattle.addressing.specs.Valid.{SizedAccess}
 use Rattle.addressing.specs.Sound.{Sound}
 use Rattle.accesses.specs.declared.Stop.{Stop}
-use Rattle.accesses.specs.Refusals.{elementOutcome, stopAt, firstRefused, sameByte, sameAt, meets, clashFrom, placedOne, placedCount}
-use Rattle.accesses.specs.Entries.{entryOf, hits, sameEntry}
+use Rattle.accesses.specs.declared.Survey.{Survey}
+use Rattle.accesses.specs.Refusals.{elementOutcome, stopAt, firstRefused, sameByte, sameAt, meets, clashFrom, clashRefusal, elementsRefusal, placedOne, placedCount, checkedBy, checked, misplaced, ranksDiffer, storeBlocked, accessRefusal, checkedAccess}
+use Rattle.accesses.specs.Entries.{entryOf, hits, sameEntry, Surveyed}
 use Rattle.accesses.specs.Accepted.{element-sound}
 
 by-test : {P : Type 0} (b : Bool) → (b ≡ true → P) → (b ≡ false → P) → P
@@ -175,3 +176,55 @@ module _ (f : ℕ → Located) where
 
   pub passed-end : {m k placed : ℕ} {entries : List ℕ} → Passed f m k placed entries → m ≤ k → stopAt 0 0 ≡ firstRefused f 0 m
   passed-end {m} {k} inv h = sym (stop-end k (m - k) (omega arith)) ∙ inv .stop
+
+-- the search over the entries is the search over the elements
+pub clash-surveyed : {f : ℕ → Located} {m : ℕ} {r : Survey} → Surveyed f m r → r .stop .number ≡ 0
+    → clashFrom (sameEntry (r .entries)) 0 m ≡ clashFrom (sameAt f) 0 m
+clash-surveyed {f} {m} {r} s z =
+    clash-same (sameEntry (r .entries)) (sameAt f) m
+    (λ i j h l. rw (s .entries z i h, s .entries z j l) (entries-same (f i .outcome) (f j .outcome))) 0 m (omega arith)
+
+-- Refusals 12 to 15, by the way that the code took
+module _ (load : Bool) (f : ℕ → Located) (m : ℕ) {s : Stop} (e : s ≡ firstRefused f 0 m) where
+  pub checked-refused : (s .number ≡ 0 → ⊥) → checkedBy (stopAt (s .number) (s .element)) 0 ≡ checked f m (elementsRefusal load f m)
+  unfolding checked elementsRefusal pick
+  checked-refused n = rw (← e, ne-eqb (s .number) 0 n, ne-eqb (s .number) 0 n)
+
+  module _ (z : s .number ≡ 0) where
+    pub checked-load : {placed : ℕ} → load ≡ true → placed ≡ placedCount f m → checkedBy (stopAt 0 0) placed ≡ checked f m (elementsRefusal load f m)
+    unfolding checked elementsRefusal pick
+    checked-load t c = rw (← e, z, t) (ap (checkedBy (stopAt 0 0)) c)
+
+    module _ (i : ℕ) (t : load ≡ false) (clash : i ≡ clashFrom (sameAt f) 0 m) where
+      pub checked-clash : i < m → checkedBy (stopAt 15 i) 0 ≡ checked f m (elementsRefusal load f m)
+      unfolding checked elementsRefusal clashRefusal pick
+      checked-clash h = rw (← e, z, t, ← clash, lt-ltb i m h)
+
+      pub checked-apart : {placed : ℕ} → m ≤ i → placed ≡ placedCount f m → checkedBy (stopAt 0 0) placed ≡ checked f m (elementsRefusal load f m)
+      unfolding checked elementsRefusal clashRefusal pick
+      checked-apart h c = rw (← e, z, t, ← clash, le-ltb i m h) (ap (checkedBy (stopAt 0 0)) c)
+
+-- Refusals 9 to 11
+module _ (a : Access) (rows n : ℕ) where
+  pub access-nine : misplaced a ≡ true → checkedBy (stopAt 9 0) 0 ≡ checkedAccess a rows n
+  unfolding accessRefusal checked pick
+  access-nine e = rw e
+
+  module _ (nine : misplaced a ≡ false) where
+    pub access-ten : ranksDiffer a ≡ true → checkedBy (stopAt 10 0) 0 ≡ checkedAccess a rows n
+    unfolding accessRefusal checked pick
+    access-ten e = rw (nine, e)
+
+    module _ (ten : ranksDiffer a ≡ false) where
+      pub access-eleven : storeBlocked a ≡ true → checkedBy (stopAt 11 0) 0 ≡ checkedAccess a rows n
+      unfolding accessRefusal checked pick
+      access-eleven e = rw (nine, ten, e)
+
+      pub access-elements : storeBlocked a ≡ false
+          → checked (elementOutcome a n) (rows * n) (elementsRefusal (a .load) (elementOutcome a n) (rows * n)) ≡ checkedAccess a rows n
+      unfolding accessRefusal pick
+      access-elements e = rw (nine, ten, e)
+
+pub ranks-agree : (a : Access) → ranksDiffer a ≡ false → a .viewed ≡ true → a .view .sized ≡ false → a .view .rank ≡ a .layout .rank
+unfolding ranksDiffer both pick
+ranks-agree a e v s = eqb-true (a .view .rank) (a .layout .rank) (not-false _ (rw (v, s) at e))

@@ -48,9 +48,10 @@ loop-less c = search needs
 
 -- src/lib.rt:205:5
 loop-again : tie.Need-loop-again Inv-loop μ-loop
-loop-again c = 
-    (search needs,
-    all-more _ _ (c .before .before .before .loop .inv .1) (rw (← c .before .block-at .ensures) (le-leb _ _ (c .if1 .left))))
+loop-again c = (
+  search needs,
+  all-more _ _ (c .before .before .before .loop .inv .1) (rw (← c .before .block-at .ensures) (le-leb _ _ (c .if1 .left))),
+)
 
 -- src/lib.rt:199:1
 returns-2 : tie.Need-returns-2 Inv-loop μ-loop

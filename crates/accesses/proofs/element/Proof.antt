@@ -18,7 +18,7 @@ rem-locate c = search needs
 
 -- src/lib.rt:48:5
 locate-requires : tie.Need-locate-requires
-locate-requires c κs = 
+locate-requires c κs =
     let s = c .before .before in
     (s .pre .0, s .pre .2, div-lt-iff-lt-mul (s .pre .1) .1 (s .pre .3), omega (arith, mod-lt (s .args .k) (s .pre .1), s .pre .2))
 

@@ -24,14 +24,14 @@ enum-known-o c = search needs
 
 -- src/lib.rt:60:31
 cast-result : tie.Need-cast-result
-cast-result c = 
+cast-result c =
     let o = c .before .o in
     let h : o .given .0 .0 + 1 ≤ 65536 = rw (o .given .1) at (c .before .before .before .pre) in
     omega arith
 
 -- src/lib.rt:60:31
 add-result : tie.Need-add-result
-add-result c = 
+add-result c =
     let o = c .before .o in
     let h : o .given .0 .0 + 1 ≤ 65536 = rw (o .given .1) at (c .before .before .before .pre) in
     omega arith

@@ -63,9 +63,10 @@ loop-less c = omega arith
 
 -- src/lib.rt:124:9
 loop-again : tie.Need-loop-again Inv-loop μ-loop Inv-search μ-search
-loop-again c = 
-    (omega arith,
-    meets-miss (sameEntry (c .before .before .before .before .before .before .args .t1)) _ _ (sym (c .before .same-byte .ensures) ∙ c .if1 .left) (c .before .before .before .loop .inv .1))
+loop-again c = (
+  omega arith,
+  meets-miss (sameEntry (c .before .before .before .before .before .before .args .t1)) _ _ (sym (c .before .same-byte .ensures) ∙ c .if1 .left) (c .before .before .before .loop .inv .1),
+)
 
 -- src/lib.rt:130:9
 add-i : tie.Need-add-i Inv-loop μ-loop Inv-search μ-search
@@ -77,7 +78,7 @@ search-less c = omega arith
 
 -- src/lib.rt:121:5
 search-again : tie.Need-search-again Inv-loop μ-loop Inv-search μ-search
-search-again c = 
+search-again c =
     let i = c .before .before .before .search in
     (omega arith, clash-on _ _ _ (i .inv .1) (c .before .loop .j) (omega arith) (omega arith) (omega arith) (c .before .loop .inv .1))
 
@@ -87,7 +88,7 @@ returns c = clash-none _ _ _ (c .before .search .inv .1) (omega arith)
 
 -- src/lib.rt:116:1
 returns-2 : tie.Need-returns-2 Inv-loop μ-loop Inv-search μ-search
-returns-2 c = 
+returns-2 c =
     let i = c .before .before .before .before .before .search in
     clash-found _ _ _ (i .inv .1) (c .before .before .before .loop .j) (omega arith) (omega arith) (sym (c .before .same-byte .ensures) ∙ c .if1 .taken)
 

@@ -28,13 +28,13 @@ cast-element c = search needs
 
 -- src/lib.rt:79:13
 element-requires : tie.Need-element-requires Inv-loop μ-loop
-element-requires c κs = 
+element-requires c κs =
     let s = c .before .before in
     (s .pre .0, s .pre .1, s .pre .2, omega (arith, s .pre .1, s .pre .3))
 
 -- src/lib.rt:81:13
 returns : tie.Need-returns Inv-loop μ-loop
-returns c = 
+returns c =
     let i = c .before .before .before .before .loop in
     let e = c .before .before .element in
     record {
@@ -45,7 +45,7 @@ returns c =
 
 -- src/lib.rt:91:22
 entry-requires : tie.Need-entry-requires Inv-loop μ-loop
-entry-requires c κs = 
+entry-requires c κs =
     let s = c .before .before .before .before .before in
     rw (c .before .before .element .ensures)
     (element-entry (s .args .p .access) (s .pre .0 .valid .sized) (s .args .p .columns) (c .before .before .before .before .loop .k))
@@ -64,7 +64,7 @@ placed-one-requires c κs = search needs
 
 -- src/lib.rt:92:9
 add-placed : tie.Need-add-placed Inv-loop μ-loop
-add-placed c = 
+add-placed c =
     let i = c .before .before .before .before .before .before .loop in
     omega (arith, i .inv .few, i .inv .inside, c .placed-one .ensures .1)
 
@@ -78,7 +78,7 @@ loop-less c = omega arith
 
 -- src/lib.rt:78:5
 loop-again : tie.Need-loop-again Inv-loop μ-loop
-loop-again c = 
+loop-again c =
     let i = c .before .before .before .before .before .before .loop in
     let e = c .before .before .before .before .element in
     passed-more _ (i .inv) (e .result) (c .before .before .before .before .before .loop-test .taken) (e .ensures)
@@ -86,7 +86,7 @@ loop-again c =
 
 -- src/lib.rt:71:1
 returns-2 : tie.Need-returns-2 Inv-loop μ-loop
-returns-2 c = 
+returns-2 c =
     let i = c .before .loop in
     record {
       stop = passed-end _ (i .inv) (c .loop-test .left);
