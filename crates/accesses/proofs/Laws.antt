@@ -224,7 +224,3 @@ module _ (a : Access) (rows n : ℕ) where
           → checked (elementOutcome a n) (rows * n) (elementsRefusal (a .load) (elementOutcome a n) (rows * n)) ≡ checkedAccess a rows n
       unfolding accessRefusal pick
       access-elements e = rw (nine, ten, e)
-
-pub ranks-agree : (a : Access) → ranksDiffer a ≡ false → a .viewed ≡ true → a .view .sized ≡ false → a .view .rank ≡ a .layout .rank
-unfolding ranksDiffer both pick
-ranks-agree a e v s = eqb-true (a .view .rank) (a .layout .rank) (not-false _ (rw (v, s) at e))

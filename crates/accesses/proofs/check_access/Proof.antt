@@ -1,7 +1,8 @@
+use Rattle.accesses.specs.Accepted.{ranks-agree}
 use mathlib.Core.Path.{_∙_}
 use Rattle.numbers.specs.Choice.{went, tests, ne-not, eq-not}
 use Rattle.addressing.specs.Valid.{planned-access, planned-columns}
-use Rattle.accesses.proofs.Laws.{access-nine, access-ten, access-eleven, access-elements, ranks-agree}
+use Rattle.accesses.proofs.Laws.{access-nine, access-ten, access-eleven, access-elements}
 use native.Mathlib.Omega.{arith}
 use borrow.Author.Needs.{needs}
 use Rattle.accesses.proofs.check_access.Statement.{statement}
