@@ -1,1 +1,226 @@
--- Laws of a step's elements.
+-- Laws of an access's elements, as the loops go over them.
+use Prim.Native.Nat.{ℕ, zero, suc, _+_, _-_, _*_, _/_, _%_, _<_, _≤_, zero-le}
+use mathlib.Core.Path.{_≡_, refl, sym, ap, _∙_}
+use mathlib.Core.Bool.{Bool, true, false}
+use mathlib.Core.List.{List}
+use native.Mathlib.Nat.{not-suc-le-zero, sub-zero}
+use native.Mathlib.Numerals.{add-one}
+use native.Mathlib.Omega.{arith}
+use lib.Dec.{eqb}
+use lib.ListN.{length, getD, set, length-set}
+use lib.Seq.{getD-set-same, getD-set-other}
+use borrow.Author.Tests.{lt-ltb, le-ltb, eq-eqb, ne-eqb, eqb-true, eqb-false, not-false}
+use Rattle.numbers.specs.Choice.{pick, both}
+use Rattle.outcomes.specs.declared.Outcome.{Outcome}
+use Rattle.outcomes.specs.declared.Outcome.the-variants.{Skipped, Filled, Discarded, Placed}
+use Rattle.addressing.specs.declared.Access.{Access}
+use Rattle.addressing.specs.declared.Located.{Located}
+use Rattle.addressing.specs.Valid.{SizedAccess}
+use Rattle.addressing.specs.Sound.{Sound}
+use Rattle.accesses.specs.declared.Stop.{Stop}
+use Rattle.accesses.specs.declared.Survey.{Survey}
+use Rattle.accesses.specs.Refusals.{elementOutcome, stopAt, firstRefused, sameByte, sameAt, meets, clashFrom, clashRefusal, elementsRefusal, placedOne, placedCount, checkedBy, checked, misplaced, ranksDiffer, storeBlocked, accessRefusal, checkedAccess}
+use Rattle.accesses.specs.Entries.{entryOf, hits, sameEntry, Surveyed}
+use Rattle.accesses.specs.Accepted.{element-sound}
+
+by-test : {P : Type 0} (b : Bool) → (b ≡ true → P) → (b ≡ false → P) → P
+by-test true f g = f refl
+by-test false f g = g refl
+
+-- The search of refusal 15
+module _ (same : ℕ → ℕ → Bool) where
+  pub meets-none : (i : ℕ) → meets same i 0 ≡ false
+  unfolding meets
+  meets-none i = refl
+
+  pub meets-miss : (i j : ℕ) → same j i ≡ false → meets same i j ≡ false → meets same i (j + 1) ≡ false
+  unfolding meets pick
+  meets-miss i j e g = rw (add-one, e) g
+
+  meets-hit : (i j n : ℕ) → j < n → same j i ≡ true → meets same i n ≡ true
+  unfolding meets pick
+  meets-hit i j zero h e = absurd (not-suc-le-zero h)
+  meets-hit i j (suc n) h e =
+      by-test (same n i) (λ t. rw t)
+      (λ g. let d : j ≡ n → ⊥ = λ q. let z : _≡_ {A = ℕ} 0 1 = cc in omega arith in rw g (meets-hit i j n (omega arith) e))
+
+  clash-here : (i m : ℕ) → 0 < m → meets same i i ≡ true → clashFrom same i m ≡ i
+  unfolding clashFrom pick
+  clash-here i zero h e = absurd (not-suc-le-zero h)
+  clash-here i (suc m) h e = rw e
+
+  clash-next : (i m : ℕ) → 0 < m → meets same i i ≡ false → clashFrom same (i + 1) (m - 1) ≡ clashFrom same i m
+  unfolding clashFrom pick
+  clash-next i zero h e = absurd (not-suc-le-zero h)
+  clash-next i (suc m) h e = let s : suc m - 1 ≡ m = omega arith in rw (add-one, s, e)
+
+  clash-end : (i m : ℕ) → m ≤ 0 → clashFrom same i m ≡ i
+  unfolding clashFrom
+  clash-end i zero h = refl
+  clash-end i (suc m) h = absurd (not-suc-le-zero h)
+
+  -- what the outer loop knows at i is known at i + 1 where no earlier element was met, and settles the answer where one was
+  module _ (m i : ℕ) (inv : clashFrom same i (m - i) ≡ clashFrom same 0 m) where
+    pub clash-on : (j : ℕ) → i < m → j ≤ i → i ≤ j → meets same i j ≡ false → clashFrom same (i + 1) (m - (i + 1)) ≡ clashFrom same 0 m
+    clash-on j h g k e =
+        let s : m - (i + 1) ≡ m - i - 1 = omega arith in
+        let q : i ≡ j = omega arith in
+        rw s (clash-next i (m - i) (omega arith) (ap (meets same i) q ∙ e) ∙ inv)
+
+    pub clash-found : (j : ℕ) → i < m → j < i → same j i ≡ true → i ≡ clashFrom same 0 m
+    clash-found j h l e = sym (clash-here i (m - i) (omega arith) (meets-hit i j i l e)) ∙ inv
+
+    pub clash-none : m ≤ i → i ≡ clashFrom same 0 m
+    clash-none h = sym (clash-end i (m - i) (omega arith)) ∙ inv
+
+-- the search goes by nothing else than which two elements have the same byte
+module _ (same other : ℕ → ℕ → Bool) (m : ℕ) (agree : (i j : ℕ) → i < m → j < m → same i j ≡ other i j) where
+  meets-same : (i j : ℕ) → i < m → j ≤ m → meets same i j ≡ meets other i j
+  unfolding meets
+  meets-same i zero h l = refl
+  meets-same i (suc j) h l = rw (agree j i l h, meets-same i j h (omega arith))
+
+  pub clash-same : (i n : ℕ) → i + n ≤ m → clashFrom same i n ≡ clashFrom other i n
+  unfolding clashFrom
+  clash-same i zero h = refl
+  clash-same i (suc n) h = rw (meets-same i i (omega arith) (omega arith), clash-same (suc i) n (omega arith))
+
+-- two entries tell whether their elements have the same byte
+pub entries-same : (o p : Outcome) → hits (entryOf o) (entryOf p) ≡ sameByte o p
+unfolding hits pick
+entries-same Skipped Skipped = refl
+entries-same Skipped (Filled b) = refl
+entries-same Skipped Discarded = refl
+entries-same Skipped (Placed y) = rw (ne-eqb (y + 1) 0 (omega arith), ne-eqb 0 (y + 1) (omega arith))
+entries-same (Filled a) Skipped = refl
+entries-same (Filled a) (Filled b) = refl
+entries-same (Filled a) Discarded = refl
+entries-same (Filled a) (Placed y) = rw (ne-eqb (y + 1) 0 (omega arith), ne-eqb 0 (y + 1) (omega arith))
+entries-same Discarded Skipped = refl
+entries-same Discarded (Filled b) = refl
+entries-same Discarded Discarded = refl
+entries-same Discarded (Placed y) = rw (ne-eqb (y + 1) 0 (omega arith), ne-eqb 0 (y + 1) (omega arith))
+entries-same (Placed x) Skipped = refl
+entries-same (Placed x) (Filled b) = refl
+entries-same (Placed x) Discarded = refl
+entries-same (Placed x) (Placed y) =
+    rw (ne-eqb (y + 1) 0 (omega arith))
+    (by-test (eqb x y) (λ t. let e : x ≡ y = eqb-true x y t in rw (t, eq-eqb (x + 1) (y + 1) (omega arith)))
+    (λ t. let d : x ≡ y → ⊥ = eqb-false x y t in rw (t, ne-eqb (x + 1) (y + 1) (omega arith))))
+
+-- an entry is at most the memory's length
+entry-most : (a : Access) → SizedAccess a → (o : Outcome) → Sound a o → entryOf o ≤ 65536
+entry-most a ok Skipped h = zero-le
+entry-most a ok (Filled b) h = zero-le
+entry-most a ok Discarded h = zero-le
+entry-most a ok (Placed b) h = omega (arith, h .0, ok .some, ok .memory)
+
+pub element-entry : (a : Access) → SizedAccess a → (n k : ℕ) → entryOf (elementOutcome a n k .outcome) ≤ 65536
+element-entry a ok n k = entry-most a ok (elementOutcome a n k .outcome) (element-sound a n k)
+
+-- The first m elements of an access, passed up to k without a refusal
+pub record Passed (f : ℕ → Located) (m k placed : ℕ) (entries : List ℕ) : Type 0 where
+  pub inside : k ≤ m
+  pub room : length entries ≡ 256
+  pub few : placed ≤ k
+  pub stop : firstRefused f k (m - k) ≡ firstRefused f 0 m
+  pub count : placed ≡ placedCount f k
+  pub each : (i : ℕ) → i < k → getD entries i 0 ≡ entryOf (f i .outcome)
+
+module _ (f : ℕ → Located) where
+  stop-here : (k m : ℕ) → 0 < m → (f k .refusal ≡ 0 → ⊥) → firstRefused f k m ≡ stopAt (f k .refusal) k
+  unfolding firstRefused pick
+  stop-here k zero h n = absurd (not-suc-le-zero h)
+  stop-here k (suc m) h n = rw (ne-eqb _ _ n)
+
+  stop-next : (k m : ℕ) → 0 < m → f k .refusal ≡ 0 → firstRefused f (k + 1) (m - 1) ≡ firstRefused f k m
+  unfolding firstRefused pick
+  stop-next k zero h e = absurd (not-suc-le-zero h)
+  stop-next k (suc m) h e = let s : suc m - 1 ≡ m = omega arith in rw (add-one, s, e)
+
+  stop-end : (k m : ℕ) → m ≤ 0 → firstRefused f k m ≡ stopAt 0 0
+  unfolding firstRefused
+  stop-end k zero h = refl
+  stop-end k (suc m) h = absurd (not-suc-le-zero h)
+
+  count-more : (k : ℕ) → placedCount f k + placedOne (f k .outcome) ≡ placedCount f (k + 1)
+  unfolding placedCount
+  count-more k = rw add-one
+
+  pub passed-none : (m : ℕ) (entries : List ℕ) → length entries ≡ 256 → Passed f m 0 0 entries
+  unfolding placedCount
+  passed-none m entries e =
+      record { inside = zero-le; room = e; few = zero-le; stop = rw sub-zero; count = refl; each = λ i h. absurd (not-suc-le-zero h) }
+
+  -- a turn at k, where element k is r
+  module _ {m k placed : ℕ} {entries : List ℕ} (inv : Passed f m k placed entries) (r : Located) (h : k < m) (er : r ≡ f k) where
+    pub passed-stop : (r .refusal ≡ 0 → ⊥) → stopAt (r .refusal) k ≡ firstRefused f 0 m
+    passed-stop n = rw er (sym (stop-here k (m - k) (omega arith) (rw er at n)) ∙ inv .stop)
+
+    pub passed-more : {x y : ℕ} → m ≤ 256 → r .refusal ≡ 0 → x ≡ entryOf (r .outcome) → y ≡ placedOne (r .outcome) → y ≤ 1
+        → Passed f m (k + 1) (placed + y) (set entries k x)
+    passed-more {x} {y} room e ex ey one =
+        let s : m - (k + 1) ≡ m - k - 1 = omega arith in
+        record {
+          inside = omega arith;
+          room = length-set entries k x ∙ inv .room;
+          few = omega (arith, inv .few);
+          stop = rw s (stop-next k (m - k) (omega arith) (rw er at e) ∙ inv .stop);
+          count = rw (inv .count, ey, er) (count-more k);
+          each = λ i l.
+              by-test (eqb i k)
+              (λ t. let q : i ≡ k = eqb-true i k t in
+              rw (q, getD-set-same entries k x 0 (omega (arith, inv .room)), ex, er))
+              (λ t. let q : i ≡ k → ⊥ = eqb-false i k t in getD-set-other entries k i x 0 q ∙ inv .each i (omega arith));
+        }
+
+  pub passed-end : {m k placed : ℕ} {entries : List ℕ} → Passed f m k placed entries → m ≤ k → stopAt 0 0 ≡ firstRefused f 0 m
+  passed-end {m} {k} inv h = sym (stop-end k (m - k) (omega arith)) ∙ inv .stop
+
+-- the search over the entries is the search over the elements
+pub clash-surveyed : {f : ℕ → Located} {m : ℕ} {r : Survey} → Surveyed f m r → r .stop .number ≡ 0
+    → clashFrom (sameEntry (r .entries)) 0 m ≡ clashFrom (sameAt f) 0 m
+clash-surveyed {f} {m} {r} s z =
+    clash-same (sameEntry (r .entries)) (sameAt f) m
+    (λ i j h l. rw (s .entries z i h, s .entries z j l) (entries-same (f i .outcome) (f j .outcome))) 0 m (omega arith)
+
+-- Refusals 12 to 15, by the way that the code took
+module _ (load : Bool) (f : ℕ → Located) (m : ℕ) {s : Stop} (e : s ≡ firstRefused f 0 m) where
+  pub checked-refused : (s .number ≡ 0 → ⊥) → checkedBy (stopAt (s .number) (s .element)) 0 ≡ checked f m (elementsRefusal load f m)
+  unfolding checked elementsRefusal pick
+  checked-refused n = rw (← e, ne-eqb (s .number) 0 n, ne-eqb (s .number) 0 n)
+
+  module _ (z : s .number ≡ 0) where
+    pub checked-load : {placed : ℕ} → load ≡ true → placed ≡ placedCount f m → checkedBy (stopAt 0 0) placed ≡ checked f m (elementsRefusal load f m)
+    unfolding checked elementsRefusal pick
+    checked-load t c = rw (← e, z, t) (ap (checkedBy (stopAt 0 0)) c)
+
+    module _ (i : ℕ) (t : load ≡ false) (clash : i ≡ clashFrom (sameAt f) 0 m) where
+      pub checked-clash : i < m → checkedBy (stopAt 15 i) 0 ≡ checked f m (elementsRefusal load f m)
+      unfolding checked elementsRefusal clashRefusal pick
+      checked-clash h = rw (← e, z, t, ← clash, lt-ltb i m h)
+
+      pub checked-apart : {placed : ℕ} → m ≤ i → placed ≡ placedCount f m → checkedBy (stopAt 0 0) placed ≡ checked f m (elementsRefusal load f m)
+      unfolding checked elementsRefusal clashRefusal pick
+      checked-apart h c = rw (← e, z, t, ← clash, le-ltb i m h) (ap (checkedBy (stopAt 0 0)) c)
+
+-- Refusals 9 to 11
+module _ (a : Access) (rows n : ℕ) where
+  pub access-nine : misplaced a ≡ true → checkedBy (stopAt 9 0) 0 ≡ checkedAccess a rows n
+  unfolding accessRefusal checked pick
+  access-nine e = rw e
+
+  module _ (nine : misplaced a ≡ false) where
+    pub access-ten : ranksDiffer a ≡ true → checkedBy (stopAt 10 0) 0 ≡ checkedAccess a rows n
+    unfolding accessRefusal checked pick
+    access-ten e = rw (nine, e)
+
+    module _ (ten : ranksDiffer a ≡ false) where
+      pub access-eleven : storeBlocked a ≡ true → checkedBy (stopAt 11 0) 0 ≡ checkedAccess a rows n
+      unfolding accessRefusal checked pick
+      access-eleven e = rw (nine, ten, e)
+
+      pub access-elements : storeBlocked a ≡ false
+          → checked (elementOutcome a n) (rows * n) (elementsRefusal (a .load) (elementOutcome a n) (rows * n)) ≡ checkedAccess a rows n
+      unfolding accessRefusal pick
+      access-elements e = rw (nine, ten, e)

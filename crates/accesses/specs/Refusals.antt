@@ -1,7 +1,7 @@
 -- The elements of a load or a store in order, and refusals 9 to 15.
 use Prim.Native.Nat.{ℕ, zero, suc, _+_, _*_, _/_, _%_}
 use mathlib.Core.Bool.{Bool, true, false, not}
-use lib.Dec.{eqb, leb}
+use lib.Dec.{eqb, ltb, leb}
 use Rattle.numbers.specs.Choice.{pick, both}
 use Rattle.numbers.specs.All.{all}
 use Rattle.sheet.specs.Layouts.{theDimension}
@@ -68,7 +68,7 @@ sameAt f j i = sameByte (f j .outcome) (f i .outcome)
 
 -- Refusal 15: a store where a later element has an earlier one's byte, at the first such later element
 unfoldable pub clashRefusal : ℕ → ℕ → Stop
-clashRefusal m i = pick (eqb i m) (stopAt 0 0) (stopAt 15 i)
+clashRefusal m i = pick (ltb i m) (stopAt 15 i) (stopAt 0 0)
 
 -- Refusals 12 to 15 of m elements: 12, 13, 14 element by element, 15 after all
 unfoldable pub elementsRefusal : Bool → (ℕ → Located) → ℕ → Stop
@@ -98,8 +98,11 @@ placedCount f zero = 0
 placedCount f (suc m) = placedCount f m + placedOne (f m .outcome)
 
 -- a refusal, or the number of elements with a byte
+abbrev pub checkedBy : Stop → ℕ → Checked
+checkedBy s placed = record { stop = s; placed = placed }
+
 unfoldable pub checked : (ℕ → Located) → ℕ → Stop → Checked
-checked f m s = record { stop = s; placed = pick (eqb (s .number) 0) (placedCount f m) 0 }
+checked f m s = checkedBy s (pick (eqb (s .number) 0) (placedCount f m) 0)
 
 abbrev pub checkedAccess : Access → ℕ → ℕ → Checked
 checkedAccess a rows n = checked (elementOutcome a n) (rows * n) (accessRefusal a rows n)

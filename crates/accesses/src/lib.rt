@@ -3,8 +3,9 @@ ghost use mathlib.Core.Path.{_≡_};
 ghost use mathlib.Core.Bool.{true, false};
 ghost use Prim.Native.Nat.{ℕ, _+_, _*_, _≤_, _<_};
 ghost use lib.ListN.{getD};
+ghost use Rattle.sheet.specs.Layouts.{theDimension, layoutOk};
 ghost use Rattle.addressing.specs.Valid.{SizedAccess, ValidAccess, Planned};
-ghost use Rattle.accesses.specs.Refusals.{elementOutcome, misplaced, ranksDiffer, blocksOne, storeBlocked, stopAt, clashFrom, clashRefusal, elementsRefusal, checked, placedOne, checkedAccess};
+ghost use Rattle.accesses.specs.Refusals.{elementOutcome, misplaced, ranksDiffer, blocksOne, storeBlocked, stopAt, clashFrom, elementsRefusal, placedOne, checkedBy, checked, checkedAccess};
 ghost use Rattle.accesses.specs.Entries.{entryOf, hits, sameEntry, Surveyed};
 use addressing::Access;
 use addressing::Located;
@@ -32,12 +33,6 @@ pub struct Survey {
     pub stop: Stop,
     pub placed: usize,
     pub entries: [u32; 256],
-}
-
-fn stop_at(number: u8, element: usize) -> Stop
-    ensures { λ r. ⌜ r ≡ stopAt number element ⌝ }
-{
-    Stop { number, element }
 }
 
 // Element number k.
@@ -83,9 +78,11 @@ fn survey_of(p: Plan, count: usize) -> Survey
     while k < count {
         let r = element(p, k as u32);
         if r.refusal != 0 {
-            let stop = stop_at(r.refusal, k);
             return Survey {
-                stop,
+                stop: Stop {
+                    number: r.refusal,
+                    element: k,
+                },
                 placed,
                 entries,
             };
@@ -95,9 +92,11 @@ fn survey_of(p: Plan, count: usize) -> Survey
         placed += placed_one(o);
         k += 1;
     }
-    let stop = stop_at(0, 0);
     Survey {
-        stop,
+        stop: Stop {
+            number: 0,
+            element: 0,
+        },
         placed,
         entries,
     }
@@ -130,4 +129,115 @@ fn first_clash(entries: [u32; 256], count: usize) -> usize
         i += 1;
     }
     i
+}
+
+fn refuse(number: u8, element: usize) -> Checked
+    ensures { λ r. ⌜ r ≡ checkedBy (stopAt number element) 0 ⌝ }
+{
+    Checked {
+        stop: Stop { number, element },
+        placed: 0,
+    }
+}
+
+fn accept(placed: usize) -> Checked
+    ensures { λ r. ⌜ r ≡ checkedBy (stopAt 0 0) placed ⌝ }
+{
+    Checked {
+        stop: Stop {
+            number: 0,
+            element: 0,
+        },
+        placed,
+    }
+}
+
+// Refusals 12 to 15.
+fn check_elements(p: Plan, count: usize) -> Checked
+    requires { ⌜ Planned p × (0 < p .columns) × (p .columns < 256) × (count ≤ 256) ⌝ }
+    ensures { λ r. ⌜ r ≡ checked (elementOutcome (p .access) (p .columns)) count (elementsRefusal (p .access .load) (elementOutcome (p .access) (p .columns)) count) ⌝ }
+{
+    let s = survey_of(p, count);
+    let stop = s.stop;
+    if stop.number != 0 {
+        return refuse(stop.number, stop.element);
+    }
+    let a = p.access;
+    if a.load {
+        return accept(s.placed);
+    }
+    let entries = s.entries;
+    let clash = first_clash(entries, count);
+    if clash < count {
+        return refuse(15, clash);
+    }
+    accept(s.placed)
+}
+
+// Refusal 10.
+fn ranks_differ(a: Access) -> bool
+    ensures { λ r. ⌜ r ≡ ranksDiffer a ⌝ }
+{
+    if !a.viewed {
+        return false;
+    }
+    let v = a.view;
+    if v.sized {
+        return false;
+    }
+    let l = a.layout;
+    v.rank != l.rank
+}
+
+fn block_at(l: Layout, d: usize) -> u16
+    requires { ⌜ d < 5 ⌝ }
+    ensures { λ r. ⌜ r ≡ theDimension (l .dimensions) d .block ⌝ }
+{
+    let x = l.dimensions[d];
+    x.block
+}
+
+fn blocks_one(l: Layout) -> bool
+    requires { ⌜ layoutOk l ≡ true ⌝ }
+    ensures { λ r. ⌜ r ≡ blocksOne l ⌝ }
+{
+    let rank = l.rank as usize;
+    let mut d = 0;
+    while d < rank {
+        if 1 < block_at(l, d) {
+            return false;
+        }
+        d += 1;
+    }
+    true
+}
+
+// Refusal 11.
+fn store_blocked(a: Access) -> bool
+    requires { ⌜ layoutOk (a .layout) ≡ true ⌝ }
+    ensures { λ r. ⌜ r ≡ storeBlocked a ⌝ }
+{
+    if a.load {
+        return false;
+    }
+    let l = a.layout;
+    !blocks_one(l)
+}
+
+// Refusals 9 to 15 of a load or a store of a matrix of `rows` by `columns`, in order, and how many of its elements have a byte.
+pub fn check_access(a: Access, rows: u32, columns: u32) -> Checked
+    requires { ⌜ SizedAccess a × (0 < columns) × (columns < 256) × (rows * columns ≤ 256) ⌝ }
+    ensures { λ r. ⌜ r ≡ checkedAccess a rows columns ⌝ }
+{
+    if a.base % 16 != 0 {
+        return refuse(9, 0);
+    }
+    if ranks_differ(a) {
+        return refuse(10, 0);
+    }
+    if store_blocked(a) {
+        return refuse(11, 0);
+    }
+    let p = addressing::plan_of(a, columns);
+    check_elements(p, (rows * columns) as usize)
 }

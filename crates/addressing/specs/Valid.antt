@@ -1,6 +1,6 @@
 -- What an access must keep to for its elements to be looked at.
 use Prim.Native.Nat.{ℕ, _^_, _<_, _≤_}
-use mathlib.Core.Path.{_≡_}
+use mathlib.Core.Path.{_≡_, ap}
 use mathlib.Core.Bool.{true, false}
 use lib.ListN.{getD}
 use Rattle.sheet.specs.Layouts.{layoutOk}
@@ -30,6 +30,14 @@ pub record Planned (p : Plan) : Type 0 where
   pub valid : ValidAccess (p .access)
   pub same : p ≡ planned (p .access) (p .columns)
   pub strides : (i : ℕ) → getD (p .strides) i 0 ≤ 4096 ^ 4
+
+pub planned-access : (a : Access) (n : ℕ) {p : Plan} → p ≡ planned a n → p .access ≡ a
+unfolding planned
+planned-access a n e = ap (λ (q : Plan). q .access) e
+
+pub planned-columns : (a : Access) (n : ℕ) {p : Plan} → p ≡ planned a n → p .columns ≡ n
+unfolding planned
+planned-columns a n e = ap (λ (q : Plan). q .columns) e
 
 -- what rule 5 gives is at most n, where it gives an index
 abbrev pub AtMost : ℕ → Clamped → Type 0

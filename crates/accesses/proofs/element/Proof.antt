@@ -1,3 +1,5 @@
+use native.Mathlib.Nat.{div-lt-iff-lt-mul, mod-lt}
+use Rattle.accesses.specs.Refusals.{elementOutcome}
 use native.Mathlib.Omega.{arith}
 use borrow.Author.Needs.{needs}
 use Rattle.accesses.proofs.element.Statement.{statement}
@@ -16,11 +18,14 @@ rem-locate c = search needs
 
 -- src/lib.rt:48:5
 locate-requires : tie.Need-locate-requires
-locate-requires c κs = ?
+locate-requires c κs =
+    let s = c .before .before in
+    (s .pre .0, s .pre .2, div-lt-iff-lt-mul (s .pre .1) .1 (s .pre .3), omega (arith, mod-lt (s .args .k) (s .pre .1), s .pre .2))
 
 -- src/lib.rt:44:1
 returns : tie.Need-returns
-returns c = ?
+unfolding elementOutcome
+returns c = c .locate .ensures
 
 pub element-spec : {M : Type 1} → statement M
 element-spec = tie.close (tie.spec div-locate rem-locate locate-requires returns)

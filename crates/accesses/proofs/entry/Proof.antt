@@ -1,3 +1,4 @@
+use Prim.Native.Nat.{_+_, _≤_}
 use native.Mathlib.Omega.{arith}
 use borrow.Author.Needs.{needs}
 use Rattle.accesses.proofs.entry.Statement.{statement}
@@ -23,11 +24,17 @@ enum-known-o c = search needs
 
 -- src/lib.rt:60:31
 cast-result : tie.Need-cast-result
-cast-result c = ?
+cast-result c =
+    let o = c .before .o in
+    let h : o .given .0 .0 + 1 ≤ 65536 = rw (o .given .1) at (c .before .before .before .pre) in
+    omega arith
 
 -- src/lib.rt:60:31
 add-result : tie.Need-add-result
-add-result c = ?
+add-result c =
+    let o = c .before .o in
+    let h : o .given .0 .0 + 1 ≤ 65536 = rw (o .given .1) at (c .before .before .before .pre) in
+    omega arith
 
 -- src/lib.rt:52:1
 returns : tie.Need-returns
@@ -43,7 +50,7 @@ returns-3 c = search needs
 
 -- src/lib.rt:52:1
 returns-4 : tie.Need-returns-4
-returns-4 c = ?
+returns-4 c = rw (c .before .o .given .1)
 
 pub entry-spec : {M : Type 1} → statement M
 entry-spec =

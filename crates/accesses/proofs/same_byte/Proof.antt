@@ -1,3 +1,6 @@
+use mathlib.Core.Path.{refl}
+use Rattle.numbers.specs.Choice.{taken, left, tests}
+use Rattle.accesses.specs.Entries.{hits}
 use borrow.Author.Needs.{needs}
 use native.Mathlib.Omega.{arith}
 use Rattle.accesses.proofs.same_byte.Statement.{statement}
@@ -7,11 +10,13 @@ use Rattle.accesses.proofs.same_byte.Lts as lts
 
 -- src/lib.rt:110:9
 returns : tie.Need-returns
-returns c = ?
+unfolding hits
+returns c = taken _ (search tests) refl
 
 -- src/lib.rt:106:1
 returns-2 : tie.Need-returns-2
-returns-2 c = ?
+unfolding hits
+returns-2 c = left _ (search tests) refl
 
 pub same-byte-spec : {M : Type 1} → statement M
 same-byte-spec = tie.close (tie.spec returns returns-2)

@@ -1,3 +1,7 @@
+use Prim.Native.Nat.{ℕ, _-_}
+use mathlib.Core.Path.{_≡_, refl, ap, _∙_}
+use Rattle.accesses.specs.Refusals.{elementOutcome, placedCount}
+use Rattle.accesses.proofs.Laws.{Passed, passed-none, passed-stop, passed-more, passed-end, element-entry}
 use borrow.Author.Needs.{needs}
 use native.Mathlib.Omega.{arith}
 use Rattle.accesses.proofs.survey_of.Statement.{statement}
@@ -7,73 +11,88 @@ use Rattle.accesses.proofs.survey_of.Lts as lts
 use Rattle.accesses.proofs.element.Reads as element-reads
 use Rattle.accesses.proofs.entry.Reads as entry-reads
 use Rattle.accesses.proofs.placed_one.Reads as placed-one-reads
-use Rattle.accesses.proofs.stop_at.Reads as stop-at-reads
 
 abbrev Inv-loop : tie.InvT-loop
-Inv-loop p count entries₀ placed₀ k₀ entries placed k = ?
+Inv-loop p count entries₀ placed₀ k₀ entries placed k = Passed (elementOutcome (p .access) (p .columns)) count k placed entries
 
 abbrev μ-loop : tie.MeasureT-loop
-μ-loop p count entries₀ placed₀ k₀ entries placed k = ?
+μ-loop p count entries₀ placed₀ k₀ entries placed k = count - k
 
--- src/lib.rt:83:5
+-- src/lib.rt:78:5
 loop-holds : tie.Need-loop-holds Inv-loop μ-loop
-loop-holds c = ?
+loop-holds c = passed-none _ _ _ refl
 
--- src/lib.rt:84:28
+-- src/lib.rt:79:28
 cast-element : tie.Need-cast-element Inv-loop μ-loop
-cast-element c = ?
+cast-element c = search needs
 
--- src/lib.rt:84:13
+-- src/lib.rt:79:13
 element-requires : tie.Need-element-requires Inv-loop μ-loop
-element-requires c κs = ?
+element-requires c κs =
+    let s = c .before .before in
+    (s .pre .0, s .pre .1, s .pre .2, omega (arith, s .pre .1, s .pre .3))
 
--- src/lib.rt:86:17
-stop-at-requires : tie.Need-stop-at-requires Inv-loop μ-loop
-stop-at-requires c κs = ?
-
--- src/lib.rt:87:13
+-- src/lib.rt:81:13
 returns : tie.Need-returns Inv-loop μ-loop
-returns c = ?
+returns c =
+    let i = c .before .before .before .before .loop in
+    let e = c .before .before .element in
+    record {
+      stop = passed-stop _ (i .inv) (e .result) (c .before .before .before .loop-test .taken) (e .ensures) (c .if1 .taken);
+      placed = λ z. absurd (c .if1 .taken z);
+      entries = λ z. absurd (c .if1 .taken z);
+    }
 
--- src/lib.rt:94:22
+-- src/lib.rt:91:22
 entry-requires : tie.Need-entry-requires Inv-loop μ-loop
-entry-requires c κs = ?
+entry-requires c κs =
+    let s = c .before .before .before .before .before in
+    rw (c .before .before .element .ensures)
+    (element-entry (s .args .p .access) (s .pre .0 .valid .sized) (s .args .p .columns) (c .before .before .before .before .loop .k))
 
--- src/lib.rt:94:9
+-- src/lib.rt:91:9
 mul-entries : tie.Need-mul-entries Inv-loop μ-loop
-mul-entries c = ?
+mul-entries c = search needs
 
--- src/lib.rt:94:9
+-- src/lib.rt:91:9
 array-write-entries : tie.Need-array-write-entries Inv-loop μ-loop
-array-write-entries c = ?
+array-write-entries c = search needs
 
--- src/lib.rt:95:19
+-- src/lib.rt:92:19
 placed-one-requires : tie.Need-placed-one-requires Inv-loop μ-loop
-placed-one-requires c κs = ?
+placed-one-requires c κs = search needs
 
--- src/lib.rt:95:9
+-- src/lib.rt:92:9
 add-placed : tie.Need-add-placed Inv-loop μ-loop
-add-placed c = ?
+add-placed c =
+    let i = c .before .before .before .before .before .before .loop in
+    omega (arith, i .inv .few, i .inv .inside, c .placed-one .ensures .1)
 
--- src/lib.rt:96:9
+-- src/lib.rt:93:9
 add-k : tie.Need-add-k Inv-loop μ-loop
-add-k c = ?
+add-k c = search needs
 
--- src/lib.rt:83:5
+-- src/lib.rt:78:5
 loop-less : tie.Need-loop-less Inv-loop μ-loop
-loop-less c = ?
+loop-less c = omega arith
 
--- src/lib.rt:83:5
+-- src/lib.rt:78:5
 loop-again : tie.Need-loop-again Inv-loop μ-loop
-loop-again c = ?
+loop-again c =
+    let i = c .before .before .before .before .before .before .loop in
+    let e = c .before .before .before .before .element in
+    passed-more _ (i .inv) (e .result) (c .before .before .before .before .before .loop-test .taken) (e .ensures)
+    (c .before .before .before .before .before .before .before .pre .3) (search needs) (c .before .entry .ensures) (c .placed-one .ensures .0) (c .placed-one .ensures .1)
 
--- src/lib.rt:98:9
-stop-at-requires-2 : tie.Need-stop-at-requires-2 Inv-loop μ-loop
-stop-at-requires-2 c κs = ?
-
--- src/lib.rt:76:1
+-- src/lib.rt:71:1
 returns-2 : tie.Need-returns-2 Inv-loop μ-loop
-returns-2 c = ?
+returns-2 c =
+    let i = c .before .loop in
+    record {
+      stop = passed-end _ (i .inv) (c .loop-test .left);
+      placed = λ z. i .inv .count ∙ ap (placedCount _) (omega (arith, i .inv .inside));
+      entries = λ z k h. i .inv .each k (omega arith);
+    }
 
 pub survey-of-spec : {M : Type 1} → statement M
 survey-of-spec =
@@ -84,7 +103,6 @@ survey-of-spec =
     loop-holds
     cast-element
     element-requires
-    stop-at-requires
     returns
     entry-requires
     mul-entries
@@ -94,5 +112,4 @@ survey-of-spec =
     add-k
     loop-less
     loop-again
-    stop-at-requires-2
     returns-2)
