@@ -129,7 +129,7 @@ module _ (a : Access) (rows n : ℕ) (ok : accessRefusal a rows n .number ≡ 0)
     other-byte i j x y h l ex ey e =
         let same = sameAt (elementOutcome a n) in
         let apart : same j i ≡ false =
-            meets-none-of same i i (none-clash same 0 count (omega (arith, search-clear)) i (omega arith) (omega arith)) j h in
+        meets-none-of same i i (none-clash same 0 count (omega (arith, search-clear)) i (omega arith) (omega arith)) j h in
         let z : eqb y x ≡ false = rw (ex, ey) at apart in
         eqb-false y x z (sym e)
 
@@ -143,9 +143,9 @@ module _ (a : Access) (rows n : ℕ) (ok : accessRefusal a rows n .number ≡ 0)
         let t = sx .1 .0 in
         let u = sy .1 .0 in
         let differ : x ≡ y → ⊥ =
-            λ e.
-            by-test (ltb j i) (λ w. other-byte i j x y (ltb-true _ _ w) hi ex ey e)
-            (λ w. let v : i ≤ j = ltb-false _ _ w in other-byte j i y x (omega arith) hj ey ex (sym e)) in
+        λ e.
+        by-test (ltb j i) (λ w. other-byte i j x y (ltb-true _ _ w) hi ex ey e)
+        (λ w. let v : i ≤ j = ltb-false _ _ w in other-byte j i y x (omega arith) hj ey ex (sym e)) in
         by-test (ltb t u) (λ w. inl (below (a .base) (a .size) (ltb-true _ _ w) (sx .1 .1) (sy .1 .1)))
         (λ w. by-test (eqb u t)
         (λ q. absurd (differ (sx .1 .1 ∙ ap (λ (s : ℕ). a .base + s * a .size) (sym (eqb-true u t q)) ∙ sym (sy .1 .1))))

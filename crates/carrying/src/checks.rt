@@ -10,6 +10,8 @@ ghost use Rattle.addressing.specs.Valid.{SizedAccess};
 ghost use Rattle.round_trip.specs.Sheets.{Within};
 ghost use Rattle.carrying.specs.Steps.{viewNamed, accessOf, objectOf, stepCheck, loadCheck, storeCheck, wholeCheck, checkedStep};
 ghost use Rattle.carrying.specs.Carrying.{refusalAt, checkRefused, checked, memoryLimit};
+use super::CheckAnswer;
+use super::StepCheck;
 use accesses::Stop;
 use addressing::Access;
 use registers::MatrixType;
@@ -19,8 +21,6 @@ use sheet::Step;
 use sheet::View;
 use sheet::sizes;
 use sheet::views;
-use super::CheckAnswer;
-use super::StepCheck;
 
 const EMPTY_REGISTER: u8 = 7;
 

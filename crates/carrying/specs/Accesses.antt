@@ -1,0 +1,50 @@
+-- The loads and stores of a sheet that is within Sizes, and what their check tells.
+use Prim.Native.Nat.{ℕ, _*_, _<_, _≤_}
+use mathlib.Core.Path.{_≡_, refl, sym, ap, _∙_}
+use mathlib.Core.Bool.{Bool, true, false, not, true≢false}
+use mathlib.Core.List.{List}
+use mathlib.Core.Logic.{⊎-elim}
+use native.Mathlib.Omega.{arith}
+use lib.Dec.{eqb, ltb}
+use borrow.Author.Tests.{ltb-true, eqb-false, not-true, not-false}
+use Rattle.numbers.specs.Choice.{pick, pick-inv}
+use Rattle.kinds.specs.Widths.{bytesOf}
+use Rattle.kinds.specs.Laws.{ElementSize, bytes-size, bytes-low, bytes-high}
+use Rattle.sheet.specs.Sizes.{optionOk}
+use Rattle.sheet.specs.Layouts.{theLayout, layoutOk}
+use Rattle.sheet.specs.Views.{theView, noView, viewOk}
+use Rattle.sheet.specs.declared.Sheet.{Sheet}
+use Rattle.round_trip.specs.Sheets.{Within}
+use Rattle.registers.specs.Types.{isEmpty, withType}
+use Rattle.registers.specs.declared.MatrixType.{MatrixType}
+use Rattle.addressing.specs.declared.Access.{Access}
+use Rattle.addressing.specs.Valid.{SizedAccess, ValidAccess}
+use Rattle.accesses.specs.Refusals.{accessRefusal, checkedAccess, checked, checkedBy}
+use Rattle.accesses.specs.Accepted.{accepted-valid}
+use Rattle.carrying.specs.Steps.{viewed, viewNamed, accessOf, stepCheck, accessCheck, loadCheck, storeCheck}
+
+-- a view that a step names, and that is one, is among those given
+pub view-given : (count view : ℕ) → optionOk count view ≡ true → viewed view ≡ true → view < count
+unfolding optionOk
+view-given count view e v =
+    ⊎-elim (λ w. absurd (true≢false (sym (w .0) ∙ not-true _ v)))
+    (λ w. ltb-true view count (w .1))
+    (pick-inv _ _ _ e)
+
+-- the bytes of an element are 1, 2 or 4
+bytes-not-three : (kind : ℕ) → bytesOf kind ≡ 3 → ⊥
+bytes-not-three kind e =
+    ⊎-elim (λ p. omega arith) (λ q. ⊎-elim (λ p. omega arith) (λ p. omega arith) q) (bytes-size kind)
+
+module _ (sh : Sheet) (w : Within sh) (load : Bool) (layout view base : ℕ) (t : MatrixType) (len : ℕ) where
+  pub access-sized : layout < sh .layouts → optionOk (sh .views) view ≡ true → len ≤ 65536 → SizedAccess (accessOf sh load layout view base t len)
+  unfolding pick
+  access-sized l o m =
+      record {
+        layout = w .layout .given layout l;
+        view = λ v. rw v (w .view .given view (view-given (sh .views) view o v));
+        some = bytes-low (t .kind);
+        most = bytes-high (t .kind);
+        odd = bytes-not-three (t .kind);
+        memory = m;
+      }

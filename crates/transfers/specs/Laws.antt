@@ -1,0 +1,108 @@
+-- What one element's act keeps, and one more element.
+use Prim.Native.Nat.{ℕ, zero, suc, _+_, _*_, _<_, _≤_}
+use mathlib.Core.Path.{_≡_, refl, sym, ap, ap₂, _∙_}
+use mathlib.Core.Bool.{Bool, true, false}
+use mathlib.Core.List.{List}
+use mathlib.Core.Logic.{_⊎_, inl, inr}
+use native.Mathlib.Nat.{le-refl}
+use native.Mathlib.Numerals.{add-one}
+use native.Mathlib.Omega.{arith}
+use lib.Dec.{eqb}
+use lib.ListN.{length}
+use borrow.Author.Tests.{eqb-true, eqb-false}
+use Rattle.kinds.specs.Laws.{ElementSize}
+use Rattle.outcomes.specs.declared.Outcome.{Outcome}
+use Rattle.outcomes.specs.declared.Outcome.the-variants.{Skipped, Filled, Discarded, Placed}
+use Rattle.addressing.specs.declared.Access.{Access}
+use Rattle.addressing.specs.Valid.{SizedAccess}
+use Rattle.addressing.specs.Sound.{Sound}
+use Rattle.memory.specs.Laws.{length-with}
+use Rattle.transfers.specs.Acts.{State, state, loaded, stored, Inside}
+use Rattle.transfers.specs.Transfers.{transferred, outcomeOf, loadedElements, storedElements}
+
+module _ (size register element : ℕ) where
+  -- a load's element changes no memory, a store's no register
+  pub loaded-memory : (o : Outcome) (s : State) → loaded size register element o s .memory ≡ s .memory
+  loaded-memory Skipped s = refl
+  loaded-memory (Filled bits) s = refl
+  loaded-memory Discarded s = refl
+  loaded-memory (Placed byte) s = refl
+
+  pub stored-elements : (o : Outcome) (s : State) → stored size register element o s .elements ≡ s .elements
+  stored-elements Skipped s = refl
+  stored-elements (Filled bits) s = refl
+  stored-elements Discarded s = refl
+  stored-elements (Placed byte) s = refl
+
+  -- a store keeps the length of memory
+  pub stored-length : (o : Outcome) (s : State) → length (stored size register element o s .memory) ≡ length (s .memory)
+  stored-length Skipped s = refl
+  stored-length (Filled bits) s = refl
+  stored-length Discarded s = refl
+  stored-length (Placed byte) s = length-with (s .memory) byte size _
+
+  -- an element counts at most once
+  pub loaded-count : (o : Outcome) (s : State) → loaded size register element o s .count ≤ s .count + 1
+  loaded-count Skipped s = omega arith
+  loaded-count (Filled bits) s = omega arith
+  loaded-count Discarded s = omega arith
+  loaded-count (Placed byte) s = le-refl _
+
+  pub stored-count : (o : Outcome) (s : State) → stored size register element o s .count ≤ s .count + 1
+  stored-count Skipped s = omega arith
+  stored-count (Filled bits) s = omega arith
+  stored-count Discarded s = omega arith
+  stored-count (Placed byte) s = le-refl _
+
+-- one more element
+pub transferred-none : (act : ℕ → Outcome → State → State) (f : ℕ → Outcome) (s : State) → transferred act f 0 s ≡ s
+unfolding transferred
+transferred-none act f s = refl
+
+pub transferred-more : (act : ℕ → Outcome → State → State) (f : ℕ → Outcome) (n : ℕ) (s : State) → transferred act f (n + 1) s ≡ act n (f n) (transferred act f n s)
+unfolding transferred
+transferred-more act f n s = rw add-one
+
+-- an element's bytes lie in memory
+pub sound-inside : (a : Access) (o : Outcome) → Sound a o → Inside (a .size) (a .memory) o
+sound-inside a Skipped s = tt
+sound-inside a (Filled bits) s = tt
+sound-inside a Discarded s = tt
+sound-inside a (Placed byte) s = s .0
+
+by-test : {P : Type 0} (b : Bool) → (b ≡ true → P) → (b ≡ false → P) → P
+by-test true f g = f refl
+by-test false f g = g refl
+
+-- the elements of an access have 1, 2 or 4 bytes
+pub access-size : (a : Access) → SizedAccess a → ElementSize (a .size)
+access-size a s =
+    by-test (eqb (a .size) 1) (λ e. inl (eqb-true _ _ e))
+    (λ e. by-test (eqb (a .size) 2) (λ f. inr (inl (eqb-true _ _ f)))
+    (λ f.
+    let n : a .size ≡ 1 → ⊥ = eqb-false _ _ e in
+    let m : a .size ≡ 2 → ⊥ = eqb-false _ _ f in
+    let k : a .size ≡ 4 = omega (arith, s .some, s .most, s .odd) in
+    inr (inr k)))
+
+-- a state by its parts
+made : (x : State) {es m : List ℕ} {n : ℕ} → es ≡ x .elements → m ≡ x .memory → n ≡ x .count → state es m n ≡ x
+made x p q r = rw (p, q, r)
+
+-- one turn of the loop over a load's elements, and over a store's
+module _ (a : Access) (columns register k : ℕ) (s : State) {es m : List ℕ} {n : ℕ} (o : Outcome) (q : o ≡ outcomeOf a columns k) where
+  pub load-turn : {es′ : List ℕ} {n′ : ℕ} → state es m n ≡ loadedElements a columns register k s → es′ ≡ loaded (a .size) register k o (state es m n) .elements → n′ ≡ loaded (a .size) register k o (state es m n) .count → state es′ m n′ ≡ loadedElements a columns register (k + 1) s
+  load-turn inv p r =
+      made (loaded (a .size) register k o (state es m n)) p (sym (loaded-memory (a .size) register k o (state es m n))) r
+      ∙ ap₂ (loaded (a .size) register k) q inv
+      ∙ sym (transferred-more (loaded (a .size) register) (outcomeOf a columns) k s)
+
+  pub store-turn : {m′ : List ℕ} {n′ : ℕ} → state es m n ≡ storedElements a columns register k s → m′ ≡ stored (a .size) register k o (state es m n) .memory → n′ ≡ stored (a .size) register k o (state es m n) .count → state es m′ n′ ≡ storedElements a columns register (k + 1) s
+  store-turn inv p r =
+      made (stored (a .size) register k o (state es m n)) (sym (stored-elements (a .size) register k o (state es m n))) p r
+      ∙ ap₂ (stored (a .size) register k) q inv
+      ∙ sym (transferred-more (stored (a .size) register) (outcomeOf a columns) k s)
+
+-- an element number is below the most that a matrix of so many columns could have
+pub number-below : (k n columns : ℕ) → k < n → n ≤ 256 → 0 < columns → k < 256 * columns
+number-below k n columns h l p = omega arith
