@@ -4,6 +4,7 @@ use mathlib.Core.Path.{_≡_, refl, sym, ap, _∙_}
 use mathlib.Core.Bool.{Bool, true, false, not, true≢false}
 use mathlib.Core.List.{List}
 use mathlib.Core.Logic.{⊎-elim}
+use native.Mathlib.Nat.{mul-le-mul}
 use native.Mathlib.Omega.{arith}
 use lib.Dec.{eqb, ltb}
 use borrow.Author.Tests.{ltb-true, eqb-false, not-true, not-false}
@@ -16,6 +17,7 @@ use Rattle.sheet.specs.Views.{theView, noView, viewOk}
 use Rattle.sheet.specs.declared.Sheet.{Sheet}
 use Rattle.round_trip.specs.Sheets.{Within}
 use Rattle.registers.specs.Types.{isEmpty, withType}
+use Rattle.registers.specs.Sized.{SizedType}
 use Rattle.registers.specs.declared.MatrixType.{MatrixType}
 use Rattle.addressing.specs.declared.Access.{Access}
 use Rattle.addressing.specs.Valid.{SizedAccess, ValidAccess}
@@ -48,3 +50,40 @@ module _ (sh : Sheet) (w : Within sh) (load : Bool) (layout view base : ℕ) (t 
         odd = bytes-not-three (t .kind);
         memory = m;
       }
+
+-- a matrix that is not empty
+pub record Shaped (t : MatrixType) : Type 0 where
+  pub some : 0 < t .columns
+  pub most : t .columns < 256
+  pub tall : t .rows < 256
+  pub area : t .rows * t .columns ≤ 256
+
+pub shaped : (t : MatrixType) → SizedType t → isEmpty t ≡ false → Shaped t
+shaped t s e =
+    let n : t .rows ≡ 0 → ⊥ = eqb-false (t .rows) 0 e in
+    let a : t .rows * t .columns ≤ 16 * 16 = mul-le-mul (s .rows) (s .columns) in
+    record { some = s .some (omega arith); most = omega (arith, s .columns); tall = omega (arith, s .rows); area = a }
+
+-- a check that is not refused: the register is not empty, and no refusal 9 to 15
+pub record Accepted (t : MatrixType) (a : Access) : Type 0 where
+  pub filled : isEmpty t ≡ false
+  pub clear : accessRefusal a (t .rows) (t .columns) .number ≡ 0
+
+accepted : (t : MatrixType) (a : Access) (ts us : List MatrixType) → pick (isEmpty t) (stepCheck 7 0 ts 0) (accessCheck us (checkedAccess a (t .rows) (t .columns))) .stop .number ≡ 0 → Accepted t a
+unfolding pick checked
+accepted t a ts us e =
+    by-test (isEmpty t) (λ b. let z : _≡_ {A = ℕ} 7 0 = rw b at e in absurd (omega arith))
+    (λ b. record { filled = b; clear = rw b at e })
+  where
+    by-test : {P : Type 0} (b : Bool) → (b ≡ true → P) → (b ≡ false → P) → P
+    by-test true f g = f refl
+    by-test false f g = g refl
+
+module _ (sh : Sheet) (ts : List MatrixType) (len register : ℕ) (t : MatrixType) (layout view base : ℕ) where
+  pub load-accepted : loadCheck sh ts len register t layout view base .stop .number ≡ 0 → Accepted t (accessOf sh true layout view base t len)
+  unfolding loadCheck
+  load-accepted e = accepted t (accessOf sh true layout view base t len) ts (withType ts register t) e
+
+  pub store-accepted : storeCheck sh ts len t layout view base .stop .number ≡ 0 → Accepted t (accessOf sh false layout view base t len)
+  unfolding storeCheck
+  store-accepted e = accepted t (accessOf sh false layout view base t len) ts ts e

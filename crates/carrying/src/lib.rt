@@ -1,10 +1,6 @@
 // Carrying out a sheet: a check over types that refuses or accepts, then a performance that cannot fail.
-pub mod checks;
-pub mod performing;
+pub mod memory_steps;
 
-ghost use mathlib.Core.Path.{_≡_};
-ghost use lib.ListN.{length};
-ghost use Rattle.carrying.specs.Carrying.{checkRefused, checkedSheet, carryAnswer, carried, carriedMemory};
 use accesses::Stop;
 use registers::MatrixType;
 use registers::Registers;
@@ -31,36 +27,8 @@ pub struct CarryAnswer {
     pub registers: Registers,
 }
 
-const MEMORY_TOO_LARGE: u8 = 18;
-
-fn refusal_at(number: u8, place: usize, element: usize) -> Refusal
-    ensures { λ r. ⌜ r ≡ refusalAt number place element ⌝ }
-{
-    Refusal {
-        number,
-        place,
-        element,
-    }
-}
-
-fn check_refused(refusal: Refusal) -> CheckAnswer
-    ensures { λ r. ⌜ r ≡ checkRefused refusal ⌝ }
-{
-    CheckAnswer { refusal, count: 0 }
-}
-
-// Whether a sheet would be refused for a memory of a length, and how many elements of its loads and stores have a byte.
-pub fn check_sheet(sheet: &[u8], memory_len: usize) -> CheckAnswer
-    ensures { λ r. ⌜ r ≡ checkedSheet (now (sheet .entry)) memory_len ⌝ }
-{
-    if MEMORY_LIMIT < memory_len {
-        return check_refused(refusal_at(MEMORY_TOO_LARGE, 0, 0));
-    }
-    let read = sheet_reader::read_sheet(sheet);
-    let refusal = read.refusal;
-    if 0 < refusal.number {
-        return check_refused(refusal);
-    }
-    let model = read.sheet;
-    checks::check(model, memory_len)
+// Registers, and how many elements of loads and stores had a byte. Memory is the lent one.
+pub struct Performed {
+    pub registers: Registers,
+    pub count: usize,
 }

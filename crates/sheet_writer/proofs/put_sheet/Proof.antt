@@ -67,13 +67,14 @@ returns c =
     let steps = each (sh .steps) (stepField (sh .step)) in
     let l = c .before .before .before .before .before .before .before .before .before .before .put-layouts .ensures in
     let v = c .before .before .before .before .before .before .put-views .ensures in
-    let s = c .before .before .put-steps .ensures in
-    (omega arith,
-    puts-at o 0 (edition ++ layouts ++ views) steps (simp length-append (omega arith))
-    (puts-at o 0 (edition ++ layouts) views (simp length-append (omega arith))
-    (puts-after o 0 edition layouts (c .before .before .before .before .before .before .before .before .before .before .before .before .before .before .put-edition .ensures) (l .1))
-    (v .1))
-    (s .1))
+    let s = c .before .before .put-steps .ensures in (
+      omega arith,
+      puts-at o 0 (edition ++ layouts ++ views) steps (simp length-append (omega arith))
+          (puts-at o 0 (edition ++ layouts) views (simp length-append (omega arith))
+          (puts-after o 0 edition layouts (c .before .before .before .before .before .before .before .before .before .before .before .before .before .before .put-edition .ensures) (l .1))
+          (v .1))
+          (s .1),
+    )
 
 pub put-sheet-spec : {M : Type 1} → statement M
 put-sheet-spec =

@@ -32,8 +32,7 @@ array-copy-out-v c = search needs
 put-view-requires : tie.Need-put-view-requires Inv-loop μ-loop
 put-view-requires c κs =
     let a = c .before .before .before .before .before .args in
-    let k = c .before .before .before .loop .k in
-    (
+    let k = c .before .before .before .loop .k in (
       view-rank-at (a .count) (a .t4) k (c .before .before .before .before .before .pre .0 .0) (c .before .before .before .before .before .pre .0 .1) (c .before .before .loop-test .taken),
       turn-fits _ _ _ _ (c .before .before .before .loop .inv .1) (c .before .before .before .before .before .pre .1) (c .before .before .loop-test .taken),
     )

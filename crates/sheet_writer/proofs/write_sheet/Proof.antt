@@ -61,8 +61,7 @@ returns-3 : tie.Need-returns-3
 unfolding written writtenRoom
 returns-3 c =
     let ok = went-past (c .before .before .before .before .before .before .before .before .writable .ensures) (c .before .before .before .before .before .before .before .if1 .left) in
-    let room = le-leb _ _ (rw (c .before .before .before .before .before .before .sheet-len .ensures) at (c .before .before .before .before .before .if2 .left)) in
-    (
+    let room = le-leb _ _ (rw (c .before .before .before .before .before .before .sheet-len .ensures) at (c .before .before .before .before .before .if2 .left)) in (
       taken _ ok (taken _ room (rw (c .before .before .before .put-sheet .ensures .0) at (c .answer3 .ensures))),
       taken _ ok (taken _ room (c .before .before .before .put-sheet .ensures .1)),
     )
