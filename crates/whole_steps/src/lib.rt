@@ -1,0 +1,3 @@
+// Fill, reduce, transpose and multiply-add.
+pub mod blocks;
+pub mod reduces;
