@@ -65,7 +65,7 @@ rows-more columns f i g e o h =
     ∙ line-joined blank 0 (numbered columns f) (i * columns) columns
     ∙ ap (λ (k : ℕ). line blank 0 (numbered columns f) k) n
 
-length-blank : length blank ≡ room
+pub length-blank : length blank ≡ room
 unfolding blank
 length-blank = length-replicate {A = ℕ} room 0
 

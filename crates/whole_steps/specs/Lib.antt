@@ -4,4 +4,5 @@ pub mod Multiplying
 pub mod Refusals
 pub mod Whole
 pub mod Parts
+pub mod Products
 pub mod GridLaws

@@ -1,3 +1,4 @@
 // Fill, reduce, transpose and multiply-add.
 pub mod blocks;
+pub mod products;
 pub mod reduces;
