@@ -6,3 +6,6 @@ pub mod Whole
 pub mod Parts
 pub mod Products
 pub mod GridLaws
+pub mod Within
+pub mod Theorems
+pub mod Strip

@@ -2,3 +2,4 @@
 pub mod blocks;
 pub mod products;
 pub mod reduces;
+pub mod refusals;
