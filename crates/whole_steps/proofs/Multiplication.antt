@@ -1,5 +1,5 @@
 -- Sums of products of residues are the elements of a multiply-add.
-use mathlib.Core.Path.{_≡_, refl, sym, ap, ap₂, _∙_}
+use mathlib.Core.Path.{_≡_, refl, sym, ap, _∙_}
 use mathlib.Core.List.{List}
 use mathlib.Core.Bool.{true}
 use Prim.Native.Nat.{ℕ, zero, suc, _+_, _*_, _%_, _^_, _<_, _≤_}
@@ -7,7 +7,7 @@ use native.Mathlib.Nat.{mul-le-mul, zero-add, add-comm}
 use native.Mathlib.Numerals.{add-one}
 use native.Mathlib.Omega.{arith}
 use lib.IntN.{ℤ, _*ℤ_}
-use lib.ListN.{getD, length, length-replicate}
+use lib.ListN.{getD}
 use borrow.Author.Tests.{eqb-true}
 use Rattle.numbers.specs.Choice.{both-left, both-right}
 use Rattle.numbers.specs.Lists.{line}

@@ -1,14 +1,13 @@
 -- Laws of grids: where an element of a matrix stands, and blocks written row by row.
 use mathlib.Core.Path.{_≡_, refl, sym, ap, ap₂, _∙_}
 use mathlib.Core.List.{List}
-use mathlib.Core.Logic.{_↔_}
 use Prim.Native.Nat.{ℕ, zero, suc, _+_, _*_, _/_, _%_, _<_, _≤_}
 use native.Mathlib.Nat.{mul-le-mul-right, mul-add-div-right, mul-add-mod-self-right, suc-mul, div-eq-of-lt, mod-eq-of-lt, mod-lt, zero-add, add-zero, zero-mul, mul-zero, div-lt-iff-lt-mul, not-suc-le-zero}
 use native.Mathlib.Numerals.{add-one}
 use native.Mathlib.Omega.{arith}
-use lib.ListN.{getD, replicate, length, length-replicate}
+use lib.ListN.{getD, length, length-replicate}
 use Rattle.numbers.specs.Lists.{line, line-none}
-use Rattle.numbers.specs.Lines.{line-inside, line-outside, line-same, line-joined}
+use Rattle.numbers.specs.Lines.{line-inside, line-same, line-joined}
 use Rattle.registers.specs.Registers.{room}
 use Rattle.whole_steps.specs.Grids.{numbered, blank, block}
 

@@ -1,6 +1,6 @@
 -- Matrices in registers. Element (row, col) of an M by N matrix has number row*N+col; the places past the matrix are 0.
-use Prim.Native.Nat.{ℕ, _+_, _*_, _/_, _%_}
 use mathlib.Core.List.{List}
+use Prim.Native.Nat.{ℕ, _+_, _*_, _/_, _%_}
 use lib.ListN.{replicate}
 use Rattle.numbers.specs.Lists.{line}
 use Rattle.registers.specs.Types.{withType}

@@ -1,6 +1,6 @@
 -- Multiply-add: exact A times B plus C, modulo 2^32.
-use Prim.Native.Nat.{ℕ, zero, suc, _^_}
 use mathlib.Core.List.{List}
+use Prim.Native.Nat.{ℕ, zero, suc, _^_}
 use lib.IntN.{ℤ, pos, _+ℤ_, _*ℤ_}
 use Rattle.kinds.specs.Values.{value}
 use Rattle.kinds.specs.Modulo.{modZ}

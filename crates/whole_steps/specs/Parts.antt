@@ -1,6 +1,6 @@
 -- What the inner functions of a reduce give: the folds of its parts.
-use Prim.Native.Nat.{ℕ, _+_, _*_, _/_, _%_}
 use mathlib.Core.List.{List}
+use Prim.Native.Nat.{ℕ, _+_, _*_, _/_, _%_}
 use lib.ListN.{getD, replicate}
 use Rattle.numbers.specs.Lists.{line}
 use Rattle.sheet.specs.declared.Combine.{Combine}

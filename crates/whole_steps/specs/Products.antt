@@ -1,6 +1,6 @@
 -- What the inner functions of a multiply-add give: values modulo 2^32, and sums of their products.
-use Prim.Native.Nat.{ℕ, zero, suc, _+_, _*_, _%_, _^_}
 use mathlib.Core.List.{List}
+use Prim.Native.Nat.{ℕ, zero, suc, _+_, _*_, _%_, _^_}
 use lib.ListN.{getD}
 use Rattle.numbers.specs.Lists.{line}
 use Rattle.kinds.specs.Values.{value}

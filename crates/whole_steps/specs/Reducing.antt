@@ -1,6 +1,6 @@
 -- What each element of a reduce is combined from, and how.
-use Prim.Native.Nat.{ℕ, _+_, _-_, _*_, _/_, _%_}
 use mathlib.Core.List.{List}
+use Prim.Native.Nat.{ℕ, _+_, _-_, _*_, _/_, _%_}
 use Rattle.registers.specs.Registers.{elementOf}
 use Rattle.registers.specs.declared.MatrixType.{MatrixType}
 use Rattle.sheet.specs.declared.ReduceMode.{ReduceMode}

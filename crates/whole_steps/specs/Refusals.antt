@@ -1,7 +1,7 @@
 -- When a whole step is refused: 7 or 8, by the registers' types alone.
-use Prim.Native.Nat.{ℕ, _*_}
 use mathlib.Core.List.{List}
 use mathlib.Core.Bool.{Bool, true, false}
+use Prim.Native.Nat.{ℕ, _*_}
 use lib.Dec.{eqb}
 use Rattle.numbers.specs.Choice.{pick, both, between}
 use Rattle.registers.specs.Types.{theType, isEmpty}

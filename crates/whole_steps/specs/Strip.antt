@@ -1,9 +1,8 @@
 -- Strip 11: 2x2 add of u8 200, 100, 1, 2 gives 47.
-use Prim.Native.Nat.{ℕ}
 use mathlib.Core.Path.{_≡_, refl}
-use mathlib.Core.List.{List, [], _∷_, _++_}
+use mathlib.Core.List.{[], _∷_, _++_}
 use lib.ListN.{replicate}
-use Rattle.numbers.specs.Choice.{pick, both}
+use Rattle.numbers.specs.Choice.{pick}
 use Rattle.numbers.specs.Lists.{line}
 use Rattle.kinds.specs.Widths.{width}
 use Rattle.registers.specs.Types.{noType}

@@ -1,8 +1,8 @@
 -- Whole steps leave the types that are said of them, and change no other register.
-use Prim.Native.Nat.{ℕ, _<_}
 use mathlib.Core.Path.{_≡_, refl}
 use mathlib.Core.Logic.{_≢_}
 use mathlib.Core.List.{List}
+use Prim.Native.Nat.{ℕ, _<_}
 use lib.Seq.{getD-set-other}
 use Rattle.registers.specs.Types.{noType, theType}
 use Rattle.registers.specs.Registers.{room, elementOf}

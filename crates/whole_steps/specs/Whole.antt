@@ -1,7 +1,7 @@
 -- What whole steps do: the types that they leave, and the registers. A result may name a source: the old contents are read.
 -- Loads and stores are no whole steps, and change nothing here.
-use Prim.Native.Nat.{ℕ, _<_, _≤_}
 use mathlib.Core.List.{List}
+use Prim.Native.Nat.{ℕ}
 use Rattle.registers.specs.Types.{theType, withType}
 use Rattle.registers.specs.declared.MatrixType.{MatrixType}
 use Rattle.registers.specs.declared.Registers.{Registers}

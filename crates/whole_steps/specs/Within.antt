@@ -1,8 +1,8 @@
 -- Whole steps whose registers and sides are within Sizes: what a sheet's step keeps to, and that its result's type does.
-use Prim.Native.Nat.{ℕ, _<_, _≤_}
 use mathlib.Core.Path.{_≡_, ap}
 use mathlib.Core.Bool.{true}
 use mathlib.Core.List.{List}
+use Prim.Native.Nat.{ℕ, _<_, _≤_}
 use native.Mathlib.Decide.{ℕ-discrete}
 use native.Mathlib.Omega.{arith}
 use borrow.Author.Tests.{ltb-true, leb-true}
@@ -14,7 +14,7 @@ use Rattle.sheet.specs.Sizes.{sideLimit, sideOk}
 use Rattle.sheet.specs.Steps.{fillOk, reduceOk, transposeOk, multiplyOk, stepOk}
 use Rattle.sheet.specs.declared.Step.{Step}
 use Rattle.sheet.specs.declared.Step.the-variants.{Nothing, Fill, Load, Store, Reduce, Transpose, MultiplyAdd}
-use Rattle.whole_steps.specs.Whole.{matrixType, reducedType, transposedType, wholeTypes}
+use Rattle.whole_steps.specs.Whole.{matrixType, transposedType, wholeTypes}
 
 pub record Side (x : ℕ) : Type 0 where
   pub low : 1 ≤ x

@@ -72,7 +72,14 @@ pub fn transpose_block(elements: &[u32], source: u8, t: MatrixType) -> [u32; 256
 {
     let rows = t.rows as usize;
     let columns = t.columns as usize;
-    spread(elements, registers::place_of(source, 0), 1, columns, columns, rows)
+    spread(
+        elements,
+        registers::place_of(source, 0),
+        1,
+        columns,
+        columns,
+        rows,
+    )
 }
 
 // A register made a matrix of a type with the places of a block.

@@ -9,10 +9,10 @@ ghost use Rattle.combines.specs.Combining.{folded};
 ghost use Rattle.whole_steps.specs.Grids.{block};
 ghost use Rattle.whole_steps.specs.Reducing.{reduced};
 ghost use Rattle.whole_steps.specs.Parts.{folds, quad};
+use super::blocks;
 use registers::MatrixType;
 use sheet::Combine;
 use sheet::ReduceMode;
-use super::blocks;
 
 // The folds of `count` parts whose first elements are `apart` places apart, each of `later` more elements in steps.
 fn fold_parts(
@@ -104,18 +104,8 @@ fn quad(elements: &[u32], kind: u8, combine: Combine, n: usize, first: usize) ->
         numbers::at(elements, first),
         numbers::at(elements, first + 1),
     );
-    let three = combines::combine(
-        kind,
-        combine,
-        top,
-        numbers::at(elements, first + n),
-    );
-    combines::combine(
-        kind,
-        combine,
-        three,
-        numbers::at(elements, first + n + 1),
-    )
+    let three = combines::combine(kind, combine, top, numbers::at(elements, first + n));
+    combines::combine(kind, combine, three, numbers::at(elements, first + n + 1))
 }
 
 // A row of a block: the blocks of 2 by 2 from a place on.

@@ -130,16 +130,11 @@ pub fn whole_refusal(types: [MatrixType; 4], step: Step) -> u8
             columns,
             mode,
             combine: _,
-        } => reduce_refusal(
-            registers::the_type(types, source),
-            rows,
-            columns,
-            mode,
-        ),
-        Step::Transpose {
-            result: _,
+        } => reduce_refusal(registers::the_type(types, source), rows, columns, mode),
+        Step::Transpose { result: _, source } => transpose_refusal(registers::the_type(
+            types,
             source,
-        } => transpose_refusal(registers::the_type(types, source)),
+        )),
         Step::MultiplyAdd { result: _, a, b, c } => multiply_refusal(
             registers::the_type(types, a),
             registers::the_type(types, b),

@@ -1,18 +1,13 @@
-use mathlib.Core.Path.{_∙_}
-use Rattle.whole_steps.proofs.Laws.{row-fits}
-use Rattle.whole_steps.proofs.Laws.{sides}
+use mathlib.Core.Path.{_∙_, _≡_, refl}
+use Prim.Native.Nat.{ℕ, _≤_, _-_, _+_, _*_}
+use native.Mathlib.Omega.{arith}
+use lib.ListN.{getD}
+use borrow.Author.Needs.{needs}
+use Rattle.whole_steps.proofs.Laws.{row-fits, sides}
 use Rattle.whole_steps.specs.GridLaws.{rowsOf, rows-none, rows-more, rows-all}
 use Rattle.whole_steps.specs.Grids.{blank}
-use lib.ListN.{getD}
-use mathlib.Core.Path.{_≡_, sym, refl}
-use Prim.Native.Nat.{ℕ, _≤_, _-_, _+_, _*_}
-use borrow.Author.Needs.{needs}
-use native.Mathlib.Omega.{arith}
 use Rattle.whole_steps.proofs.blocks.spread.Statement.{statement}
 use Rattle.whole_steps.proofs.blocks.spread.Tie as tie
-use Rattle.whole_steps.proofs.blocks.spread.Reads as reads
-use Rattle.whole_steps.proofs.blocks.spread.Lts as lts
-use Rattle.whole_steps.proofs.blocks.spread_row.Reads as spread-row-reads
 
 abbrev Inv-loop : tie.InvT-loop
 Inv-loop from first down across rows columns out₀ i₀ out i = (i ≤ rows) × (out ≡ rowsOf columns (λ (a b : ℕ). getD from (first + a * down + b * across) 0) i)
@@ -20,24 +15,19 @@ Inv-loop from first down across rows columns out₀ i₀ out i = (i ≤ rows) ×
 abbrev μ-loop : tie.MeasureT-loop
 μ-loop from first down across rows columns out₀ i₀ out i = rows - i
 
--- src/blocks.rt:46:5
 loop-holds : tie.Need-loop-holds Inv-loop μ-loop
 unfolding blank
 loop-holds c = (search needs, rows-none _ _)
 
--- src/blocks.rt:49:13
 mul-spread-row : tie.Need-mul-spread-row Inv-loop μ-loop
 mul-spread-row c = omega (arith, sides (c .before .before .loop .i) (c .before .before .before .before .args .columns) (omega arith) (omega arith))
 
--- src/blocks.rt:51:21
 mul-spread-row-2 : tie.Need-mul-spread-row-2 Inv-loop μ-loop
 mul-spread-row-2 c = omega (arith, sides (c .before .before .loop .i) (c .before .before .before .before .args .down) (omega arith) (omega arith))
 
--- src/blocks.rt:51:13
 add-spread-row : tie.Need-add-spread-row Inv-loop μ-loop
 add-spread-row c = omega (arith, sides (c .before .before .loop .i) (c .before .before .before .before .args .down) (omega arith) (omega arith))
 
--- src/blocks.rt:47:9
 spread-row-requires : tie.Need-spread-row-requires Inv-loop μ-loop
 spread-row-requires c κs =
     let i = c .before .before .loop .i in
@@ -47,22 +37,18 @@ spread-row-requires c κs =
       omega arith,
     )
 
--- src/blocks.rt:55:9
 add-i : tie.Need-add-i Inv-loop μ-loop
 add-i c = search needs
 
--- src/blocks.rt:46:5
 loop-less : tie.Need-loop-less Inv-loop μ-loop
 loop-less c = search needs
 
--- src/blocks.rt:46:5
 loop-again : tie.Need-loop-again Inv-loop μ-loop
 loop-again c = (
-      search needs,
-      rows-more _ _ _ _ (c .before .before .before .loop .inv .1) (c .spread-row .ensures) (λ j l. refl),
-    )
+  search needs,
+  rows-more _ _ _ _ (c .before .before .before .loop .inv .1) (c .spread-row .ensures) (λ j l. refl),
+)
 
--- src/blocks.rt:33:1
 returns : tie.Need-returns Inv-loop μ-loop
 returns c =
     let e : c .before .loop .i ≡ c .before .before .before .args .rows = omega arith in

@@ -1,46 +1,33 @@
+use mathlib.Core.Path.{_∙_}
+use borrow.Author.Needs.{needs}
 use Rattle.whole_steps.proofs.Multiplication.{multiplied-at}
 use Rattle.whole_steps.specs.GridLaws.{block-same}
 use Rattle.whole_steps.specs.Products.{dotPlus}
 use Rattle.whole_steps.specs.Grids.{block}
-use mathlib.Core.Path.{_≡_, refl, _∙_}
-use native.Mathlib.Omega.{arith}
-use borrow.Author.Needs.{needs}
 use Rattle.whole_steps.proofs.products.multiply_block.Statement.{statement}
 use Rattle.whole_steps.proofs.products.multiply_block.Tie as tie
-use Rattle.whole_steps.proofs.products.multiply_block.Reads as reads
-use Rattle.whole_steps.proofs.products.multiply_block.Lts as lts
-use Rattle.whole_steps.proofs.products.product.Reads as product-reads
-use Rattle.whole_steps.proofs.products.residues.Reads as residues-reads
 
--- src/products.rt:107:13
 residues-requires : tie.Need-residues-requires
 residues-requires c κs = search needs
 
--- src/products.rt:108:13
 residues-requires-2 : tie.Need-residues-requires-2
 residues-requires-2 c κs = search needs
 
--- src/products.rt:109:13
 residues-requires-3 : tie.Need-residues-requires-3
 residues-requires-3 c κs = search needs
 
--- src/products.rt:114:9
 cast-product : tie.Need-cast-product
 cast-product c = search needs
 
--- src/products.rt:115:9
 cast-product-2 : tie.Need-cast-product-2
 cast-product-2 c = search needs
 
--- src/products.rt:116:9
 cast-product-3 : tie.Need-cast-product-3
 cast-product-3 c = search needs
 
--- src/products.rt:110:5
 product-requires : tie.Need-product-requires
 product-requires c κs = search needs
 
--- src/products.rt:95:1
 returns : tie.Need-returns
 returns c =
     let s = c .before .before .before .before .before .before .before .before .before .before .before in

@@ -1,16 +1,13 @@
+use mathlib.Core.Path.{_≡_, refl, _∙_}
+use Prim.Native.Nat.{_≤_, _-_}
+use native.Mathlib.Omega.{arith}
+use borrow.Author.Needs.{needs}
 use Rattle.whole_steps.proofs.Laws.{sides, row-fits}
 use Rattle.whole_steps.specs.GridLaws.{rowsOf, rows-none, rows-more, rows-all}
 use Rattle.whole_steps.specs.Products.{dotPlus}
 use Rattle.whole_steps.specs.Grids.{blank}
-use mathlib.Core.Path.{_≡_, refl, _∙_}
-use Prim.Native.Nat.{ℕ, _≤_, _-_, _+_, _*_}
-use borrow.Author.Needs.{needs}
-use native.Mathlib.Omega.{arith}
 use Rattle.whole_steps.proofs.products.product.Statement.{statement}
 use Rattle.whole_steps.proofs.products.product.Tie as tie
-use Rattle.whole_steps.proofs.products.product.Reads as reads
-use Rattle.whole_steps.proofs.products.product.Lts as lts
-use Rattle.whole_steps.proofs.products.product_row.Reads as product-row-reads
 
 abbrev Inv-loop : tie.InvT-loop
 Inv-loop x y z rows inner columns out₀ i₀ out i = (i ≤ rows) × (out ≡ rowsOf columns (dotPlus x y z inner columns) i)
@@ -18,20 +15,16 @@ Inv-loop x y z rows inner columns out₀ i₀ out i = (i ≤ rows) × (out ≡ r
 abbrev μ-loop : tie.MeasureT-loop
 μ-loop x y z rows inner columns out₀ i₀ out i = rows - i
 
--- src/products.rt:88:5
 loop-holds : tie.Need-loop-holds Inv-loop μ-loop
 unfolding blank
 loop-holds c = (search needs, rows-none _ _)
 
--- src/products.rt:89:31
 mul-product-row : tie.Need-mul-product-row Inv-loop μ-loop
 mul-product-row c = omega (arith, sides (c .before .before .loop .i) (c .before .before .before .args .columns) (omega arith) (omega arith))
 
--- src/products.rt:89:53
 mul-product-row-2 : tie.Need-mul-product-row-2 Inv-loop μ-loop
 mul-product-row-2 c = omega (arith, sides (c .before .before .loop .i) (c .before .before .before .args .inner) (omega arith) (omega arith))
 
--- src/products.rt:89:9
 product-row-requires : tie.Need-product-row-requires Inv-loop μ-loop
 product-row-requires c κs =
     let i = c .before .before .loop .i in
@@ -42,22 +35,18 @@ product-row-requires c κs =
       omega arith,
     )
 
--- src/products.rt:90:9
 add-i : tie.Need-add-i Inv-loop μ-loop
 add-i c = search needs
 
--- src/products.rt:88:5
 loop-less : tie.Need-loop-less Inv-loop μ-loop
 loop-less c = search needs
 
--- src/products.rt:88:5
 loop-again : tie.Need-loop-again Inv-loop μ-loop
 loop-again c = (
-      search needs,
-      rows-more _ _ _ _ (c .before .before .before .loop .inv .1) (c .product-row .ensures) (λ j l. refl),
-    )
+  search needs,
+  rows-more _ _ _ _ (c .before .before .before .loop .inv .1) (c .product-row .ensures) (λ j l. refl),
+)
 
--- src/products.rt:75:1
 returns : tie.Need-returns Inv-loop μ-loop
 returns c =
     let e : c .before .loop .i ≡ c .before .before .args .rows = omega arith in

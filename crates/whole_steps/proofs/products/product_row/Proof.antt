@@ -1,18 +1,13 @@
-use Rattle.whole_steps.specs.Products.{dotOf}
+use mathlib.Core.Path.{_≡_, sym, ap₂}
+use Prim.Native.Nat.{ℕ, _≤_, _-_, _+_, _%_, _^_}
+use native.Mathlib.Omega.{arith}
+use lib.ListN.{getD}
+use borrow.Author.Needs.{needs}
 use Rattle.numbers.specs.Lines.{line-next}
 use Rattle.numbers.specs.Lists.{line, line-none}
-use native.Mathlib.Nat.{mod-lt}
-use lib.ListN.{getD}
-use mathlib.Core.Path.{_≡_, sym, refl, ap, ap₂, _∙_}
-use Prim.Native.Nat.{ℕ, _≤_, _-_, _+_, _*_, _%_, _^_}
-use borrow.Author.Needs.{needs}
-use native.Mathlib.Omega.{arith}
+use Rattle.whole_steps.specs.Products.{dotOf}
 use Rattle.whole_steps.proofs.products.product_row.Statement.{statement}
 use Rattle.whole_steps.proofs.products.product_row.Tie as tie
-use Rattle.whole_steps.proofs.products.product_row.Reads as reads
-use Rattle.whole_steps.proofs.products.product_row.Lts as lts
-use Rattle.whole_steps.proofs.products.dot.Reads as dot-reads
-use Rattle.whole_steps.proofs.products.wide.Reads as wide-reads
 
 abbrev Inv-loop : tie.InvT-loop
 Inv-loop out₀ start x y z p inner n j₀ out j = (j ≤ n) × (out ≡ line out₀ start (λ (k : ℕ). (dotOf x y p k n inner + getD z (start + k) 0) % 2 ^ 32) j)
@@ -20,67 +15,52 @@ Inv-loop out₀ start x y z p inner n j₀ out j = (j ≤ n) × (out ≡ line ou
 abbrev μ-loop : tie.MeasureT-loop
 μ-loop out₀ start x y z p inner n j₀ out j = n - j
 
--- src/products.rt:68:5
 loop-holds : tie.Need-loop-holds Inv-loop μ-loop
 loop-holds c = (search needs, sym (line-none _ _ _))
 
--- src/products.rt:69:19
 dot-requires : tie.Need-dot-requires Inv-loop μ-loop
 dot-requires c κs = search needs
 
--- src/products.rt:69:54
 add-wide : tie.Need-add-wide Inv-loop μ-loop
 add-wide c = search needs
 
--- src/products.rt:69:52
 mul-wide : tie.Need-mul-wide Inv-loop μ-loop
 mul-wide c = search needs
 
--- src/products.rt:69:52
 element-copy-out-wide : tie.Need-element-copy-out-wide Inv-loop μ-loop
 element-copy-out-wide c = search needs
 
--- src/products.rt:69:47
 wide-requires : tie.Need-wide-requires Inv-loop μ-loop
 wide-requires c κs = search needs
 
--- src/products.rt:69:19
 add-sum : tie.Need-add-sum Inv-loop μ-loop
 add-sum c = search needs
 
--- src/products.rt:70:26
 cast-out : tie.Need-cast-out Inv-loop μ-loop
 cast-out c = search needs
 
--- src/products.rt:70:13
 add-out : tie.Need-add-out Inv-loop μ-loop
 add-out c = search needs
 
--- src/products.rt:70:9
 mul-out : tie.Need-mul-out Inv-loop μ-loop
 mul-out c = search needs
 
--- src/products.rt:70:9
 element-write-out : tie.Need-element-write-out Inv-loop μ-loop
 element-write-out c = search needs
 
--- src/products.rt:71:9
 add-j : tie.Need-add-j Inv-loop μ-loop
 add-j c = search needs
 
--- src/products.rt:68:5
 loop-less : tie.Need-loop-less Inv-loop μ-loop
 loop-less c = search needs
 
--- src/products.rt:68:5
 loop-again : tie.Need-loop-again Inv-loop μ-loop
 loop-again c = (
-      search needs,
-      line-next _ _ _ _ (c .before .before .before .before .loop .inv .1)
-          (ap₂ (λ (s x : ℕ). (s + x) % 2 ^ 32) (c .before .before .dot .ensures .0) (c .wide .ensures .0)),
-    )
+  search needs,
+  line-next _ _ _ _ (c .before .before .before .before .loop .inv .1)
+      (ap₂ (λ (s x : ℕ). (s + x) % 2 ^ 32) (c .before .before .dot .ensures .0) (c .wide .ensures .0)),
+)
 
--- src/products.rt:54:1
 returns : tie.Need-returns Inv-loop μ-loop
 returns c =
     let e : c .before .loop .j ≡ c .before .before .args .n = omega arith in

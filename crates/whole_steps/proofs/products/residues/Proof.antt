@@ -1,23 +1,18 @@
+use mathlib.Core.Path.{_≡_, sym, ap, _∙_}
+use Prim.Native.Nat.{ℕ, _≤_, _-_, _+_, _*_, _^_}
+use native.Mathlib.Omega.{arith}
+use lib.ListN.{getD}
+use borrow.Author.Needs.{needs}
+use Rattle.numbers.specs.Lines.{line-same}
+use Rattle.numbers.specs.Lists.{line, line-none}
+use Rattle.kinds.specs.Modulo.{modZ}
+use Rattle.kinds.specs.Values.{value}
 use Rattle.registers.specs.Registers.{placeOf}
 use Rattle.whole_steps.proofs.Laws.{sides, next}
 use Rattle.whole_steps.specs.Products.{residuesOf}
 use Rattle.whole_steps.specs.Grids.{blank}
-use Rattle.kinds.specs.Modulo.{modZ}
-use Rattle.kinds.specs.Values.{value}
-use Rattle.numbers.specs.Lines.{line-same}
-use Rattle.numbers.specs.Lists.{line, line-none}
-use lib.ListN.{getD}
-use mathlib.Core.Path.{_≡_, sym, refl, ap, _∙_}
-use Prim.Native.Nat.{ℕ, _≤_, _-_, _+_, _*_, _^_}
-use borrow.Author.Needs.{needs}
-use native.Mathlib.Omega.{arith}
 use Rattle.whole_steps.proofs.products.residues.Statement.{statement}
 use Rattle.whole_steps.proofs.products.residues.Tie as tie
-use Rattle.whole_steps.proofs.products.residues.Reads as reads
-use Rattle.whole_steps.proofs.products.residues.Lts as lts
-use Rattle.kinds.proofs.residue.Reads as residue-reads
-use Rattle.numbers.proofs.at.Reads as at-reads
-use Rattle.registers.proofs.place_of.Reads as place-of-reads
 
 abbrev Inv-loop : tie.InvT-loop
 Inv-loop elements source count first kind out₀ e₀ out e = (e ≤ count) × (count ≤ 256) × (out ≡ line blank 0 (λ (k : ℕ). modZ (value kind (getD elements (first + k) 0)) (2 ^ 32)) e)
@@ -25,66 +20,52 @@ Inv-loop elements source count first kind out₀ e₀ out e = (e ≤ count) × (
 abbrev μ-loop : tie.MeasureT-loop
 μ-loop elements source count first kind out₀ e₀ out e = count - e
 
--- src/products.rt:26:18
 cast-count : tie.Need-cast-count Inv-loop μ-loop
 cast-count c = search needs
 
--- src/products.rt:26:38
 cast-count-2 : tie.Need-cast-count-2 Inv-loop μ-loop
 cast-count-2 c = search needs
 
--- src/products.rt:26:17
 mul-count : tie.Need-mul-count Inv-loop μ-loop
 mul-count c = let t = c .before .before .before .args .t in omega (arith, sides (t .rows) (t .columns) (omega arith) (omega arith))
 
--- src/products.rt:27:9
 place-of-requires : tie.Need-place-of-requires Inv-loop μ-loop
 place-of-requires c κs = search needs
 
--- src/products.rt:31:5
 loop-holds : tie.Need-loop-holds Inv-loop μ-loop
 unfolding blank
 loop-holds c =
     let t = c .before .before .before .before .args .t in
     (search needs, sides (t .rows) (t .columns) (omega arith) (omega arith), sym (line-none _ _ _))
 
--- src/products.rt:32:61
 add-at : tie.Need-add-at Inv-loop μ-loop
 add-at c = search needs
 
--- src/products.rt:32:39
 at-requires : tie.Need-at-requires Inv-loop μ-loop
 at-requires c κs = search needs
 
--- src/products.rt:32:18
 residue-requires : tie.Need-residue-requires Inv-loop μ-loop
 residue-requires c κs = search needs
 
--- src/products.rt:32:9
 mul-out : tie.Need-mul-out Inv-loop μ-loop
 mul-out c = search needs
 
--- src/products.rt:32:9
 array-write-out : tie.Need-array-write-out Inv-loop μ-loop
 array-write-out c = search needs
 
--- src/products.rt:33:9
 add-e : tie.Need-add-e Inv-loop μ-loop
 add-e c = search needs
 
--- src/products.rt:31:5
 loop-less : tie.Need-loop-less Inv-loop μ-loop
 loop-less c = search needs
 
--- src/products.rt:31:5
 loop-again : tie.Need-loop-again Inv-loop μ-loop
 loop-again c = (
-      search needs,
-      c .before .before .before .loop .inv .1,
-      next _ _ _ (c .before .before .before .loop .inv .2) (c .residue .ensures ∙ ap (λ (x : ℕ). modZ (value (c .before .before .before .before .before .before .before .before .args .t .kind) x) (2 ^ 32)) (c .before .at .ensures)),
-    )
+  search needs,
+  c .before .before .before .loop .inv .1,
+  next _ _ _ (c .before .before .before .loop .inv .2) (c .residue .ensures ∙ ap (λ (x : ℕ). modZ (value (c .before .before .before .before .before .before .before .before .args .t .kind) x) (2 ^ 32)) (c .before .at .ensures)),
+)
 
--- src/products.rt:22:1
 returns : tie.Need-returns Inv-loop μ-loop
 unfolding residuesOf
 returns c =

@@ -1,51 +1,37 @@
+use mathlib.Core.Path.{refl, _∙_}
+use native.Mathlib.Nat.{mul-le-mul}
+use native.Mathlib.Omega.{arith}
+use borrow.Author.Needs.{needs}
 use Rattle.whole_steps.proofs.Folding.{fold-part}
 use Rattle.whole_steps.proofs.Laws.{sides}
 use Rattle.whole_steps.specs.GridLaws.{block-same}
 use Rattle.sheet.specs.declared.ReduceMode.the-variants.{Both}
-use native.Mathlib.Nat.{mul-le-mul}
-use Prim.Native.Nat.{ℕ, _+_, _-_, _*_, _≤_, _<_}
-use mathlib.Core.Path.{_≡_, refl, _∙_}
-use native.Mathlib.Omega.{arith}
-use borrow.Author.Needs.{needs}
 use Rattle.whole_steps.proofs.reduces.both_block.Statement.{statement}
 use Rattle.whole_steps.proofs.reduces.both_block.Tie as tie
-use Rattle.whole_steps.proofs.reduces.both_block.Reads as reads
-use Rattle.whole_steps.proofs.reduces.both_block.Lts as lts
-use Rattle.combines.proofs.fold.Reads as fold-reads
-use Rattle.registers.proofs.place_of.Reads as place-of-reads
-use Rattle.whole_steps.proofs.blocks.fill_block.Reads as fill-block-reads
 
--- src/reduces.rt:89:13
 cast-m : tie.Need-cast-m
 cast-m c = search needs
 
--- src/reduces.rt:90:13
 cast-n : tie.Need-cast-n
 cast-n c = search needs
 
--- src/reduces.rt:91:9
 place-of-requires : tie.Need-place-of-requires
 place-of-requires c κs = search needs
 
--- src/reduces.rt:92:69
 mul-fold : tie.Need-mul-fold
 mul-fold c = let t = c .before .before .before .before .args .t in omega (arith, sides (t .rows) (t .columns) (omega arith) (omega arith))
 
--- src/reduces.rt:92:69
 sub-fold : tie.Need-sub-fold
 sub-fold c =
     let s = c .before .before .before .before in
     mul-le-mul {n₁ = 1} {m₁ = 1} (s .pre .2) (s .pre .1 .some (s .pre .2))
 
--- src/reduces.rt:92:9
 fold-requires : tie.Need-fold-requires
 fold-requires c κs = let t = c .before .before .before .before .args .t in (search needs, search needs, omega (arith, sides (t .rows) (t .columns) (omega arith) (omega arith)))
 
--- src/reduces.rt:93:5
 fill-block-requires : tie.Need-fill-block-requires
 fill-block-requires c κs = search needs
 
--- src/reduces.rt:78:1
 returns : tie.Need-returns
 returns c =
     let a = c .before .before .before .before .before .before .args in

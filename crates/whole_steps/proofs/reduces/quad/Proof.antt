@@ -1,60 +1,42 @@
-use Rattle.combines.specs.Combining.{folded}
 use native.Mathlib.Nat.{add-zero, zero-mul, one-mul}
-use mathlib.Core.Path.{_≡_, ap, _∙_}
-use native.Mathlib.Omega.{arith}
 use borrow.Author.Needs.{needs}
+use Rattle.combines.specs.Combining.{folded}
 use Rattle.whole_steps.proofs.reduces.quad.Statement.{statement}
 use Rattle.whole_steps.proofs.reduces.quad.Tie as tie
-use Rattle.whole_steps.proofs.reduces.quad.Reads as reads
-use Rattle.whole_steps.proofs.reduces.quad.Lts as lts
-use Rattle.combines.proofs.combine.Reads as combine-reads
-use Rattle.numbers.proofs.at.Reads as at-reads
 
--- src/reduces.rt:104:9
 at-requires : tie.Need-at-requires
 at-requires c κs = search needs
 
--- src/reduces.rt:105:31
 add-at : tie.Need-add-at
 add-at c = search needs
 
--- src/reduces.rt:105:9
 at-requires-2 : tie.Need-at-requires-2
 at-requires-2 c κs = search needs
 
--- src/reduces.rt:101:9
 combine-requires : tie.Need-combine-requires
 combine-requires c κs = search needs
 
--- src/reduces.rt:111:31
 add-at-2 : tie.Need-add-at-2
 add-at-2 c = search needs
 
--- src/reduces.rt:111:9
 at-requires-3 : tie.Need-at-requires-3
 at-requires-3 c κs = search needs
 
--- src/reduces.rt:107:9
 combine-requires-2 : tie.Need-combine-requires-2
 combine-requires-2 c κs = search needs
 
--- src/reduces.rt:117:31
 add-at-3 : tie.Need-add-at-3
 add-at-3 c = search needs
 
--- src/reduces.rt:117:31
 add-at-4 : tie.Need-add-at-4
 add-at-4 c = search needs
 
--- src/reduces.rt:117:9
 at-requires-4 : tie.Need-at-requires-4
 at-requires-4 c κs = search needs
 
--- src/reduces.rt:113:5
 combine-requires-3 : tie.Need-combine-requires-3
 combine-requires-3 c κs = search needs
 
--- src/reduces.rt:97:1
 returns : tie.Need-returns
 unfolding folded
 returns c = simp (zero-mul, one-mul, add-zero) (cc)

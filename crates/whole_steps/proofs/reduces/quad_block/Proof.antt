@@ -1,18 +1,14 @@
+use mathlib.Core.Path.{_≡_, refl, _∙_}
+use Prim.Native.Nat.{ℕ, _+_, _-_, _*_, _≤_}
+use native.Mathlib.Omega.{arith}
+use borrow.Author.Needs.{needs}
 use Rattle.whole_steps.proofs.Folding.{quad-part}
 use Rattle.whole_steps.proofs.Laws.{sides, row-fits}
 use Rattle.whole_steps.specs.GridLaws.{rowsOf, rows-none, rows-more, rows-all, block-same}
 use Rattle.whole_steps.specs.Parts.{quad}
 use Rattle.whole_steps.specs.Grids.{blank}
-use Prim.Native.Nat.{ℕ, _+_, _-_, _*_, _≤_, _<_}
-use mathlib.Core.Path.{_≡_, refl, _∙_}
-use borrow.Author.Needs.{needs}
-use native.Mathlib.Omega.{arith}
 use Rattle.whole_steps.proofs.reduces.quad_block.Statement.{statement}
 use Rattle.whole_steps.proofs.reduces.quad_block.Tie as tie
-use Rattle.whole_steps.proofs.reduces.quad_block.Reads as reads
-use Rattle.whole_steps.proofs.reduces.quad_block.Lts as lts
-use Rattle.registers.proofs.place_of.Reads as place-of-reads
-use Rattle.whole_steps.proofs.reduces.quad_row.Reads as quad-row-reads
 
 abbrev Inv-loop : tie.InvT-loop
 Inv-loop elements source combine rows columns n kind first out₀ i₀ out i = (i ≤ rows) × (out ≡ rowsOf columns (λ (a b : ℕ). quad elements kind combine n (first + 2 * (a * n) + 2 * b)) i)
@@ -20,36 +16,28 @@ Inv-loop elements source combine rows columns n kind first out₀ i₀ out i = (
 abbrev μ-loop : tie.MeasureT-loop
 μ-loop elements source combine rows columns n kind first out₀ i₀ out i = rows - i
 
--- src/reduces.rt:154:13
 cast-n : tie.Need-cast-n Inv-loop μ-loop
 cast-n c = search needs
 
--- src/reduces.rt:156:9
 place-of-requires : tie.Need-place-of-requires Inv-loop μ-loop
 place-of-requires c κs = search needs
 
--- src/reduces.rt:159:5
 loop-holds : tie.Need-loop-holds Inv-loop μ-loop
 unfolding blank
 loop-holds c = (search needs, rows-none _ _)
 
--- src/reduces.rt:162:13
 mul-quad-row : tie.Need-mul-quad-row Inv-loop μ-loop
 mul-quad-row c = let a = c .before .before .before .before .before .before .args in omega (arith, sides (c .before .before .loop .i) (a .columns) (omega arith) (omega arith))
 
--- src/reduces.rt:167:26
 mul-quad-row-2 : tie.Need-mul-quad-row-2 Inv-loop μ-loop
 mul-quad-row-2 c = let a = c .before .before .before .before .before .before .args in omega (arith, sides (c .before .before .loop .i) (a .t .columns) (omega arith) (omega arith))
 
--- src/reduces.rt:167:21
 mul-quad-row-3 : tie.Need-mul-quad-row-3 Inv-loop μ-loop
 mul-quad-row-3 c = let a = c .before .before .before .before .before .before .args in omega (arith, sides (c .before .before .loop .i) (a .t .columns) (omega arith) (omega arith))
 
--- src/reduces.rt:167:13
 add-quad-row : tie.Need-add-quad-row Inv-loop μ-loop
 add-quad-row c = let a = c .before .before .before .before .before .before .args in omega (arith, sides (c .before .before .loop .i) (a .t .columns) (omega arith) (omega arith))
 
--- src/reduces.rt:160:9
 quad-row-requires : tie.Need-quad-row-requires Inv-loop μ-loop
 quad-row-requires c κs =
     let i = c .before .before .loop .i in
@@ -59,22 +47,18 @@ quad-row-requires c κs =
       omega (arith, sides i (a .t .columns) (omega arith) (omega arith)),
     )
 
--- src/reduces.rt:170:9
 add-i : tie.Need-add-i Inv-loop μ-loop
 add-i c = search needs
 
--- src/reduces.rt:159:5
 loop-less : tie.Need-loop-less Inv-loop μ-loop
 loop-less c = search needs
 
--- src/reduces.rt:159:5
 loop-again : tie.Need-loop-again Inv-loop μ-loop
 loop-again c = (
-      search needs,
-      rows-more _ _ _ _ (c .before .before .before .loop .inv .1) (c .quad-row .ensures) (λ j l. refl),
-    )
+  search needs,
+  rows-more _ _ _ _ (c .before .before .before .loop .inv .1) (c .quad-row .ensures) (λ j l. refl),
+)
 
--- src/reduces.rt:143:1
 returns : tie.Need-returns Inv-loop μ-loop
 returns c =
     let a = c .before .before .before .before .before .args in

@@ -1,15 +1,12 @@
-use Rattle.whole_steps.specs.Parts.{quad}
-use Rattle.numbers.specs.Lines.{line-next}
-use Rattle.numbers.specs.Lists.{line, line-none}
 use mathlib.Core.Path.{_≡_, sym}
 use Prim.Native.Nat.{ℕ, _≤_, _-_, _+_, _*_}
-use borrow.Author.Needs.{needs}
 use native.Mathlib.Omega.{arith}
+use borrow.Author.Needs.{needs}
+use Rattle.numbers.specs.Lines.{line-next}
+use Rattle.numbers.specs.Lists.{line, line-none}
+use Rattle.whole_steps.specs.Parts.{quad}
 use Rattle.whole_steps.proofs.reduces.quad_row.Statement.{statement}
 use Rattle.whole_steps.proofs.reduces.quad_row.Tie as tie
-use Rattle.whole_steps.proofs.reduces.quad_row.Reads as reads
-use Rattle.whole_steps.proofs.reduces.quad_row.Lts as lts
-use Rattle.whole_steps.proofs.reduces.quad.Reads as quad-reads
 
 abbrev Inv-loop : tie.InvT-loop
 Inv-loop out₀ start elements kind combine n first columns j₀ out j = (j ≤ columns) × (out ≡ line out₀ start (λ (k : ℕ). quad elements kind combine n (first + 2 * k)) j)
@@ -17,47 +14,36 @@ Inv-loop out₀ start elements kind combine n first columns j₀ out j = (j ≤ 
 abbrev μ-loop : tie.MeasureT-loop
 μ-loop out₀ start elements kind combine n first columns j₀ out j = columns - j
 
--- src/reduces.rt:136:5
 loop-holds : tie.Need-loop-holds Inv-loop μ-loop
 loop-holds c = (search needs, sym (line-none _ _ _))
 
--- src/reduces.rt:137:67
 mul-quad : tie.Need-mul-quad Inv-loop μ-loop
 mul-quad c = search needs
 
--- src/reduces.rt:137:59
 add-quad : tie.Need-add-quad Inv-loop μ-loop
 add-quad c = search needs
 
--- src/reduces.rt:137:26
 quad-requires : tie.Need-quad-requires Inv-loop μ-loop
 quad-requires c κs = search needs
 
--- src/reduces.rt:137:13
 add-out : tie.Need-add-out Inv-loop μ-loop
 add-out c = search needs
 
--- src/reduces.rt:137:9
 mul-out : tie.Need-mul-out Inv-loop μ-loop
 mul-out c = search needs
 
--- src/reduces.rt:137:9
 element-write-out : tie.Need-element-write-out Inv-loop μ-loop
 element-write-out c = search needs
 
--- src/reduces.rt:138:9
 add-j : tie.Need-add-j Inv-loop μ-loop
 add-j c = search needs
 
--- src/reduces.rt:136:5
 loop-less : tie.Need-loop-less Inv-loop μ-loop
 loop-less c = search needs
 
--- src/reduces.rt:136:5
 loop-again : tie.Need-loop-again Inv-loop μ-loop
 loop-again c = (search needs, line-next _ _ _ _ (c .before .before .loop .inv .1) (c .quad .ensures))
 
--- src/reduces.rt:122:1
 returns : tie.Need-returns Inv-loop μ-loop
 returns c =
     let e : c .before .loop .j ≡ c .before .before .before .args .columns = omega arith in

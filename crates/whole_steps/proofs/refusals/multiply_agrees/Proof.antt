@@ -1,37 +1,27 @@
+use borrow.Author.Needs.{needs}
 use Rattle.numbers.specs.Choice.{tests, stop, pass}
 use Rattle.whole_steps.specs.Refusals.{multiplyAgrees}
-use native.Mathlib.Omega.{arith}
-use borrow.Author.Needs.{needs}
 use Rattle.whole_steps.proofs.refusals.multiply_agrees.Statement.{statement}
 use Rattle.whole_steps.proofs.refusals.multiply_agrees.Tie as tie
-use Rattle.whole_steps.proofs.refusals.multiply_agrees.Reads as reads
-use Rattle.whole_steps.proofs.refusals.multiply_agrees.Lts as lts
-use Rattle.numbers.proofs.between.Reads as between-reads
 
--- src/refusals.rt:49:9
 returns : tie.Need-returns
 unfolding multiplyAgrees
 returns c = stop _ (search tests)
 
--- src/refusals.rt:52:9
 returns-2 : tie.Need-returns-2
 unfolding multiplyAgrees
 returns-2 c = pass (search tests) (stop _ (search tests))
 
--- src/refusals.rt:55:9
 returns-3 : tie.Need-returns-3
 unfolding multiplyAgrees
 returns-3 c = pass (search tests) (pass (search tests) (stop _ (search tests)))
 
--- src/refusals.rt:57:28
 cast-between : tie.Need-cast-between
 cast-between c = search needs
 
--- src/refusals.rt:57:5
 between-requires : tie.Need-between-requires
 between-requires c κs = search needs
 
--- src/refusals.rt:45:1
 returns-4 : tie.Need-returns-4
 unfolding multiplyAgrees
 returns-4 c = pass (search tests) (pass (search tests) (pass (search tests) (search tests)))

@@ -1,102 +1,72 @@
-use Rattle.whole_steps.specs.Refusals.{wholeRefusal, reduceRefusal, transposeRefusal, multiplyRefusal}
-use Rattle.whole_steps.specs.Within.{WholeOk}
-use mathlib.Core.Path.{_≡_, sym, ap, _∙_, subst}
-use native.Mathlib.Omega.{arith}
+use mathlib.Core.Path.{subst}
 use borrow.Author.Needs.{needs}
+use Rattle.whole_steps.specs.Within.{WholeOk}
 use Rattle.whole_steps.proofs.refusals.whole_refusal.Statement.{statement}
 use Rattle.whole_steps.proofs.refusals.whole_refusal.Tie as tie
-use Rattle.whole_steps.proofs.refusals.whole_refusal.Reads as reads
-use Rattle.whole_steps.proofs.refusals.whole_refusal.Lts as lts
-use Rattle.registers.proofs.the_type.Reads as the-type-reads
-use Rattle.whole_steps.proofs.refusals.multiply_refusal.Reads as multiply-refusal-reads
-use Rattle.whole_steps.proofs.refusals.reduce_refusal.Reads as reduce-refusal-reads
-use Rattle.whole_steps.proofs.refusals.transpose_refusal.Reads as transpose-refusal-reads
 
--- src/refusals.rt:105:26
 enum-told : tie.Need-enum-told
 enum-told c = search needs
 
--- src/refusals.rt:112:14
 enum-told-2 : tie.Need-enum-told-2
 enum-told-2 c = search needs
 
--- src/refusals.rt:119:14
 enum-told-3 : tie.Need-enum-told-3
 enum-told-3 c = search needs
 
--- src/refusals.rt:125:14
 enum-told-4 : tie.Need-enum-told-4
 enum-told-4 c = search needs
 
--- src/refusals.rt:128:13
 enum-known-step : tie.Need-enum-known-step
 enum-known-step c = search needs
 
--- src/refusals.rt:134:13
 the-type-requires : tie.Need-the-type-requires
 the-type-requires c κs = subst WholeOk (c .before .step .given .1) (c .before .before .before .pre) .1
 
--- src/refusals.rt:133:14
 reduce-refusal-requires : tie.Need-reduce-refusal-requires
 reduce-refusal-requires c κs = search needs
 
--- src/refusals.rt:141:13
 enum-known-step-2 : tie.Need-enum-known-step-2
 enum-known-step-2 c = search needs
 
--- src/refusals.rt:142:32
 the-type-requires-2 : tie.Need-the-type-requires-2
 the-type-requires-2 c κs = subst WholeOk (c .before .step2 .given .1) (c .before .before .before .pre) .1
 
--- src/refusals.rt:142:14
 transpose-refusal-requires : tie.Need-transpose-refusal-requires
 transpose-refusal-requires c κs = search needs
 
--- src/refusals.rt:143:40
 enum-known-step-3 : tie.Need-enum-known-step-3
 enum-known-step-3 c = search needs
 
--- src/refusals.rt:144:13
 the-type-requires-3 : tie.Need-the-type-requires-3
 the-type-requires-3 c κs = subst WholeOk (c .before .step3 .given .1) (c .before .before .before .pre) .1
 
--- src/refusals.rt:145:13
 the-type-requires-4 : tie.Need-the-type-requires-4
 the-type-requires-4 c κs = subst WholeOk (c .before .before .step3 .given .1) (c .before .before .before .before .pre) .2
 
--- src/refusals.rt:146:13
 the-type-requires-5 : tie.Need-the-type-requires-5
 the-type-requires-5 c κs = subst WholeOk (c .before .before .before .step3 .given .1) (c .before .before .before .before .before .pre) .3
 
--- src/refusals.rt:143:53
 multiply-refusal-requires : tie.Need-multiply-refusal-requires
 multiply-refusal-requires c κs = search needs
 
--- src/refusals.rt:100:1
 returns : tie.Need-returns
 returns c = search needs
 
--- src/refusals.rt:100:1
 returns-2 : tie.Need-returns-2
 returns-2 c = search needs
 
--- src/refusals.rt:100:1
 returns-3 : tie.Need-returns-3
 returns-3 c = search needs
 
--- src/refusals.rt:100:1
 returns-4 : tie.Need-returns-4
 returns-4 c = search needs
 
--- src/refusals.rt:100:1
 returns-5 : tie.Need-returns-5
 returns-5 c = rw (c .before .before .before .step .given .1) (cc)
 
--- src/refusals.rt:100:1
 returns-6 : tie.Need-returns-6
 returns-6 c = rw (c .before .before .before .step2 .given .1) (cc)
 
--- src/refusals.rt:100:1
 returns-7 : tie.Need-returns-7
 returns-7 c = rw (c .before .before .before .before .before .step3 .given .1) (cc)
 
