@@ -1,0 +1,39 @@
+-- What a step that is not refused may rely on, and what it leaves.
+use mathlib.Core.Path.{_≡_, sym, subst}
+use mathlib.Core.Bool.{Bool, true, false}
+use mathlib.Core.Logic.{⊎-elim}
+use Prim.Native.Nat.{ℕ, _<_}
+use native.Mathlib.Omega.{arith}
+use borrow.Author.Tests.{eqb-false}
+use Rattle.numbers.specs.Choice.{pick, pick-inv}
+use Rattle.registers.specs.Types.{isEmpty}
+use Rattle.registers.specs.Sized.{Sized}
+use Rattle.registers.specs.declared.MatrixType.{MatrixType}
+use Rattle.registers.specs.declared.Registers.{Registers}
+use Rattle.sheet.specs.declared.ReduceMode.{ReduceMode}
+use Rattle.sheet.specs.declared.Step.{Step}
+use Rattle.whole_steps.specs.Refusals.{multiplyAgrees, reduceRefusal, multiplyRefusal}
+use Rattle.whole_steps.specs.Whole.{wholeDone}
+use Rattle.whole_steps.specs.Within.{WholeOk, sized-whole}
+use Rattle.whole_steps.specs.Theorems.{whole-types}
+
+-- where a choice refuses at once it did not come out as 0
+past : (t : Bool) (n x : ℕ) → 0 < n → pick t n x ≡ 0 → (t ≡ false) × (x ≡ 0)
+past t n x h e = ⊎-elim (λ w. absurd (omega (arith, w .1))) (λ w. w) (pick-inv t n x e)
+
+pub some-rows : (t : MatrixType) (rows columns : ℕ) (mode : ReduceMode) → reduceRefusal t rows columns mode ≡ 0 → 0 < t .rows
+unfolding reduceRefusal
+some-rows t rows columns mode e = let d : t .rows ≡ 0 → ⊥ = eqb-false _ _ (past (isEmpty t) 7 _ (omega arith) e .0) in omega arith
+
+pub agreed : (a b c : MatrixType) → multiplyRefusal a b c ≡ 0 → multiplyAgrees a b c ≡ true
+unfolding multiplyRefusal
+agreed a b c e =
+    let f = past (isEmpty a) 7 _ (omega arith) e .1 in
+    let g = past (isEmpty b) 7 _ (omega arith) f .1 in
+    let h = past (isEmpty c) 7 _ (omega arith) g .1 in
+    ⊎-elim (λ w. w .0) (λ w. absurd (omega (arith, w .1))) (pick-inv (multiplyAgrees a b c) 0 8 h)
+
+-- what a step leaves is within Sizes
+pub left-sized : (g : Registers) (step : Step) {r : Registers} → WholeOk step → Sized (g .types) → r ≡ wholeDone g step → (r ≡ wholeDone g step) × Sized (r .types)
+left-sized g step w s e =
+    (e, subst (λ (q : Registers). Sized (q .types)) (sym e) (subst Sized (sym (whole-types g step)) (sized-whole (g .types) step s w)))

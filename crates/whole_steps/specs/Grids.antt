@@ -1,0 +1,32 @@
+-- Matrices in registers. Element (row, col) of an M by N matrix has number row*N+col; the places past the matrix are 0.
+use mathlib.Core.List.{List}
+use Prim.Native.Nat.{ℕ, _+_, _*_, _/_, _%_}
+use lib.ListN.{replicate}
+use Rattle.numbers.specs.Lists.{line}
+use Rattle.registers.specs.Types.{withType}
+use Rattle.registers.specs.Registers.{room, elementOf, withBlock}
+use Rattle.registers.specs.declared.MatrixType.{MatrixType}
+use Rattle.registers.specs.declared.Registers.{Registers}
+
+-- element (i, j) of register r, which holds a matrix of type t
+abbrev pub matrixAt : List ℕ → ℕ → MatrixType → ℕ → ℕ → ℕ
+matrixAt es r t i j = elementOf es r (i * t .columns + j)
+
+-- element number e, for elements that f gives by row and column
+abbrev pub numbered : ℕ → (ℕ → ℕ → ℕ) → ℕ → ℕ
+numbered columns f e = f (e / columns) (e % columns)
+
+unfoldable pub blank : List ℕ
+blank = replicate room 0
+
+-- the places of a register that holds a matrix whose elements f gives
+unfoldable pub block : ℕ → ℕ → (ℕ → ℕ → ℕ) → List ℕ
+block rows columns f = line blank 0 (numbered columns f) (rows * columns)
+
+-- register r made a matrix of type t with the places of a block
+abbrev pub stored : Registers → ℕ → MatrixType → List ℕ → Registers
+stored g r t b = record { types = withType (g .types) r t; elements = withBlock (g .elements) r b }
+
+-- register r made a matrix of type t whose elements f gives
+abbrev pub made : Registers → ℕ → MatrixType → (ℕ → ℕ → ℕ) → Registers
+made g r t f = stored g r t (block (t .rows) (t .columns) f)

@@ -1,0 +1,11 @@
+pub mod Grids
+pub mod Reducing
+pub mod Multiplying
+pub mod Refusals
+pub mod Whole
+pub mod Parts
+pub mod Products
+pub mod GridLaws
+pub mod Within
+pub mod Theorems
+pub mod Strip

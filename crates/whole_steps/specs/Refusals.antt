@@ -1,0 +1,56 @@
+-- When a whole step is refused: 7 or 8, by the registers' types alone.
+use mathlib.Core.List.{List}
+use mathlib.Core.Bool.{Bool, true, false}
+use Prim.Native.Nat.{ℕ, _*_}
+use lib.Dec.{eqb}
+use Rattle.numbers.specs.Choice.{pick, both, between}
+use Rattle.registers.specs.Types.{theType, isEmpty}
+use Rattle.registers.specs.declared.MatrixType.{MatrixType}
+use Rattle.sheet.specs.declared.ReduceMode.{ReduceMode}
+use Rattle.sheet.specs.declared.ReduceMode.the-variants.{Row, Column, Both, TwoByTwo}
+use Rattle.sheet.specs.declared.Step.{Step}
+use Rattle.sheet.specs.declared.Step.the-variants.{Nothing, Fill, Load, Store, Reduce, Transpose, MultiplyAdd}
+
+-- mode 1 rows, mode 2 columns are the source's; mode 4 has no odd side, and a result of half the sides
+abbrev pub reduceAgrees : MatrixType → ℕ → ℕ → ReduceMode → Bool
+reduceAgrees t rows columns Row = eqb rows (t .rows)
+reduceAgrees t rows columns Column = eqb columns (t .columns)
+reduceAgrees t rows columns Both = true
+reduceAgrees t rows columns TwoByTwo = both (eqb (t .rows) (2 * rows)) (eqb (t .columns) (2 * columns))
+
+-- A, B, C are MxK, KxN, MxN; C is of kind 4 or 5
+unfoldable pub multiplyAgrees : MatrixType → MatrixType → MatrixType → Bool
+multiplyAgrees a b c =
+    both (eqb (a .rows) (c .rows))
+    (both (eqb (a .columns) (b .rows))
+    (both (eqb (b .columns) (c .columns))
+    (between 4 5 (c .kind))))
+
+unfoldable pub reduceRefusal : MatrixType → ℕ → ℕ → ReduceMode → ℕ
+reduceRefusal t rows columns mode = pick (isEmpty t) 7 (pick (reduceAgrees t rows columns mode) 0 8)
+
+unfoldable pub transposeRefusal : MatrixType → ℕ
+transposeRefusal t = pick (isEmpty t) 7 0
+
+unfoldable pub multiplyRefusal : MatrixType → MatrixType → MatrixType → ℕ
+multiplyRefusal a b c =
+    pick (isEmpty a) 7 (pick (isEmpty b) 7 (pick (isEmpty c) 7 (pick (multiplyAgrees a b c) 0 8)))
+
+-- 7 (a register read is empty), then 8 (shapes disagree), else 0; loads and stores are no whole steps
+abbrev pub wholeRefusal : List MatrixType → Step → ℕ
+wholeRefusal ts Nothing = 0
+wholeRefusal ts (Fill register rows columns kind value) = 0
+wholeRefusal ts (Load register object layout view base) = 0
+wholeRefusal ts (Store register layout view base) = 0
+wholeRefusal ts (Reduce result source rows columns mode combine) = reduceRefusal (theType ts source) rows columns mode
+wholeRefusal ts (Transpose result source) = transposeRefusal (theType ts source)
+wholeRefusal ts (MultiplyAdd result a b c) = multiplyRefusal (theType ts a) (theType ts b) (theType ts c)
+
+abbrev pub isWhole : Step → Bool
+isWhole Nothing = false
+isWhole (Fill register rows columns kind value) = true
+isWhole (Load register object layout view base) = false
+isWhole (Store register layout view base) = false
+isWhole (Reduce result source rows columns mode combine) = true
+isWhole (Transpose result source) = true
+isWhole (MultiplyAdd result a b c) = true

@@ -1,0 +1,97 @@
+// The blocks of results: 256 places, of which a matrix takes the first.
+ghost use mathlib.Core.Path.{_≡_};
+ghost use Prim.Native.Nat.{ℕ, _+_, _*_, _<_, _≤_};
+ghost use lib.ListN.{getD};
+ghost use Rattle.numbers.specs.Lists.{line};
+ghost use Rattle.registers.specs.Registers.{placeOf};
+ghost use Rattle.registers.specs.Sized.{SizedType};
+ghost use Rattle.whole_steps.specs.Grids.{block, stored};
+ghost use Rattle.whole_steps.specs.Whole.{transposed};
+use registers::MatrixType;
+use registers::Registers;
+
+// A row of a block: elements of a list from a place on, a step apart.
+fn spread_row(
+    out: &mut [u32; 256],
+    start: usize,
+    from: &[u32],
+    first: usize,
+    across: usize,
+    columns: usize,
+)
+    requires { ⌜ (start + columns ≤ 256) × (first ≤ 65535) × (across ≤ 255) ⌝ }
+    ensures { λ _. ⌜ now (out .exit) ≡ line (now (out .entry)) start (λ (j : ℕ). getD (now (from .entry)) (first + j * across) 0) columns ⌝ }
+{
+    let mut j = 0;
+    while j < columns {
+        out[start + j] = numbers::at(from, first + j * across);
+        j += 1;
+    }
+}
+
+// Element (i, j) stands i steps down and j across in a list, from a place on.
+pub fn spread(
+    from: &[u32],
+    first: usize,
+    down: usize,
+    across: usize,
+    rows: usize,
+    columns: usize,
+) -> [u32; 256]
+    requires { ⌜ (first ≤ 1024) × (down ≤ 16) × (across ≤ 16) × (rows ≤ 16) × (columns ≤ 16) ⌝ }
+    ensures { λ r. ⌜ r ≡ block rows columns (λ (i j : ℕ). getD (now (from .entry)) (first + i * down + j * across) 0) ⌝ }
+{
+    let mut out = [0u32; 256];
+    let mut i = 0;
+    while i < rows {
+        spread_row(
+            &mut out,
+            i * columns,
+            from,
+            first + i * down,
+            across,
+            columns,
+        );
+        i += 1;
+    }
+    out
+}
+
+// A matrix of one value.
+pub fn fill_block(value: u32, rows: usize, columns: usize) -> [u32; 256]
+    requires { ⌜ (rows ≤ 16) × (columns ≤ 16) ⌝ }
+    ensures { λ r. ⌜ r ≡ block rows columns (λ (i j : ℕ). value) ⌝ }
+{
+    let one = [value; 1];
+    spread(&one, 0, 0, 0, rows, columns)
+}
+
+pub fn transpose_block(elements: &[u32], source: u8, t: MatrixType) -> [u32; 256]
+    requires { ⌜ (source < 4) × SizedType t ⌝ }
+    ensures { λ r. ⌜ r ≡ block (t .columns) (t .rows) (transposed (now (elements .entry)) source t) ⌝ }
+{
+    let rows = t.rows as usize;
+    let columns = t.columns as usize;
+    spread(
+        elements,
+        registers::place_of(source, 0),
+        1,
+        columns,
+        columns,
+        rows,
+    )
+}
+
+// A register made a matrix of a type with the places of a block.
+pub fn store(registers: Registers, register: u8, t: MatrixType, block: &[u32; 256]) -> Registers
+    requires { ⌜ register < 4 ⌝ }
+    ensures { λ r. ⌜ r ≡ stored registers register t (now (block .entry)) ⌝ }
+{
+    let types = registers.types;
+    let mut elements = registers.elements;
+    registers::put_block(&mut elements, register, block);
+    Registers {
+        types: registers::with_type(types, register, t),
+        elements,
+    }
+}
