@@ -1,3 +1,4 @@
 pub mod Acts
 pub mod Transfers
 pub mod Laws
+pub mod Effects

@@ -1,0 +1,113 @@
+-- Nothing else changes: a byte that no placed element of a store has is unchanged by carrying out.
+use mathlib.Core.Path.{_≡_, refl, _∙_}
+use mathlib.Core.Bool.{Bool, true, false, true≢false}
+use mathlib.Core.List.{List}
+use Prim.Native.Nat.{ℕ, zero, suc, _+_, _*_, _<_}
+use native.Mathlib.Nat.{zero-add, add-zero}
+use native.Mathlib.Omega.{arith}
+use lib.Dec.{eqb}
+use lib.ListN.{length, getD}
+use Rattle.numbers.specs.Choice.{pick-case}
+use Rattle.sheet.specs.Steps.{theStep}
+use Rattle.sheet.specs.declared.Sheet.{Sheet}
+use Rattle.sheet.specs.declared.Step.{Step}
+use Rattle.sheet.specs.declared.Step.the-variants.{Nothing, Fill, Load, Store, Reduce, Transpose, MultiplyAdd}
+use Rattle.sheet_reader.specs.Reading.{readSheet}
+use Rattle.registers.specs.Types.{theType}
+use Rattle.registers.specs.declared.MatrixType.{MatrixType}
+use Rattle.addressing.specs.declared.Access.{Access}
+use Rattle.transfers.specs.Acts.{State}
+use Rattle.transfers.specs.Transfers.{outcomeOf}
+use Rattle.transfers.specs.Laws.{loaded-memory}
+use Rattle.transfers.specs.Effects.{transferred-keeps, Has, stores-outside}
+use Rattle.carrying.specs.Steps.{accessOf, objectOf, Machine, stateOf, loadDone, storeDone, objectDone, performedStep}
+use Rattle.carrying.specs.Carrying.{checkedSheet, performedFrom, performed, started, carriedMemory}
+use Rattle.carrying.specs.Types.{object-memory, sheet-length}
+
+-- byte b is one of those of element e of an access to a matrix of a type
+abbrev pub HasByteOf : Access → MatrixType → ℕ → ℕ → Type 0
+HasByteOf a t e b = (e < t .rows * t .columns) × Has (a .size) b (outcomeOf a (t .columns) e)
+
+-- byte b is one of those of element e of a step, which is a load or a store
+abbrev pub HasByte : Sheet → Step → Machine → ℕ → ℕ → Type 0
+HasByte sh Nothing m e b = ⊥
+HasByte sh (Fill register rows columns kind value) m e b = ⊥
+HasByte sh (Load register object layout view base) m e b =
+    let t = theType (m .registers .types) (objectOf register object) in HasByteOf (accessOf sh true layout view base t (length (m .memory))) t e b
+HasByte sh (Store register layout view base) m e b =
+    let t = theType (m .registers .types) register in HasByteOf (accessOf sh false layout view base t (length (m .memory))) t e b
+HasByte sh (Reduce result source rows columns mode combine) m e b = ⊥
+HasByte sh (Transpose result source) m e b = ⊥
+HasByte sh (MultiplyAdd result a b′ c) m e b = ⊥
+
+abbrev pub isStore : Step → Bool
+isStore Nothing = false
+isStore (Fill register rows columns kind value) = false
+isStore (Load register object layout view base) = false
+isStore (Store register layout view base) = true
+isStore (Reduce result source rows columns mode combine) = false
+isStore (Transpose result source) = false
+isStore (MultiplyAdd result a b c) = false
+
+-- a step covers byte b: it is a store, and b is a byte of one of its elements
+abbrev pub Covers : Sheet → Step → Machine → ℕ → Type 0
+Covers sh step m b = (isStore step ≡ true) × ((e : ℕ) × HasByte sh step m e b)
+
+-- Loads and whole steps never change memory.
+pub step-memory : (sh : Sheet) (step : Step) (m : Machine) → isStore step ≡ false → performedStep sh step m .memory ≡ m .memory
+unfolding performedStep loadDone
+step-memory sh Nothing m e = refl
+step-memory sh (Fill register rows columns kind value) m e = refl
+step-memory sh (Load register object layout view base) m e =
+    transferred-keeps (λ (s : State). s .memory) _ (loaded-memory _ register) _ _ (stateOf (objectDone register object m)) ∙ object-memory register object m
+step-memory sh (Store register layout view base) m e = absurd (true≢false e)
+step-memory sh (Reduce result source rows columns mode combine) m e = refl
+step-memory sh (Transpose result source) m e = refl
+step-memory sh (MultiplyAdd result a b c) m e = refl
+
+-- A byte that a step does not cover is as before.
+pub step-untouched : (sh : Sheet) (step : Step) (m : Machine) (b : ℕ) → (Covers sh step m b → ⊥) → getD (performedStep sh step m .memory) b 0 ≡ getD (m .memory) b 0
+unfolding performedStep storeDone
+step-untouched sh Nothing m b h = refl
+step-untouched sh (Fill register rows columns kind value) m b h = refl
+step-untouched sh (Load register object layout view base) m b h = rw (step-memory sh (Load register object layout view base) m refl)
+step-untouched sh (Store register layout view base) m b h =
+    stores-outside _ register b _ _ (stateOf m) (λ e l p. h (refl, (e, (l, p))))
+step-untouched sh (Reduce result source rows columns mode combine) m b h = refl
+step-untouched sh (Transpose result source) m b h = refl
+step-untouched sh (MultiplyAdd result a b′ c) m b h = refl
+
+-- n steps, the next of which is number k: step k + i is performed on the machine that the i steps before it leave
+pub from-untouched : (n : ℕ) (sh : Sheet) (k : ℕ) (m : Machine) (b : ℕ)
+    → ((i : ℕ) → i < n → Covers sh (theStep (sh .step) (k + i)) (performedFrom i sh k m) b → ⊥)
+    → getD (performedFrom n sh k m .memory) b 0 ≡ getD (m .memory) b 0
+unfolding performedFrom
+from-untouched zero sh k m b h = refl
+from-untouched (suc n) sh k m b h =
+    let step = theStep (sh .step) k in
+    let first : Covers sh step m b → ⊥ = rw (add-zero k) at (h 0 (omega arith)) in
+    from-untouched n sh (k + 1) (performedStep sh step m) b
+    (λ i l c. let e : k + suc i ≡ k + 1 + i = omega arith in h (suc i) (omega arith) (rw e c))
+    ∙ step-untouched sh step m b first
+
+-- no step of a sheet, on the machine that the steps before it leave, covers byte b
+abbrev pub Uncovered : Sheet → Machine → ℕ → Type 0
+Uncovered sh m b = (i : ℕ) → i < sh .steps → Covers sh (theStep (sh .step) i) (performedFrom i sh 0 m) b → ⊥
+
+-- A byte that no step of a sheet covers is as before.
+pub sheet-untouched : (sh : Sheet) (m : Machine) (b : ℕ) → Uncovered sh m b → getD (performed sh m .memory) b 0 ≡ getD (m .memory) b 0
+unfolding performed
+sheet-untouched sh m b h = from-untouched (sh .steps) sh 0 m b (λ i l c. h i l (rw zero-add at c))
+
+-- The same of the memory that carrying out leaves, refused or not; and it is as long as before.
+pub carried-untouched : (s memory : List ℕ) (b : ℕ) → Uncovered (readSheet s .sheet) (started memory) b → getD (carriedMemory s memory) b 0 ≡ getD memory b 0
+unfolding carriedMemory
+carried-untouched s memory b h =
+    pick-case (λ (l : List ℕ). getD l b 0 ≡ getD memory b 0) (eqb (checkedSheet s (length memory) .refusal .number) 0) _ _
+    (λ e. sheet-untouched (readSheet s .sheet) (started memory) b h) (λ e. refl)
+
+pub carried-length : (s memory : List ℕ) → length (carriedMemory s memory) ≡ length memory
+unfolding carriedMemory
+carried-length s memory =
+    pick-case (λ (l : List ℕ). length l ≡ length memory) (eqb (checkedSheet s (length memory) .refusal .number) 0) _ _
+    (λ e. sheet-length (readSheet s .sheet) (started memory)) (λ e. refl)
