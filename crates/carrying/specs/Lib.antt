@@ -6,3 +6,4 @@ pub mod Counts
 pub mod Untouched
 pub mod Stores
 pub mod Strips
+pub mod Done

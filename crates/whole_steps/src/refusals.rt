@@ -54,7 +54,7 @@ fn multiply_agrees(a: MatrixType, b: MatrixType, c: MatrixType) -> bool
     if b.columns != c.columns {
         return false;
     }
-    numbers::between(4, 5, c.kind as u16)
+    numbers::between(4, 5, c.kind as usize)
 }
 
 fn reduce_refusal(t: MatrixType, rows: u8, columns: u8, mode: ReduceMode) -> u8
