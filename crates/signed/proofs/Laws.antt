@@ -1,5 +1,5 @@
 -- Signed 32-bit numbers in the machine: what a test on the sign tells, and a difference.
-use Prim.Native.Nat.{ℕ, zero, suc, _-_, _<_, _≤_}
+use Prim.Native.Nat.{ℕ, zero, suc, _-_, _<_, _≤_, _^_}
 use mathlib.Core.Path.{_≡_, refl, ap}
 use mathlib.Core.Bool.{Bool, true, false, cond, true≢false}
 use native.Mathlib.Omega.{arith}
@@ -13,7 +13,7 @@ use mir.Facts.{toZ-ofZ, toZ-pos}
 use Rattle.signed.specs.Laws.{minus}
 
 -- a number that was read out of a slice
-pub back : (x : ℤ) → mag x < 2147483648 → toZ w32 (ofZ w32 x) ≡ x
+pub back : (x : ℤ) → mag x < 2 ^ 31 → toZ w32 (ofZ w32 x) ≡ x
 back x h = toZ-ofZ (record { sfits = h })
 
 pub minus-below : (k a b : ℕ) → a < k → b < k → mag (pos a -ℤ pos b) < k
@@ -34,12 +34,12 @@ less (suc n) = ap (λ (k : ℕ). negsuc (suc k)) (omega arith)
 -- x is below 0, as the machine's test and its -1 - x have it
 pub record Negative (x : ℤ) : Type 0 where
   pub n : ℕ
-  pub low : n < 2147483648
+  pub low : n < 2 ^ 31
   pub is : x ≡ negsuc n
   pub rest : negsuc 0 -ℤ toZ w32 (ofZ w32 x) ≡ pos n
   pub flipped : toZ w32 (ofZ w32 (negsuc 0 -ℤ toZ w32 (ofZ w32 x))) ≡ pos n
 
-pub negative : (x : ℤ) → mag x < 2147483648 → ltZ (toZ w32 (ofZ w32 x)) (pos 0) ≡ true → Negative x
+pub negative : (x : ℤ) → mag x < 2 ^ 31 → ltZ (toZ w32 (ofZ w32 x)) (pos 0) ≡ true → Negative x
 negative (pos n) h e = absurd (none (rw (back (pos n) h) at e))
   where
     none : ltb n 0 ≡ true → ⊥
@@ -51,11 +51,11 @@ negative (negsuc n) h e =
 -- x is 0 or more
 pub record Natural (x : ℤ) : Type 0 where
   pub n : ℕ
-  pub low : n < 2147483648
+  pub low : n < 2 ^ 31
   pub is : x ≡ pos n
   pub read : toZ w32 (ofZ w32 x) ≡ pos n
 
-pub natural : (x : ℤ) → mag x < 2147483648 → ltZ (toZ w32 (ofZ w32 x)) (pos 0) ≡ false → Natural x
+pub natural : (x : ℤ) → mag x < 2 ^ 31 → ltZ (toZ w32 (ofZ w32 x)) (pos 0) ≡ false → Natural x
 natural (pos n) h e = record { n = n; low = h; is = refl; read = back (pos n) h }
 natural (negsuc n) h e = absurd (true≢false (rw (back (negsuc n) h) at e))
 

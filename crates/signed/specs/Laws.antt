@@ -1,5 +1,5 @@
 -- Tests of a signed number by how far it is below and above 0, and what is written read back.
-use Prim.Native.Nat.{ℕ, zero, suc, _-_, _≤_, _<_, min}
+use Prim.Native.Nat.{ℕ, zero, suc, _-_, _≤_, _<_, min, _^_}
 use mathlib.Core.Path.{_≡_, refl, sym, ap, _∙_}
 use mathlib.Core.Bool.{Bool, true, false, cond}
 use native.Mathlib.Omega.{arith}
@@ -73,19 +73,19 @@ fall-difference u d = ap fall (minus u d) ∙ sub-fall u d
 
 -- ---- bits
 
-pub lower : (v : ℕ) → v < 2147483648 → signedOf v ≡ pos v
+pub lower : (v : ℕ) → v < 2 ^ 31 → signedOf v ≡ pos v
 unfolding signedOf pick
-lower v h = rw (lt-ltb v 2147483648 h)
+lower v h = rw (lt-ltb v (2 ^ 31) h)
 
-pub upper : (v : ℕ) → v < 4294967296 → 2147483648 ≤ v → signedOf v ≡ negsuc (4294967295 - v)
+pub upper : (v : ℕ) → v < 2 ^ 32 → 2 ^ 31 ≤ v → signedOf v ≡ negsuc (2 ^ 32 - 1 - v)
 unfolding signedOf pick
 upper v f h =
-    let e : 4294967295 - v ≡ 4294967296 - suc v = omega arith in
-    rw (le-ltb v 2147483648 h, minus v 4294967296, lt-ltb v 4294967296 f, e)
+    let e : 2 ^ 32 - 1 - v ≡ 2 ^ 32 - suc v = omega arith in
+    rw (le-ltb v (2 ^ 31) h, minus v (2 ^ 32), lt-ltb v (2 ^ 32) f, e)
 
-pub bits-signed : (v : ℕ) → v < 4294967296 → bitsOf (signedOf v) ≡ v
-bits-signed v h = by (ltb v 2147483648) refl
+pub bits-signed : (v : ℕ) → v < 2 ^ 32 → bitsOf (signedOf v) ≡ v
+bits-signed v h = by (ltb v (2 ^ 31)) refl
   where
-    by : (t : Bool) → ltb v 2147483648 ≡ t → bitsOf (signedOf v) ≡ v
-    by true e = ap bitsOf (lower v (ltb-true v 2147483648 e))
-    by false e = ap bitsOf (upper v h (ltb-false v 2147483648 e)) ∙ omega (arith, ltb-false v 2147483648 e)
+    by : (t : Bool) → ltb v (2 ^ 31) ≡ t → bitsOf (signedOf v) ≡ v
+    by true e = ap bitsOf (lower v (ltb-true v (2 ^ 31) e))
+    by false e = ap bitsOf (upper v h (ltb-false v (2 ^ 31) e)) ∙ omega (arith, ltb-false v (2 ^ 31) e)

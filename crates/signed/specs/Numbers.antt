@@ -1,5 +1,5 @@
 -- Signed 32-bit numbers, as naturals and as bits.
-use Prim.Native.Nat.{ℕ, suc, _-_}
+use Prim.Native.Nat.{ℕ, suc, _-_, _^_}
 use mathlib.Core.Bool.{Bool, false}
 use mathlib.Core.List.{List}
 use lib.Dec.{eqb, ltb}
@@ -40,9 +40,9 @@ difference up down = pos up -ℤ pos down
 
 -- 32 bits read as a signed number: the upper half is below 0
 unfoldable pub signedOf : ℕ → ℤ
-signedOf bits = pick (ltb bits 2147483648) (pos bits) (pos bits -ℤ pos 4294967296)
+signedOf bits = pick (ltb bits (2 ^ 31)) (pos bits) (pos bits -ℤ pos (2 ^ 32))
 
 -- a signed number's 32 bits
 abbrev pub bitsOf : ℤ → ℕ
 bitsOf (pos n) = n
-bitsOf (negsuc n) = 4294967296 - suc n
+bitsOf (negsuc n) = 2 ^ 32 - suc n

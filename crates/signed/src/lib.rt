@@ -1,15 +1,20 @@
 // Signed 32-bit numbers of a slice, tested and taken apart. Everything above works on unsigned numbers.
 ghost use mathlib.Core.Path.{_≡_};
-ghost use Prim.Native.Nat.{_<_};
+ghost use Prim.Native.Nat.{_<_, _^_};
 ghost use lib.ListN.{length, set};
 ghost use lib.IntN.{pos};
 ghost use lib.Signed.{leZ};
 ghost use Rattle.signed.specs.Numbers.{number, rise, fall, is, atLeast, spans, difference, bitsOf, signedOf};
 
+// Of 32 bits: the least number that is read as below 0, and the greatest.
+const HALF: u32 = 0x8000_0000;
+
+const LAST: u32 = 0xffff_ffff;
+
 // Above 0, how far.
 pub fn rise(s: &[i32], at: usize) -> usize
     requires { ⌜ at < length (now s) ⌝ }
-    ensures { λ r. ⌜ (r ≡ rise (number (now (s .entry)) at)) × (r < 2147483648) ⌝ }
+    ensures { λ r. ⌜ (r ≡ rise (number (now (s .entry)) at)) × (r < 2 ^ 31) ⌝ }
 {
     let x = s[at];
     if x < 0 {
@@ -37,7 +42,7 @@ pub fn bits(s: &[i32], at: usize) -> u32
 {
     let x = s[at];
     if x < 0 {
-        return 4294967295 - ((-1 - x) as u32);
+        return LAST - ((-1 - x) as u32);
     }
     x as u32
 }
@@ -74,7 +79,7 @@ pub fn spans(s: &[i32], at: usize, below: usize, above: usize) -> bool
 }
 
 pub fn put_natural(s: &mut [i32], at: usize, x: usize)
-    requires { ⌜ (at < length (now s)) × (x < 2147483648) ⌝ }
+    requires { ⌜ (at < length (now s)) × (x < 2 ^ 31) ⌝ }
     ensures { λ _. ⌜ now (s .exit) ≡ set (now (s .entry)) at (pos x) ⌝ }
 {
     s[at] = x as i32;
@@ -82,7 +87,7 @@ pub fn put_natural(s: &mut [i32], at: usize, x: usize)
 
 // up - down
 pub fn put_difference(s: &mut [i32], at: usize, up: usize, down: usize)
-    requires { ⌜ (at < length (now s)) × (up < 2147483648) × (down < 2147483648) ⌝ }
+    requires { ⌜ (at < length (now s)) × (up < 2 ^ 31) × (down < 2 ^ 31) ⌝ }
     ensures { λ _. ⌜ now (s .exit) ≡ set (now (s .entry)) at (difference up down) ⌝ }
 {
     s[at] = up as i32 - down as i32;
@@ -99,8 +104,8 @@ pub fn put_bits(s: &mut [i32], at: usize, bits: u32)
 fn signed(bits: u32) -> i32
     ensures { λ r. ⌜ r ≡ signedOf bits ⌝ }
 {
-    if bits < 2147483648 {
+    if bits < HALF {
         return bits as i32;
     }
-    -1 - ((4294967295 - bits) as i32)
+    -1 - ((LAST - bits) as i32)
 }

@@ -1,3 +1,4 @@
+use Prim.Native.Nat.{_^_}
 use mir.Syntax.{w32}
 use mir.Facts.{toZ-ofZ, toZ-pos}
 use Rattle.signed.specs.Numbers.{difference}
@@ -13,7 +14,7 @@ cast-s-2 : tie.Need-cast-s-2
 cast-s-2 c = search needs
 
 sub-s : tie.Need-sub-s
-sub-s c = record { sfits = rw (toZ-pos w32 (c .pre .1), toZ-pos w32 (c .pre .2)) (minus-below 2147483648 (c .args .up) (c .args .down) (c .pre .1) (c .pre .2)) }
+sub-s c = record { sfits = rw (toZ-pos w32 (c .pre .1), toZ-pos w32 (c .pre .2)) (minus-below (2 ^ 31) (c .args .up) (c .args .down) (c .pre .1) (c .pre .2)) }
 
 mul-t8 : tie.Need-mul-t8
 mul-t8 c = search needs

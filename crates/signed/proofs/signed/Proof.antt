@@ -1,5 +1,5 @@
 use mathlib.Core.Path.{sym, _∙_}
-use Prim.Native.Nat.{_-_, _<_}
+use Prim.Native.Nat.{_-_, _<_, _^_}
 use mir.Syntax.{w32}
 use mir.Facts.{toZ-ofZ, toZ-pos}
 use Rattle.signed.specs.Laws.{lower, upper}
@@ -23,12 +23,12 @@ cast-result-2 c = search needs
 
 sub-result-2 : tie.Need-sub-result-2
 sub-result-2 c =
-    let h : 4294967295 - c .before .args .bits < 2147483648 = omega arith in
+    let h : 2 ^ 32 - 1 - c .before .args .bits < 2 ^ 31 = omega arith in
     record { sfits = rw (toZ-pos w32 h, less) h }
 
 returns-2 : tie.Need-returns-2
 returns-2 c =
-    let h : 4294967295 - c .before .args .bits < 2147483648 = omega arith in
+    let h : 2 ^ 32 - 1 - c .before .args .bits < 2 ^ 31 = omega arith in
     toZ-ofZ (sub-result-2 c) ∙ rw (toZ-pos w32 h, less) (sym (upper (c .before .args .bits) (omega arith) (omega arith)))
 
 pub signed-spec : {M : Type 1} → statement M
