@@ -12,15 +12,18 @@ use Rattle.records.specs.declared.Decoded.the-variants.{Good, Bad}
 
 -- ---- from records to numbers: the op first
 
-abbrev pub recordNumbers : Record → List ℤ
--- 0 copy: register, object, 0, 0, 0
-recordNumbers (Copy register object) = pos 0 ∷ pos register ∷ pos object ∷ pos 0 ∷ pos 0 ∷ pos 0 ∷ []
 -- 1 take and 2 put: register, first, count, byte, step
-recordNumbers (Take register first count byte up down) = pos 1 ∷ pos register ∷ pos first ∷ pos count ∷ pos byte ∷ difference up down ∷ []
-recordNumbers (Put register first count byte up down) = pos 2 ∷ pos register ∷ pos first ∷ pos count ∷ pos byte ∷ difference up down ∷ []
+abbrev pub bytesNumbers : ℕ → ℕ → ℕ → ℕ → ℕ → ℕ → ℕ → List ℤ
+bytesNumbers op register first count byte up down = pos op ∷ pos register ∷ pos first ∷ pos count ∷ pos byte ∷ difference up down ∷ []
+
+-- 0 copy: register, object, 0, 0, 0
 -- 3 fill: register, first, count, value (its raw bits, zeros above them, as 32 bits read as signed), 0
-recordNumbers (Fill register first count value) = pos 3 ∷ pos register ∷ pos first ∷ pos count ∷ signedOf value ∷ pos 0 ∷ []
 -- 4 whole step: step number from 0, then zeros
+abbrev pub recordNumbers : Record → List ℤ
+recordNumbers (Copy register object) = pos 0 ∷ pos register ∷ pos object ∷ pos 0 ∷ pos 0 ∷ pos 0 ∷ []
+recordNumbers (Take register first count byte up down) = bytesNumbers 1 register first count byte up down
+recordNumbers (Put register first count byte up down) = bytesNumbers 2 register first count byte up down
+recordNumbers (Fill register first count value) = pos 3 ∷ pos register ∷ pos first ∷ pos count ∷ signedOf value ∷ pos 0 ∷ []
 recordNumbers (Whole step) = pos 4 ∷ pos step ∷ pos 0 ∷ pos 0 ∷ pos 0 ∷ pos 0 ∷ []
 
 abbrev pub tapeNumbers : List Record → List ℤ

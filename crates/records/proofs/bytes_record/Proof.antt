@@ -1,4 +1,4 @@
-use mathlib.Core.Path.{_≡_, refl, sym, ap, _∙_}
+use mathlib.Core.Path.{refl}
 use Rattle.numbers.specs.Choice.{taken, left, went-not, went-past}
 use Rattle.records.specs.Records.{bytesOf}
 use Rattle.records.proofs.Laws.{bytes-register, bytes-count, bytes-step, elements-read, bytes-read, moved-within}
@@ -6,76 +6,53 @@ use native.Mathlib.Omega.{arith}
 use borrow.Author.Needs.{needs}
 use Rattle.records.proofs.bytes_record.Statement.{statement}
 use Rattle.records.proofs.bytes_record.Tie as tie
-use Rattle.records.proofs.bytes_record.Reads as reads
-use Rattle.records.proofs.bytes_record.Lts as lts
-use Rattle.records.proofs.bytes_ok.Reads as bytes-ok-reads
-use Rattle.records.proofs.moved.Reads as moved-reads
-use Rattle.records.proofs.register_at.Reads as register-at-reads
-use Rattle.signed.proofs.fall.Reads as fall-reads
-use Rattle.signed.proofs.rise.Reads as rise-reads
 
--- src/lib.rt:188:9
 bytes-ok-requires : tie.Need-bytes-ok-requires
 bytes-ok-requires c κs = search needs
 
--- src/lib.rt:189:9
 returns : tie.Need-returns
 unfolding bytesOf
 returns c = (left _ (went-not (c .before .bytes-ok .ensures) (c .if1 .taken)) refl, tt)
 
--- src/lib.rt:191:38
 add-register-at : tie.Need-add-register-at
 add-register-at c = search needs
 
--- src/lib.rt:191:9
 register-at-requires : tie.Need-register-at-requires
 register-at-requires c κs = (omega arith, bytes-register _ _ _ _ _ (went-past (c .before .bytes-ok .ensures) (c .if1 .left)))
 
--- src/lib.rt:192:36
 add-rise : tie.Need-add-rise
 add-rise c = search needs
 
--- src/lib.rt:192:9
 rise-requires : tie.Need-rise-requires
 rise-requires c κs = search needs
 
--- src/lib.rt:193:36
 add-rise-2 : tie.Need-add-rise-2
 add-rise-2 c = search needs
 
--- src/lib.rt:193:9
 rise-requires-2 : tie.Need-rise-requires-2
 rise-requires-2 c κs = search needs
 
--- src/lib.rt:194:35
 add-rise-3 : tie.Need-add-rise-3
 add-rise-3 c = search needs
 
--- src/lib.rt:194:9
 rise-requires-3 : tie.Need-rise-requires-3
 rise-requires-3 c κs = search needs
 
--- src/lib.rt:195:33
 add-rise-4 : tie.Need-add-rise-4
 add-rise-4 c = search needs
 
--- src/lib.rt:195:9
 rise-requires-4 : tie.Need-rise-requires-4
 rise-requires-4 c κs = search needs
 
--- src/lib.rt:196:35
 add-fall : tie.Need-add-fall
 add-fall c = search needs
 
--- src/lib.rt:196:9
 fall-requires : tie.Need-fall-requires
 fall-requires c κs = search needs
 
--- src/lib.rt:197:19
 moved-requires : tie.Need-moved-requires
 moved-requires c κs = search needs
 
--- src/lib.rt:184:1
 returns-2 : tie.Need-returns-2
 unfolding bytesOf
 returns-2 c =
@@ -83,14 +60,14 @@ returns-2 c =
     let ok = went-past (s .before .bytes-ok .ensures) (s .if1 .left) in (
       taken _ ok (cc),
       rw (c .moved .ensures)
-      (moved-within (s .before .before .args .take)
-      (elements-read _ (bytes-count _ _ _ _ _ ok) (c .before .before .before .before .before .before .register-at .ensures .1)
-      (c .before .before .before .before .before .rise .ensures .1)
-      (c .before .before .before .before .rise2 .ensures .0)
-      (c .before .before .before .before .rise2 .ensures .1))
-      (bytes-read _ (bytes-step _ _ _ _ _ ok) (c .before .before .before .rise3 .ensures .1)
-      (c .before .before .rise4 .ensures .0)
-      (c .before .fall .ensures))),
+          (moved-within (s .before .before .args .take)
+          (elements-read _ (bytes-count _ _ _ _ _ ok) (c .before .before .before .before .before .before .register-at .ensures .1)
+          (c .before .before .before .before .before .rise .ensures .1)
+          (c .before .before .before .before .rise2 .ensures .0)
+          (c .before .before .before .before .rise2 .ensures .1))
+          (bytes-read _ (bytes-step _ _ _ _ _ ok) (c .before .before .before .rise3 .ensures .1)
+          (c .before .before .rise4 .ensures .0)
+          (c .before .fall .ensures))),
     )
 
 pub bytes-record-spec : {M : Type 1} → statement M

@@ -1,4 +1,4 @@
-use mathlib.Core.Path.{_≡_, refl, sym, ap, _∙_}
+use mathlib.Core.Path.{refl}
 use Rattle.numbers.specs.Choice.{taken, left, went-not, went-past}
 use Rattle.records.specs.Records.{fillOf}
 use Rattle.records.proofs.Laws.{fill-register, fill-count, elements-read}
@@ -6,55 +6,38 @@ use native.Mathlib.Omega.{arith}
 use borrow.Author.Needs.{needs}
 use Rattle.records.proofs.fill_record.Statement.{statement}
 use Rattle.records.proofs.fill_record.Tie as tie
-use Rattle.records.proofs.fill_record.Reads as reads
-use Rattle.records.proofs.fill_record.Lts as lts
-use Rattle.records.proofs.fill_ok.Reads as fill-ok-reads
-use Rattle.records.proofs.register_at.Reads as register-at-reads
-use Rattle.signed.proofs.bits.Reads as bits-reads
-use Rattle.signed.proofs.rise.Reads as rise-reads
 
--- src/lib.rt:204:9
 fill-ok-requires : tie.Need-fill-ok-requires
 fill-ok-requires c κs = search needs
 
--- src/lib.rt:205:9
 returns : tie.Need-returns
 unfolding fillOf
 returns c = (left _ (went-not (c .before .fill-ok .ensures) (c .if1 .taken)) refl, tt)
 
--- src/lib.rt:207:38
 add-register-at : tie.Need-add-register-at
 add-register-at c = search needs
 
--- src/lib.rt:207:9
 register-at-requires : tie.Need-register-at-requires
 register-at-requires c κs = (omega arith, fill-register _ _ _ _ _ (went-past (c .before .fill-ok .ensures) (c .if1 .left)))
 
--- src/lib.rt:208:36
 add-rise : tie.Need-add-rise
 add-rise c = search needs
 
--- src/lib.rt:208:9
 rise-requires : tie.Need-rise-requires
 rise-requires c κs = search needs
 
--- src/lib.rt:209:36
 add-rise-2 : tie.Need-add-rise-2
 add-rise-2 c = search needs
 
--- src/lib.rt:209:9
 rise-requires-2 : tie.Need-rise-requires-2
 rise-requires-2 c κs = search needs
 
--- src/lib.rt:210:36
 add-bits : tie.Need-add-bits
 add-bits c = search needs
 
--- src/lib.rt:210:9
 bits-requires : tie.Need-bits-requires
 bits-requires c κs = search needs
 
--- src/lib.rt:200:1
 returns-2 : tie.Need-returns-2
 unfolding fillOf
 returns-2 c =
@@ -63,7 +46,7 @@ returns-2 c =
       taken _ ok (cc),
       (
         elements-read _ (fill-count _ _ _ _ _ ok) (c .before .before .before .register-at .ensures .1)
-        (c .before .before .rise .ensures .1) (c .before .rise2 .ensures .0) (c .before .rise2 .ensures .1),
+            (c .before .before .rise .ensures .1) (c .before .rise2 .ensures .0) (c .before .rise2 .ensures .1),
         omega arith,
       ),
     )

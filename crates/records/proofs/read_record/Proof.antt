@@ -1,84 +1,60 @@
 use mathlib.Core.Path.{refl}
 use Rattle.numbers.specs.Choice.{tests, taken, left}
 use Rattle.records.specs.Records.{recordOf}
-use native.Mathlib.Omega.{arith}
 use borrow.Author.Needs.{needs}
 use Rattle.records.proofs.read_record.Statement.{statement}
 use Rattle.records.proofs.read_record.Tie as tie
-use Rattle.records.proofs.read_record.Reads as reads
-use Rattle.records.proofs.read_record.Lts as lts
-use Rattle.records.proofs.bytes_record.Reads as bytes-record-reads
-use Rattle.records.proofs.copy_record.Reads as copy-record-reads
-use Rattle.records.proofs.fill_record.Reads as fill-record-reads
-use Rattle.records.proofs.whole_record.Reads as whole-record-reads
-use Rattle.signed.proofs.is.Reads as is-reads
 
--- src/lib.rt:235:8
 is-requires : tie.Need-is-requires
 is-requires c κs = search needs
 
--- src/lib.rt:236:9
 copy-record-requires : tie.Need-copy-record-requires
 copy-record-requires c κs = search needs
 
--- src/lib.rt:236:9
 returns : tie.Need-returns
 unfolding recordOf
 returns c = (taken _ (search tests) (c .copy-record .ensures .0), c .copy-record .ensures .1)
 
--- src/lib.rt:238:8
 is-requires-2 : tie.Need-is-requires-2
 is-requires-2 c κs = search needs
 
--- src/lib.rt:239:9
 bytes-record-requires : tie.Need-bytes-record-requires
 bytes-record-requires c κs = search needs
 
--- src/lib.rt:239:9
 returns-2 : tie.Need-returns-2
 unfolding recordOf
 returns-2 c = (left _ (search tests) (taken _ (search tests) (c .bytes-record .ensures .0)), c .bytes-record .ensures .1)
 
--- src/lib.rt:241:8
 is-requires-3 : tie.Need-is-requires-3
 is-requires-3 c κs = search needs
 
--- src/lib.rt:242:9
 bytes-record-requires-2 : tie.Need-bytes-record-requires-2
 bytes-record-requires-2 c κs = search needs
 
--- src/lib.rt:242:9
 returns-3 : tie.Need-returns-3
 unfolding recordOf
 returns-3 c = (left _ (search tests) (left _ (search tests) (taken _ (search tests) (c .bytes-record2 .ensures .0))), c .bytes-record2 .ensures .1)
 
--- src/lib.rt:244:8
 is-requires-4 : tie.Need-is-requires-4
 is-requires-4 c κs = search needs
 
--- src/lib.rt:245:9
 fill-record-requires : tie.Need-fill-record-requires
 fill-record-requires c κs = search needs
 
--- src/lib.rt:245:9
 returns-4 : tie.Need-returns-4
 unfolding recordOf
 returns-4 c = (left _ (search tests) (left _ (search tests) (left _ (search tests) (taken _ (search tests) (c .fill-record .ensures .0)))), c .fill-record .ensures .1)
 
--- src/lib.rt:247:8
 is-requires-5 : tie.Need-is-requires-5
 is-requires-5 c κs = search needs
 
--- src/lib.rt:248:9
 whole-record-requires : tie.Need-whole-record-requires
 whole-record-requires c κs = search needs
 
--- src/lib.rt:248:9
 returns-5 : tie.Need-returns-5
 unfolding recordOf
 returns-5 c = (left _ (search tests) (left _ (search tests) (left _ (search tests) (left _ (search tests) (taken _ (search tests) (c .whole-record .ensures .0))))), c .whole-record .ensures .1)
 
--- src/lib.rt:231:1
 returns-6 : tie.Need-returns-6
 unfolding recordOf
 returns-6 c = (left _ (search tests) (left _ (search tests) (left _ (search tests) (left _ (search tests) (left _ (search tests) refl)))), tt)

@@ -1,26 +1,19 @@
-use mathlib.Core.Path.{_≡_, sym, ap, _∙_}
 use Prim.Native.Nat.{_≤_}
 use Rattle.signed.specs.Laws.{spans-rise}
 use native.Mathlib.Omega.{arith}
 use borrow.Author.Needs.{needs}
 use Rattle.records.proofs.register_at.Statement.{statement}
 use Rattle.records.proofs.register_at.Tie as tie
-use Rattle.records.proofs.register_at.Reads as reads
-use Rattle.records.proofs.register_at.Lts as lts
-use Rattle.signed.proofs.rise.Reads as rise-reads
 
 low : (c : tie.After-rise) → c .rise .result ≤ 3
 low c = rw (c .rise .ensures .0) (spans-rise 0 3 _ (c .before .pre .1))
 
--- src/lib.rt:137:5
 rise-requires : tie.Need-rise-requires
 rise-requires c κs = search needs
 
--- src/lib.rt:137:5
 cast-result : tie.Need-cast-result
 cast-result c = omega (arith, low c)
 
--- src/lib.rt:133:1
 returns : tie.Need-returns
 returns c = (c .rise .ensures .0, omega (arith, low c))
 

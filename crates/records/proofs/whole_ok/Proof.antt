@@ -1,75 +1,55 @@
 use Rattle.numbers.specs.Choice.{tests, stop, pass}
 use Rattle.records.specs.Records.{wholeOk}
-use native.Mathlib.Omega.{arith}
 use borrow.Author.Needs.{needs}
 use Rattle.records.proofs.whole_ok.Statement.{statement}
 use Rattle.records.proofs.whole_ok.Tie as tie
-use Rattle.records.proofs.whole_ok.Reads as reads
-use Rattle.records.proofs.whole_ok.Lts as lts
-use Rattle.signed.proofs.at_least.Reads as at-least-reads
-use Rattle.signed.proofs.is.Reads as is-reads
 
--- src/lib.rt:117:32
 add-at-least : tie.Need-add-at-least
 add-at-least c = search needs
 
--- src/lib.rt:117:9
 at-least-requires : tie.Need-at-least-requires
 at-least-requires c κs = search needs
 
--- src/lib.rt:118:9
 returns : tie.Need-returns
 unfolding wholeOk
 returns c = stop _ (search tests)
 
--- src/lib.rt:120:26
 add-is : tie.Need-add-is
 add-is c = search needs
 
--- src/lib.rt:120:9
 is-requires : tie.Need-is-requires
 is-requires c κs = search needs
 
--- src/lib.rt:121:9
 returns-2 : tie.Need-returns-2
 unfolding wholeOk
 returns-2 c = pass (search tests) (stop _ (search tests))
 
--- src/lib.rt:123:26
 add-is-2 : tie.Need-add-is-2
 add-is-2 c = search needs
 
--- src/lib.rt:123:9
 is-requires-2 : tie.Need-is-requires-2
 is-requires-2 c κs = search needs
 
--- src/lib.rt:124:9
 returns-3 : tie.Need-returns-3
 unfolding wholeOk
 returns-3 c = pass (search tests) (pass (search tests) (stop _ (search tests)))
 
--- src/lib.rt:126:26
 add-is-3 : tie.Need-add-is-3
 add-is-3 c = search needs
 
--- src/lib.rt:126:9
 is-requires-3 : tie.Need-is-requires-3
 is-requires-3 c κs = search needs
 
--- src/lib.rt:127:9
 returns-4 : tie.Need-returns-4
 unfolding wholeOk
 returns-4 c = pass (search tests) (pass (search tests) (pass (search tests) (stop _ (search tests))))
 
--- src/lib.rt:129:22
 add-is-4 : tie.Need-add-is-4
 add-is-4 c = search needs
 
--- src/lib.rt:129:5
 is-requires-4 : tie.Need-is-requires-4
 is-requires-4 c κs = search needs
 
--- src/lib.rt:113:1
 returns-5 : tie.Need-returns-5
 unfolding wholeOk
 returns-5 c = pass (search tests) (pass (search tests) (pass (search tests) (pass (search tests) (search tests))))
