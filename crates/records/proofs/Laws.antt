@@ -56,11 +56,6 @@ bytes-read e h p q r =
       way = rw (q, r) (one-way e);
     }
 
-pub moved-within : (take : Bool) {r f n b u d : ℕ} → Elements r f n → Bytes b u d → Within (moved take r f n b u d)
-unfolding moved
-moved-within true p q = (p, q)
-moved-within false p q = (p, q)
-
 -- ---- numbers written one after the other
 
 pub four : (l : List ℤ) (at : ℕ) (a b c d : ℤ) {l₁ l₂ l₃ l₄ : List ℤ}

@@ -93,7 +93,13 @@ tape-back (r ∷ rs) t (suc k) h l =
     let e : suc k * 6 ≡ k * 6 + 6 = omega arith in
     rw (e, append-assoc, record-past r (tapeNumbers rs ++ t) (k * 6)) (tape-back rs t k (h .1) (omega arith))
 
--- ---- lengths, and one record more
+-- ---- ranges and lengths
+
+pub moved-within : (take : Bool) {r f n b u d : ℕ} → Elements r f n → Bytes b u d → Within (moved take r f n b u d)
+unfolding moved
+moved-within true p q = (p, q)
+moved-within false p q = (p, q)
+
 
 pub length-numbers : (r : Record) → length (recordNumbers r) ≡ 6
 length-numbers (Copy r o) = refl

@@ -1,3 +1,4 @@
 pub mod Runs
 pub mod Acts
 pub mod Longest
+pub mod Ranges

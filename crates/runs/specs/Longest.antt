@@ -1,5 +1,5 @@
 -- Each run taken is the longest even run from its first element.
-use Prim.Native.Nat.{ℕ, zero, suc, _+_, _*_, _-_, _≤_, _<_}
+use Prim.Native.Nat.{ℕ, zero, suc, _+_, _*_, _-_, _≤_, _<_, min}
 use mathlib.Core.Path.{_≡_, refl, sym, ap, subst, _∙_}
 use mathlib.Core.Bool.{Bool, true, false, true≢false}
 use mathlib.Core.List.{List, [], _∷_, _++_}
@@ -55,6 +55,7 @@ pub record Going (f : ℕ → Outcome) (k e m b u d : ℕ) : Type 0 where
   pub low : (i : ℕ) → i < m → i * d ≤ b + i * u
   pub at : (i : ℕ) → i < m → f (e + i) ≡ Placed (b + i * u - i * d)
   pub lone : m ≡ 1 → (u ≡ 0) × (d ≡ 0)
+  pub way : min u d ≡ 0
 
 pub record Pouring (f : ℕ → Outcome) (k e m v : ℕ) : Type 0 where
   pub ends : e + m ≡ k
@@ -66,14 +67,14 @@ Open f k Idle = Unit {0}
 Open f k (Bytes e m b u d) = Going f k e m b u d
 Open f k (Fills e m v) = Pouring f k e m v
 
-module _ (f : ℕ → Outcome) where
-  by-order : {P : Type 0} (a b : ℕ) → (a ≤ b → P) → (b < a → P) → P
-  by-order {P = P} a b p q = by (leb a b) refl
-    where
-      by : (t : Bool) → leb a b ≡ t → P
-      by true e = p (leb-true a b e)
-      by false e = q (leb-false a b e)
+pub by-order : {P : Type 0} (a b : ℕ) → (a ≤ b → P) → (b < a → P) → P
+by-order {P = P} a b p q = by (leb a b) refl
+  where
+    by : (t : Bool) → leb a b ≡ t → P
+    by true e = p (leb-true a b e)
+    by false e = q (leb-false a b e)
 
+module _ (f : ℕ → Outcome) where
   same-byte : {x y : ℕ} {o : Outcome} → o ≡ Placed x → o ≡ Placed y → x ≡ y
   same-byte p q = cc
 
@@ -139,6 +140,7 @@ module _ (f : ℕ → Outcome) where
   Done n (Fills e m v) = Longest f n e m
 
   record Turned (n k : ℕ) (t : Turn) : Type 0 where
+    was : Open f k (t .done)
     done : Done n (t .done)
     held : Open f (suc k) (t .held)
 
@@ -153,6 +155,7 @@ module _ (f : ℕ → Outcome) where
         low = λ i l. omega arith;
         at = λ i l. let z : b + i * 0 - i * 0 ≡ b = omega arith in rw z (at-first e (omega arith));
         lone = λ q. (refl, refl);
+        way = refl;
       }
 
   sole-pouring : (k v : ℕ) → f k ≡ Filled v → Pouring f (suc k) k 1 v
@@ -171,6 +174,7 @@ module _ (f : ℕ → Outcome) where
         low = low;
         at = at;
         lone = λ z. absurd (omega arith);
+        way = omega arith;
       }
     where
       low : (i : ℕ) → i < 2 → i * (b - x) ≤ b + i * (x - b)
@@ -197,6 +201,7 @@ module _ (f : ℕ → Outcome) where
         low = one-more (λ (i : ℕ). i * d ≤ b + i * u) m (g .low) (omega arith);
         at = one-more (λ (i : ℕ). f (e + i) ≡ Placed (b + i * u - i * d)) m (g .at) (ap f (g .ends) ∙ q ∙ ap Placed r);
         lone = λ z. absurd (omega (arith, g .some));
+        way = g .way;
       }
 
   more-pouring : {k e m v : ℕ} → Pouring f k e m v → f k ≡ Filled v → Pouring f (suc k) e (m + 1) v
@@ -226,10 +231,11 @@ module _ (f : ℕ → Outcome) where
   unfolding meetByte
   byte-turned n k e m b u d x l g q =
       pick-case (Turned n k) (eqb m 1) _ _
-      (λ h. record { done = tt; held = second-going x g (eqb-true m 1 h) q })
+      (λ h. record { was = tt; done = tt; held = second-going x g (eqb-true m 1 h) q })
       (λ h. pick-case (Turned n k) (eqb (x + m * d) (b + m * u)) _ _
-      (λ s. record { done = tt; held = more-going x g (eqb-false m 1 h) (eqb-true _ _ s) q })
+      (λ s. record { was = tt; done = tt; held = more-going x g (eqb-false m 1 h) (eqb-true _ _ s) q })
       (λ s. record {
+        was = g;
         done =
           longest-bytes n (omega arith) g
           (λ t y p. let z : y ≡ x = same-byte p q in let o : m ≡ 1 → ⊥ = eqb-false m 1 h in (omega (arith, g .some), λ w. eqb-false _ _ s (rw z at w)));
@@ -240,31 +246,35 @@ module _ (f : ℕ → Outcome) where
   unfolding meetFill
   fill-turned n k e m v x l g q =
       pick-case (Turned n k) (eqb x v) _ _
-      (λ h. record { done = tt; held = more-pouring g (q ∙ ap Filled (eqb-true x v h)) })
+      (λ h. record { was = tt; done = tt; held = more-pouring g (q ∙ ap Filled (eqb-true x v h)) })
       (λ h. record {
+        was = g;
         done = longest-fills n (omega arith) g (λ t p. eqb-false x v h (same-value q p));
         held = sole-pouring k x q;
       })
 
   turned : (n k : ℕ) (r : Run) (o : Outcome) → k < n → Open f k r → f k ≡ o → Turned n k (next r k o)
   unfolding next
-  turned n k Idle Skipped l g q = record { done = tt; held = tt }
-  turned n k (Bytes e m b u d) Skipped l g q = record { done = ends-bytes n Skipped l g q refl; held = tt }
-  turned n k (Fills e m v) Skipped l g q = record { done = ends-fills n Skipped l g q refl; held = tt }
-  turned n k Idle Discarded l g q = record { done = tt; held = tt }
-  turned n k (Bytes e m b u d) Discarded l g q = record { done = ends-bytes n Discarded l g q refl; held = tt }
-  turned n k (Fills e m v) Discarded l g q = record { done = ends-fills n Discarded l g q refl; held = tt }
-  turned n k Idle (Placed x) l g q = record { done = tt; held = lone-going k x q }
-  turned n k (Fills e m v) (Placed x) l g q = record { done = ends-fills n (Placed x) l g q refl; held = lone-going k x q }
+  turned n k Idle Skipped l g q = record { was = tt; done = tt; held = tt }
+  turned n k (Bytes e m b u d) Skipped l g q = record { was = g; done = ends-bytes n Skipped l g q refl; held = tt }
+  turned n k (Fills e m v) Skipped l g q = record { was = g; done = ends-fills n Skipped l g q refl; held = tt }
+  turned n k Idle Discarded l g q = record { was = tt; done = tt; held = tt }
+  turned n k (Bytes e m b u d) Discarded l g q = record { was = g; done = ends-bytes n Discarded l g q refl; held = tt }
+  turned n k (Fills e m v) Discarded l g q = record { was = g; done = ends-fills n Discarded l g q refl; held = tt }
+  turned n k Idle (Placed x) l g q = record { was = tt; done = tt; held = lone-going k x q }
+  turned n k (Fills e m v) (Placed x) l g q = record { was = g; done = ends-fills n (Placed x) l g q refl; held = lone-going k x q }
   turned n k (Bytes e m b u d) (Placed x) l g q = byte-turned n k e m b u d x l g q
-  turned n k Idle (Filled x) l g q = record { done = tt; held = sole-pouring k x q }
-  turned n k (Bytes e m b u d) (Filled x) l g q = record { done = ends-bytes n (Filled x) l g q refl; held = sole-pouring k x q }
+  turned n k Idle (Filled x) l g q = record { was = tt; done = tt; held = sole-pouring k x q }
+  turned n k (Bytes e m b u d) (Filled x) l g q = record { was = g; done = ends-bytes n (Filled x) l g q refl; held = sole-pouring k x q }
   turned n k (Fills e m v) (Filled x) l g q = fill-turned n k e m v x l g q
 
   pub held-open : (k : ℕ) → Open f k (held f k)
   unfolding held
   held-open zero = tt
   held-open (suc k) = turned (suc k) k (held f k) (f k) (omega arith) (held-open k) refl .held
+
+  pub ending-open : (k : ℕ) → Open f k (ending f k)
+  ending-open k = turned (suc k) k (held f k) (f k) (omega arith) (held-open k) refl .was
 
   -- ---- all runs
 

@@ -1,7 +1,8 @@
 use mathlib.Core.Path.{refl}
 use Rattle.numbers.specs.Choice.{taken, left, went-not, went-past}
 use Rattle.records.specs.Records.{bytesOf}
-use Rattle.records.proofs.Laws.{bytes-register, bytes-count, bytes-step, elements-read, bytes-read, moved-within}
+use Rattle.records.specs.Laws.{moved-within}
+use Rattle.records.proofs.Laws.{bytes-register, bytes-count, bytes-step, elements-read, bytes-read}
 use native.Mathlib.Omega.{arith}
 use borrow.Author.Needs.{needs}
 use Rattle.records.proofs.bytes_record.Statement.{statement}
