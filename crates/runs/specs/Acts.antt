@@ -14,7 +14,7 @@ use Rattle.outcomes.specs.declared.Outcome.the-variants.{Skipped, Filled, Disca
 use Rattle.runs.specs.declared.Run.{Run}
 use Rattle.runs.specs.declared.Run.the-variants.{Idle, Bytes, Fills}
 use Rattle.runs.specs.declared.Turn.{Turn}
-use Rattle.runs.specs.Runs.{turn, lone, meetByte, meetFill, next, emit, held, ending, runs}
+use Rattle.runs.specs.Runs.{turn, lone, meetByte, meetFill, next, emit, held, ended, runs}
 
 -- one element meets its byte, or is given bits
 pub data Act : Type 0 where
@@ -137,11 +137,11 @@ acts-emit (Bytes f n b u d) = append-nil (spread f n b u d)
 acts-emit (Fills f n v) = append-nil (pour f n v)
 
 -- the runs that are done and the open one stand for the first k elements
-acts-upto : (f : ℕ → Outcome) (k : ℕ) → actsAll (each k (λ (i : ℕ). emit (ending f i))) ++ acts (held f k) ≡ each k (λ (i : ℕ). one i (f i))
+acts-upto : (f : ℕ → Outcome) (k : ℕ) → actsAll (ended f k) ++ acts (held f k) ≡ each k (λ (i : ℕ). one i (f i))
 unfolding held each actsAll
 acts-upto f zero = refl
 acts-upto f (suc k) =
-    let done = each k (λ (i : ℕ). emit (ending f i)) in
+    let done = ended f k in
     let t = next (held f k) k (f k) in
     rw (acts-append done (emit (t .done)), acts-emit (t .done), append-assoc, kept (held f k) k (f k) (held-ends f k) .same, ← append-assoc (actsAll done) (acts (held f k)) (one k (f k)))
     (ap (λ (l : List Act). l ++ one k (f k)) (acts-upto f k))
@@ -150,7 +150,7 @@ acts-upto f (suc k) =
 pub runs-acts : (f : ℕ → Outcome) (n : ℕ) → actsAll (runs f n) ≡ each n (λ (i : ℕ). one i (f i))
 unfolding runs
 runs-acts f n =
-    let done = each n (λ (i : ℕ). emit (ending f i)) in
+    let done = ended f n in
     rw (acts-append done (emit (held f n)), acts-emit (held f n)) (acts-upto f n)
 
 -- ---- any state

@@ -2,3 +2,4 @@ pub mod Runs
 pub mod Acts
 pub mod Longest
 pub mod Ranges
+pub mod Writing

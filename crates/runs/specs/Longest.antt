@@ -14,7 +14,7 @@ use Rattle.outcomes.specs.declared.Outcome.the-variants.{Skipped, Filled, Disca
 use Rattle.runs.specs.declared.Run.{Run}
 use Rattle.runs.specs.declared.Run.the-variants.{Idle, Bytes, Fills}
 use Rattle.runs.specs.declared.Turn.{Turn}
-use Rattle.runs.specs.Runs.{turn, lone, meetByte, meetFill, next, emit, held, ending, runs}
+use Rattle.runs.specs.Runs.{turn, lone, meetByte, meetFill, next, emit, held, ending, ended, runs}
 
 module _ (f : ℕ → Outcome) where
   -- of the first n elements, m from e on are an even run: consecutive elements alike
@@ -287,7 +287,7 @@ module _ (f : ℕ → Outcome) where
   emitted n (Bytes e m b u d) h = more h none
   emitted n (Fills e m v) h = more h none
 
-  ended-longest : (n k : ℕ) → k ≤ n → AllRuns (LongestRun f n) (each k (λ (i : ℕ). emit (ending f i)))
+  ended-longest : (n k : ℕ) → k ≤ n → AllRuns (LongestRun f n) (ended f k)
   unfolding each
   ended-longest n zero h = none
   ended-longest n (suc k) h =

@@ -12,7 +12,7 @@ use Rattle.records.specs.Ranges.{Elements, Within}
 use Rattle.records.specs.Laws.{AllWithin, within-append, moved-within}
 use Rattle.runs.specs.declared.Run.{Run}
 use Rattle.runs.specs.declared.Run.the-variants.{Idle, Bytes, Fills}
-use Rattle.runs.specs.Runs.{held, ending, runRecords, runsRecords}
+use Rattle.runs.specs.Runs.{held, ending, runRecords, endedRecords, runsRecords}
 use Rattle.runs.specs.Longest.{Going, Pouring, Open, by-order, held-open, ending-open}
 
 -- a byte of memory; bits of 32
@@ -94,11 +94,11 @@ module _ (load : Bool) (register : ℕ) (few : register < 4) where
   )
   run-within k (Fills e m v) l s = ((elements l (s .ends) (s .some), s .value), tt)
 
-  ended-within : (f : ℕ → Outcome) (n : ℕ) → n < 2 ^ 31 → ((i : ℕ) → i < n → Near (f i)) → AllWithin (each n (λ (k : ℕ). runRecords load register (ending f k)))
+  ended-within : (f : ℕ → Outcome) (n : ℕ) → n < 2 ^ 31 → ((i : ℕ) → i < n → Near (f i)) → AllWithin (endedRecords load register f n)
   unfolding each
   ended-within f zero l near = tt
   ended-within f (suc n) l near =
-      within-append (each n (λ (k : ℕ). runRecords load register (ending f k))) (runRecords load register (ending f n))
+      within-append (endedRecords load register f n) (runRecords load register (ending f n))
       (ended-within f n (omega arith) (λ i h. near i (omega arith)))
       (run-within n (ending f n) (omega arith) (ending-small f n (λ i h. near i (omega arith))))
 
@@ -106,5 +106,5 @@ module _ (load : Bool) (register : ℕ) (few : register < 4) where
   pub runs-within : (f : ℕ → Outcome) (n : ℕ) → n < 2 ^ 31 → ((i : ℕ) → i < n → Near (f i)) → AllWithin (runsRecords load register f n)
   unfolding runsRecords
   runs-within f n l near =
-      within-append (each n (λ (k : ℕ). runRecords load register (ending f k))) (runRecords load register (held f n))
+      within-append (endedRecords load register f n) (runRecords load register (held f n))
       (ended-within f n l near) (run-within n (held f n) l (held-small f n near))

@@ -61,9 +61,13 @@ held f (suc k) = next (held f k) k (f k) .held
 abbrev pub ending : (ℕ → Outcome) → ℕ → Run
 ending f k = next (held f k) k (f k) .done
 
+-- the runs that the first k elements ended, in order
+abbrev pub ended : (ℕ → Outcome) → ℕ → List Run
+ended f k = each k (λ (i : ℕ). emit (ending f i))
+
 -- the runs of the first n elements, in order
 unfoldable pub runs : (ℕ → Outcome) → ℕ → List Run
-runs f n = each n (λ (k : ℕ). emit (ending f k)) ++ emit (held f n)
+runs f n = ended f n ++ emit (held f n)
 
 -- the record of a run: of a load a take, of a store a put
 abbrev pub runRecords : Bool → ℕ → Run → List Record
@@ -71,7 +75,9 @@ runRecords load register Idle = []
 runRecords load register (Bytes first count byte up down) = moved load register first count byte up down ∷ []
 runRecords load register (Fills first count value) = Fill register first count value ∷ []
 
--- the records of the runs of n elements, in order
+abbrev pub endedRecords : Bool → ℕ → (ℕ → Outcome) → ℕ → List Record
+endedRecords load register f k = each k (λ (i : ℕ). runRecords load register (ending f i))
+
+-- the records of the runs of the first n elements, in order
 unfoldable pub runsRecords : Bool → ℕ → (ℕ → Outcome) → ℕ → List Record
-runsRecords load register f n =
-    each n (λ (k : ℕ). runRecords load register (ending f k)) ++ runRecords load register (held f n)
+runsRecords load register f n = endedRecords load register f n ++ runRecords load register (held f n)
