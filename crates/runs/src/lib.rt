@@ -5,7 +5,7 @@ ghost use lib.ListN.{length};
 ghost use lib.Seq.{sets};
 ghost use Rattle.records.specs.Records.{tapeNumbers};
 ghost use Rattle.records.specs.Laws.{AllWithin};
-ghost use Rattle.runs.specs.Runs.{lone, meetByte, meetFill, next, emit, runRecords};
+ghost use Rattle.runs.specs.Runs.{turn, lone, meetByte, meetFill, next, emit, runRecords};
 ghost use Rattle.runs.specs.Ranges.{Near, Steady, Small};
 use outcomes::Outcome;
 use records::Record;
@@ -194,6 +194,16 @@ fn next_fill(r: Run, k: usize, v: u32) -> Turn
     }
 }
 
+// An element that writes nothing ends the open run.
+fn stopped(r: Run) -> Turn
+    ensures { λ t. ⌜ t ≡ turn r Run.Idle ⌝ }
+{
+    Turn {
+        done: r,
+        held: Run::Idle,
+    }
+}
+
 // The open run and the outcome of the next element k.
 pub fn next_run(r: Run, k: usize, o: Outcome) -> Turn
     requires { ⌜ Small k r ⌝ }
@@ -201,14 +211,8 @@ pub fn next_run(r: Run, k: usize, o: Outcome) -> Turn
     ensures { λ t. ⌜ t ≡ next r k o ⌝ }
 {
     match o {
-        Outcome::Skipped => Turn {
-            done: r,
-            held: Run::Idle,
-        },
-        Outcome::Discarded => Turn {
-            done: r,
-            held: Run::Idle,
-        },
+        Outcome::Skipped => stopped(r),
+        Outcome::Discarded => stopped(r),
         Outcome::Placed(b) => next_byte(r, k, b),
         Outcome::Filled(v) => next_fill(r, k, v),
     }
