@@ -1,7 +1,7 @@
 -- What the tests of a record tell of its numbers.
 use Prim.Native.Nat.{ℕ, _+_, _<_, _^_}
 use mathlib.Core.Path.{_≡_}
-use mathlib.Core.Bool.{Bool, true, false}
+use mathlib.Core.Bool.{true}
 use mathlib.Core.List.{List, [], _∷_}
 use native.Mathlib.Numerals.{add-one, add-two, add-three, add-four, add-five}
 use lib.ListN.{set}
@@ -10,8 +10,8 @@ use lib.IntN.{ℤ}
 use Rattle.numbers.specs.Choice.{both-left, both-right}
 use Rattle.signed.specs.Numbers.{rise, fall}
 use Rattle.signed.specs.Laws.{one-way, spans-rise, spans-fall, least-rise}
-use Rattle.records.specs.Records.{registerOk, stepOk, countOk, moved, copyOk, bytesOk, fillOk}
-use Rattle.records.specs.Ranges.{Elements, Bytes, Within}
+use Rattle.records.specs.Records.{registerOk, stepOk, countOk, copyOk, bytesOk, fillOk}
+use Rattle.records.specs.Ranges.{Elements, Bytes}
 
 module _ (a b c d e : ℤ) where
   pub copy-register : copyOk a b c d e ≡ true → registerOk a ≡ true

@@ -100,7 +100,6 @@ unfolding moved
 moved-within true p q = (p, q)
 moved-within false p q = (p, q)
 
-
 pub length-numbers : (r : Record) → length (recordNumbers r) ≡ 6
 length-numbers (Copy r o) = refl
 length-numbers (Take r f n b u d) = refl

@@ -1,20 +1,19 @@
 -- What runs stand for: each placed and filled element, in order, once.
 use Prim.Native.Nat.{ℕ, zero, suc, _+_, _*_, _-_}
-use mathlib.Core.Path.{_≡_, refl, sym, ap, _∙_}
-use mathlib.Core.Bool.{Bool, true, false}
+use mathlib.Core.Path.{_≡_, refl, ap}
 use mathlib.Core.List.{List, [], _∷_, _++_, append-assoc, append-nil}
 use native.Mathlib.Numerals.{add-one}
 use native.Mathlib.Omega.{arith}
 use borrow.Author.Tests.{eqb-true}
 use lib.Dec.{eqb}
-use Rattle.numbers.specs.Choice.{pick, pick-case}
+use Rattle.numbers.specs.Choice.{pick-case}
 use Rattle.numbers.specs.Lists.{each}
 use Rattle.outcomes.specs.declared.Outcome.{Outcome}
 use Rattle.outcomes.specs.declared.Outcome.the-variants.{Skipped, Filled, Discarded, Placed}
 use Rattle.runs.specs.declared.Run.{Run}
 use Rattle.runs.specs.declared.Run.the-variants.{Idle, Bytes, Fills}
 use Rattle.runs.specs.declared.Turn.{Turn}
-use Rattle.runs.specs.Runs.{turn, lone, meetByte, meetFill, next, emit, held, ended, runs}
+use Rattle.runs.specs.Runs.{meetByte, meetFill, next, emit, held, ended, runs}
 
 -- one element meets its byte, or is given bits
 pub data Act : Type 0 where
@@ -83,9 +82,10 @@ same-bits : (f n k v w : ℕ) → f + n ≡ k → v ≡ w → pour f (n + 1) w �
 unfolding pour each
 same-bits f n k v w e h = rw (add-one, e, h)
 
-record Kept (r : Run) (k : ℕ) (o : Outcome) (t : Turn) : Type 0 where
-  same : acts (t .done) ++ acts (t .held) ≡ acts r ++ one k o
-  ends : Ends (t .held) (suc k)
+-- what one turn keeps
+pub record Kept (r : Run) (k : ℕ) (o : Outcome) (t : Turn) : Type 0 where
+  pub same : acts (t .done) ++ acts (t .held) ≡ acts r ++ one k o
+  pub ends : Ends (t .held) (suc k)
 
 byte-kept : (f n a u d k b : ℕ) → f + n ≡ k → Kept (Bytes f n a u d) k (Placed b) (meetByte f n a u d k b)
 unfolding meetByte
@@ -103,7 +103,7 @@ fill-kept f n w k v e =
     (λ h. record { same = same-bits f n k v w e (eqb-true v w h); ends = omega arith })
     (λ h. record { same = rw sole; ends = omega arith })
 
-kept : (r : Run) (k : ℕ) (o : Outcome) → Ends r k → Kept r k o (next r k o)
+pub kept : (r : Run) (k : ℕ) (o : Outcome) → Ends r k → Kept r k o (next r k o)
 unfolding next
 kept Idle k Skipped e = record { same = refl; ends = tt }
 kept (Bytes f n a u d) k Skipped e = record { same = refl; ends = tt }
@@ -152,42 +152,3 @@ unfolding runs
 runs-acts f n =
     let done = ended f n in
     rw (acts-append done (emit (held f n)), acts-emit (held f n)) (acts-upto f n)
-
--- ---- any state
-
-module _ {S : Type 0} (act : S → Act → S) where
-  -- acts on a state, one after the other
-  unfoldable pub fold : S → List Act → S
-  fold s [] = s
-  fold s (x ∷ xs) = fold (act s x) xs
-
-  -- the outcomes of the first n elements on a state, one after the other
-  unfoldable pub elementwise : (ℕ → Outcome) → ℕ → S → S
-  elementwise f zero s = s
-  elementwise f (suc n) s = fold (elementwise f n s) (one n (f n))
-
-  -- runs on a state, one after the other
-  unfoldable pub runwise : List Run → S → S
-  runwise [] s = s
-  runwise (r ∷ rs) s = runwise rs (fold s (acts r))
-
-  pub fold-append : (s : S) (xs ys : List Act) → fold s (xs ++ ys) ≡ fold (fold s xs) ys
-  unfolding fold
-  fold-append s [] ys = refl
-  fold-append s (x ∷ xs) ys = fold-append (act s x) xs ys
-
-  runwise-fold : (rs : List Run) (s : S) → runwise rs s ≡ fold s (actsAll rs)
-  unfolding runwise actsAll fold
-  runwise-fold [] s = refl
-  runwise-fold (r ∷ rs) s = runwise-fold rs (fold s (acts r)) ∙ sym (fold-append s (acts r) (actsAll rs))
-
-  elementwise-fold : (f : ℕ → Outcome) (n : ℕ) (s : S) → elementwise f n s ≡ fold s (each n (λ (i : ℕ). one i (f i)))
-  unfolding elementwise each fold
-  elementwise-fold f zero s = refl
-  elementwise-fold f (suc n) s =
-      ap (λ (t : S). fold t (one n (f n))) (elementwise-fold f n s)
-      ∙ sym (fold-append s (each n (λ (i : ℕ). one i (f i))) (one n (f n)))
-
-  -- the runs leave what the elements leave, whatever meeting a byte and being given bits do
-  pub same-state : (f : ℕ → Outcome) (n : ℕ) (s : S) → runwise (runs f n) s ≡ elementwise f n s
-  same-state f n s = runwise-fold (runs f n) s ∙ ap (fold s) (runs-acts f n) ∙ sym (elementwise-fold f n s)

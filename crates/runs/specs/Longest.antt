@@ -7,14 +7,14 @@ use native.Mathlib.Nat.{add-mul}
 use native.Mathlib.Omega.{arith}
 use borrow.Author.Tests.{eqb-true, eqb-false, leb-true, leb-false}
 use lib.Dec.{eqb, leb}
-use Rattle.numbers.specs.Choice.{pick, pick-case}
+use Rattle.numbers.specs.Choice.{pick-case}
 use Rattle.numbers.specs.Lists.{each}
 use Rattle.outcomes.specs.declared.Outcome.{Outcome}
 use Rattle.outcomes.specs.declared.Outcome.the-variants.{Skipped, Filled, Discarded, Placed}
 use Rattle.runs.specs.declared.Run.{Run}
 use Rattle.runs.specs.declared.Run.the-variants.{Idle, Bytes, Fills}
 use Rattle.runs.specs.declared.Turn.{Turn}
-use Rattle.runs.specs.Runs.{turn, lone, meetByte, meetFill, next, emit, held, ending, ended, runs}
+use Rattle.runs.specs.Runs.{lone, meetByte, meetFill, next, emit, held, ending, ended, runs}
 
 module _ (f : ℕ → Outcome) where
   -- of the first n elements, m from e on are an even run: consecutive elements alike
@@ -237,8 +237,8 @@ module _ (f : ℕ → Outcome) where
       (λ s. record {
         was = g;
         done =
-          longest-bytes n (omega arith) g
-          (λ t y p. let z : y ≡ x = same-byte p q in let o : m ≡ 1 → ⊥ = eqb-false m 1 h in (omega (arith, g .some), λ w. eqb-false _ _ s (rw z at w)));
+            longest-bytes n (omega arith) g
+            (λ t y p. let z : y ≡ x = same-byte p q in let o : m ≡ 1 → ⊥ = eqb-false m 1 h in (omega (arith, g .some), λ w. eqb-false _ _ s (rw z at w)));
         held = lone-going k x q;
       }))
 

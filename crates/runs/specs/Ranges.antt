@@ -1,19 +1,17 @@
 -- The ranges of runs and of their records.
 use Prim.Native.Nat.{ℕ, zero, suc, _+_, _*_, _-_, _≤_, _<_, _^_, min}
-use mathlib.Core.Path.{_≡_, refl, sym, ap, subst, _∙_}
-use mathlib.Core.Bool.{Bool, true, false}
-use mathlib.Core.List.{List, [], _∷_, _++_}
+use mathlib.Core.Path.{_≡_, subst}
+use mathlib.Core.Bool.{Bool}
 use native.Mathlib.Omega.{arith}
 use Rattle.numbers.specs.Lists.{each}
 use Rattle.outcomes.specs.declared.Outcome.{Outcome}
 use Rattle.outcomes.specs.declared.Outcome.the-variants.{Skipped, Filled, Discarded, Placed}
-use Rattle.records.specs.Records.{moved}
-use Rattle.records.specs.Ranges.{Elements, Within}
+use Rattle.records.specs.Ranges.{Elements}
 use Rattle.records.specs.Laws.{AllWithin, within-append, moved-within}
 use Rattle.runs.specs.declared.Run.{Run}
 use Rattle.runs.specs.declared.Run.the-variants.{Idle, Bytes, Fills}
 use Rattle.runs.specs.Runs.{held, ending, runRecords, endedRecords, runsRecords}
-use Rattle.runs.specs.Longest.{Going, Pouring, Open, by-order, held-open, ending-open}
+use Rattle.runs.specs.Longest.{Going, Open, by-order, held-open, ending-open}
 
 -- a byte of memory; bits of 32
 abbrev pub Near : Outcome → Type 0
@@ -89,10 +87,17 @@ module _ (load : Bool) (register : ℕ) (few : register < 4) where
   run-within k Idle l s = tt
   run-within k (Bytes e m b u d) l s = (
     moved-within load (elements l (s .ends) (s .some))
-    (record { byte = omega (arith, s .byte); up = omega (arith, s .up); down = omega (arith, s .down); way = s .way }),
+        (record { byte = omega (arith, s .byte); up = omega (arith, s .up); down = omega (arith, s .down); way = s .way }),
     tt,
   )
   run-within k (Fills e m v) l s = ((elements l (s .ends) (s .some), s .value), tt)
+
+  module _ (f : ℕ → Outcome) (k : ℕ) (l : k < 2 ^ 31) (near : (i : ℕ) → i < k → Near (f i)) where
+    pub ending-within : AllWithin (runRecords load register (ending f k))
+    ending-within = run-within k (ending f k) l (ending-small f k near)
+
+    pub held-within : AllWithin (runRecords load register (held f k))
+    held-within = run-within k (held f k) l (held-small f k near)
 
   ended-within : (f : ℕ → Outcome) (n : ℕ) → n < 2 ^ 31 → ((i : ℕ) → i < n → Near (f i)) → AllWithin (endedRecords load register f n)
   unfolding each
@@ -100,11 +105,11 @@ module _ (load : Bool) (register : ℕ) (few : register < 4) where
   ended-within f (suc n) l near =
       within-append (endedRecords load register f n) (runRecords load register (ending f n))
       (ended-within f n (omega arith) (λ i h. near i (omega arith)))
-      (run-within n (ending f n) (omega arith) (ending-small f n (λ i h. near i (omega arith))))
+      (ending-within f n (omega arith) (λ i h. near i (omega arith)))
 
   -- the records of a step's runs are within their ranges
   pub runs-within : (f : ℕ → Outcome) (n : ℕ) → n < 2 ^ 31 → ((i : ℕ) → i < n → Near (f i)) → AllWithin (runsRecords load register f n)
   unfolding runsRecords
   runs-within f n l near =
       within-append (endedRecords load register f n) (runRecords load register (held f n))
-      (ended-within f n l near) (run-within n (held f n) l (held-small f n near))
+      (ended-within f n l near) (held-within f n l near)

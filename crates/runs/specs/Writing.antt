@@ -1,18 +1,15 @@
 -- What a loop over the elements keeps: the open run, the records so far and their number.
 use Prim.Native.Nat.{ℕ, zero, suc, _+_, _*_, _≤_, _<_}
-use mathlib.Core.Path.{_≡_, refl, sym, ap, subst, _∙_}
-use mathlib.Core.Bool.{Bool, true, false}
-use mathlib.Core.List.{List, [], _∷_, _++_}
+use mathlib.Core.Path.{_≡_, refl, sym, ap, _∙_}
+use mathlib.Core.Bool.{Bool}
+use mathlib.Core.List.{List, _++_}
 use native.Mathlib.Numerals.{add-one}
 use native.Mathlib.Omega.{arith}
 use lib.IntN.{ℤ}
 use lib.ListN.{length, length-append}
 use lib.Seq.{sets, length-sets}
-use Rattle.numbers.specs.Choice.{pick, pick-case}
-use Rattle.numbers.specs.Lists.{each, each-more, each-fits, length-each-more, sets-append, puts-after}
+use Rattle.numbers.specs.Lists.{each, each-more, each-fits, length-each-more, puts-after}
 use Rattle.outcomes.specs.declared.Outcome.{Outcome}
-use Rattle.outcomes.specs.declared.Outcome.the-variants.{Skipped, Filled, Discarded, Placed}
-use Rattle.records.specs.declared.Record.{Record}
 use Rattle.records.specs.Records.{tapeNumbers}
 use Rattle.records.specs.Laws.{length-tape, tape-append}
 use Rattle.runs.specs.declared.Run.{Run}
@@ -64,6 +61,17 @@ count-none f = refl
 
 pub count-more : (f : ℕ → Outcome) (k : ℕ) → length (ended f (k + 1)) ≡ length (ended f k) + length (emit (ending f k))
 count-more f k = length-each-more k (λ (i : ℕ). emit (ending f i))
+
+pub emit-one : (r : Run) → length (emit r) ≤ 1
+emit-one Idle = omega arith
+emit-one (Bytes e m b u d) = omega arith
+emit-one (Fills e m v) = omega arith
+
+-- so that a count fits
+pub count-few : (f : ℕ → Outcome) (k : ℕ) → length (ended f k) ≤ k
+unfolding each
+count-few f zero = omega arith
+count-few f (suc k) = rw (length-append (ended f k) (emit (ending f k))) (omega (arith, count-few f k, emit-one (ending f k)))
 
 pub count-all : (f : ℕ → Outcome) (n : ℕ) → length (runs f n) ≡ length (ended f n) + length (emit (held f n))
 unfolding runs

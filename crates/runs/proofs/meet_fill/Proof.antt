@@ -1,29 +1,21 @@
-use mathlib.Core.Path.{_≡_, refl, sym, ap, subst, _∙_}
+use mathlib.Core.Path.{refl}
 use borrow.Author.Tests.{eq-eqb, ne-eqb}
 use Rattle.numbers.specs.Choice.{taken, left}
 use Rattle.runs.specs.Runs.{meetFill}
-use native.Mathlib.Omega.{arith}
 use borrow.Author.Needs.{needs}
 use Rattle.runs.proofs.meet_fill.Statement.{statement}
 use Rattle.runs.proofs.meet_fill.Tie as tie
-use Rattle.runs.proofs.meet_fill.Reads as reads
-use Rattle.runs.proofs.meet_fill.Lts as lts
-use Rattle.runs.proofs.sole.Reads as sole-reads
 
--- src/lib.rt:126:24
 add-t8 : tie.Need-add-t8
 add-t8 c = search needs
 
--- src/lib.rt:122:9
 returns : tie.Need-returns
 unfolding meetFill
 returns c = taken _ (eq-eqb _ _ (c .if1 .taken)) refl
 
--- src/lib.rt:137:15
 sole-requires : tie.Need-sole-requires
 sole-requires c κs = search needs
 
--- src/lib.rt:117:1
 returns-2 : tie.Need-returns-2
 unfolding meetFill
 returns-2 c = left _ (ne-eqb _ _ (c .before .if1 .left)) (cc)

@@ -1,53 +1,38 @@
-use mathlib.Core.Path.{_≡_, refl, sym, ap, subst, _∙_}
-use Rattle.runs.specs.declared.Run.{Run}
+use mathlib.Core.Path.{subst}
 use Rattle.runs.specs.Runs.{next}
 use Rattle.runs.specs.Ranges.{Small}
-use native.Mathlib.Omega.{arith}
 use borrow.Author.Needs.{needs}
 use Rattle.runs.proofs.next_fill.Statement.{statement}
 use Rattle.runs.proofs.next_fill.Tie as tie
-use Rattle.runs.proofs.next_fill.Reads as reads
-use Rattle.runs.proofs.next_fill.Lts as lts
-use Rattle.runs.proofs.meet_fill.Reads as meet-fill-reads
-use Rattle.runs.proofs.sole.Reads as sole-reads
 
--- src/lib.rt:177:19
 enum-told : tie.Need-enum-told
 enum-told c = search needs
 
--- src/lib.rt:177:19
 sole-requires : tie.Need-sole-requires
 sole-requires c κs = search needs
 
--- src/lib.rt:187:19
 enum-told-2 : tie.Need-enum-told-2
 enum-told-2 c = search needs
 
--- src/lib.rt:187:19
 sole-requires-2 : tie.Need-sole-requires-2
 sole-requires-2 c κs = search needs
 
--- src/lib.rt:190:13
 enum-known-r : tie.Need-enum-known-r
 enum-known-r c = search needs
 
--- src/lib.rt:193:14
 meet-fill-requires : tie.Need-meet-fill-requires
 meet-fill-requires c κs =
     let s = c .before .before .before in
     (subst (Small (s .args .k)) (c .before .r .given .1) (s .pre .0) .ends, s .pre .1)
 
--- src/lib.rt:169:1
 returns : tie.Need-returns
 unfolding next
 returns c = rw (c .before .enum-told .given .1, c .sole .ensures)
 
--- src/lib.rt:169:1
 returns-2 : tie.Need-returns-2
 unfolding next
 returns-2 c = rw (c .before .enum-told2 .given .1, c .sole2 .ensures)
 
--- src/lib.rt:169:1
 returns-3 : tie.Need-returns-3
 unfolding next
 returns-3 c = rw (c .before .before .r .given .1) (c .meet-fill .ensures)

@@ -1,4 +1,4 @@
-use mathlib.Core.Path.{_≡_, refl, sym, ap, subst, _∙_}
+use mathlib.Core.Path.{_≡_, refl, subst, _∙_}
 use Prim.Native.Nat.{ℕ, _+_, _*_, _≤_}
 use mathlib.Core.List.{List, [], _∷_, append-nil}
 use lib.IntN.{ℤ}
@@ -13,32 +13,23 @@ use native.Mathlib.Omega.{arith}
 use borrow.Author.Needs.{needs}
 use Rattle.runs.proofs.write_run.Statement.{statement}
 use Rattle.runs.proofs.write_run.Tie as tie
-use Rattle.runs.proofs.write_run.Reads as reads
-use Rattle.runs.proofs.write_run.Lts as lts
-use Rattle.records.proofs.moved.Reads as moved-reads
-use Rattle.records.proofs.put_record.Reads as put-record-reads
 
 -- one record written, as a tape of one
 alone : (l : List ℤ) (at : ℕ) {q r : Record} {m : List ℤ} → q ≡ r → m ≡ sets l at (recordNumbers q) → m ≡ sets l at (tapeNumbers (r ∷ []))
 alone l at {r = r} e h = h ∙ rw (e, append-nil (recordNumbers r))
 
--- src/lib.rt:245:22
 enum-told : tie.Need-enum-told
 enum-told c = search needs
 
--- src/lib.rt:247:13
 enum-known-r : tie.Need-enum-known-r
 enum-known-r c = search needs
 
--- src/lib.rt:253:17
 moved-requires : tie.Need-moved-requires
 moved-requires c κs = search needs
 
--- src/lib.rt:254:39
 mul-put-record : tie.Need-mul-put-record
 mul-put-record c = search needs
 
--- src/lib.rt:254:13
 put-record-requires : tie.Need-put-record-requires
 put-record-requires c κs =
     let s = c .before .before .before .before .before in
@@ -47,19 +38,15 @@ put-record-requires c κs =
     let w = subst (λ (r : Run). AllWithin (runRecords (s .args .load) (s .args .register) r)) e (s .pre .1) in
     (omega arith, rw (c .before .moved .ensures) (w .0))
 
--- src/lib.rt:255:13
 add-result : tie.Need-add-result
 add-result c = search needs
 
--- src/lib.rt:258:13
 enum-known-r-2 : tie.Need-enum-known-r-2
 enum-known-r-2 c = search needs
 
--- src/lib.rt:268:39
 mul-put-record-2 : tie.Need-mul-put-record-2
 mul-put-record-2 c = search needs
 
--- src/lib.rt:268:13
 put-record-requires-2 : tie.Need-put-record-requires-2
 put-record-requires-2 c κs =
     let s = c .before .before .before .before in
@@ -68,19 +55,15 @@ put-record-requires-2 c κs =
     let w = subst (λ (r : Run). AllWithin (runRecords (s .args .load) (s .args .register) r)) e (s .pre .1) in
     (omega arith, w .0)
 
--- src/lib.rt:269:13
 add-result-2 : tie.Need-add-result-2
 add-result-2 c = search needs
 
--- src/lib.rt:239:1
 returns : tie.Need-returns
 returns c = rw (c .enum-told .given .1) (omega arith, refl)
 
--- src/lib.rt:239:1
 same-length : tie.Need-same-length
 same-length c = search needs
 
--- src/lib.rt:239:1
 returns-2 : tie.Need-returns-2
 returns-2 c =
     let a = c .before .before .before .before .before .before .before .args in
@@ -89,11 +72,9 @@ returns-2 c =
       alone (a .tape .now) (a .at * 6) (c .before .before .before .moved .ensures) (c .before .put-record .ensures),
     )
 
--- src/lib.rt:239:1
 same-length-2 : tie.Need-same-length-2
 same-length-2 c = search needs
 
--- src/lib.rt:239:1
 returns-3 : tie.Need-returns-3
 returns-3 c = rw (c .before .before .before .before .r2 .given .1) (refl, c .before .put-record2 .ensures)
 
