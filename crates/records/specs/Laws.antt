@@ -80,9 +80,16 @@ record-past (Put r f n b u d) t at = past _ _ _ _ _ _ t at
 record-past (Fill r f n v) t at = past _ _ _ _ _ _ t at
 record-past (Whole s) t at = past _ _ _ _ _ _ t at
 
+abbrev pub AllRecords : (Record → Type 0) → List Record → Type 0
+AllRecords P [] = Unit {0}
+AllRecords P (r ∷ rs) = P r × AllRecords P rs
+
+pub all-append : (P : Record → Type 0) (rs qs : List Record) → AllRecords P rs → AllRecords P qs → AllRecords P (rs ++ qs)
+all-append P [] qs p q = q
+all-append P (r ∷ rs) qs p q = (p .0, all-append P rs qs (p .1) q)
+
 abbrev pub AllWithin : List Record → Type 0
-AllWithin [] = Unit {0}
-AllWithin (r ∷ rs) = Within r × AllWithin rs
+AllWithin rs = AllRecords Within rs
 
 -- record k of a written tape
 pub tape-back : (rs : List Record) (t : List ℤ) (k : ℕ) → AllWithin rs → k < length rs
@@ -114,7 +121,3 @@ length-tape (r ∷ rs) = length-append (recordNumbers r) (tapeNumbers rs) ∙ om
 pub tape-append : (rs qs : List Record) → tapeNumbers (rs ++ qs) ≡ tapeNumbers rs ++ tapeNumbers qs
 tape-append [] qs = refl
 tape-append (r ∷ rs) qs = rw (tape-append rs qs, append-assoc)
-
-pub within-append : (rs qs : List Record) → AllWithin rs → AllWithin qs → AllWithin (rs ++ qs)
-within-append [] qs p q = q
-within-append (r ∷ rs) qs p q = (p .0, within-append rs qs (p .1) q)
