@@ -3,7 +3,6 @@ ghost use mathlib.Core.Path.{_≡_};
 ghost use Prim.Native.Nat.{_<_, _^_};
 ghost use lib.ListN.{length, set};
 ghost use lib.IntN.{pos};
-ghost use lib.Signed.{leZ};
 ghost use Rattle.signed.specs.Numbers.{number, rise, fall, is, atLeast, spans, difference, bitsOf, signedOf};
 
 // Of 32 bits: the least number that is read as below 0, and the greatest.
