@@ -1,0 +1,69 @@
+-- What the tests of a record tell of its numbers.
+use Prim.Native.Nat.{ℕ, _+_, _<_, _^_}
+use mathlib.Core.Path.{_≡_}
+use mathlib.Core.Bool.{true}
+use mathlib.Core.List.{List, [], _∷_}
+use native.Mathlib.Numerals.{add-one, add-two, add-three, add-four, add-five}
+use lib.ListN.{set}
+use lib.Seq.{sets}
+use lib.IntN.{ℤ}
+use Rattle.numbers.specs.Choice.{both-left, both-right}
+use Rattle.signed.specs.Numbers.{rise, fall}
+use Rattle.signed.specs.Laws.{one-way, spans-rise, spans-fall, least-rise}
+use Rattle.records.specs.Records.{registerOk, stepOk, countOk, copyOk, bytesOk, fillOk}
+use Rattle.records.specs.Ranges.{Elements, Bytes}
+
+module _ (a b c d e : ℤ) where
+  pub copy-register : copyOk a b c d e ≡ true → registerOk a ≡ true
+  unfolding copyOk
+  copy-register h = both-left _ _ h
+
+  pub copy-object : copyOk a b c d e ≡ true → registerOk b ≡ true
+  unfolding copyOk
+  copy-object h = both-left _ _ (both-right _ _ h)
+
+  pub bytes-register : bytesOk a b c d e ≡ true → registerOk a ≡ true
+  unfolding bytesOk
+  bytes-register h = both-left _ _ h
+
+  pub bytes-count : bytesOk a b c d e ≡ true → countOk c ≡ true
+  unfolding bytesOk
+  bytes-count h = both-left _ _ (both-right _ _ (both-right _ _ h))
+
+  pub bytes-step : bytesOk a b c d e ≡ true → stepOk e ≡ true
+  unfolding bytesOk
+  bytes-step h = both-right _ _ (both-right _ _ (both-right _ _ (both-right _ _ h)))
+
+  pub fill-register : fillOk a b c d e ≡ true → registerOk a ≡ true
+  unfolding fillOk
+  fill-register h = both-left _ _ h
+
+  pub fill-count : fillOk a b c d e ≡ true → countOk c ≡ true
+  unfolding fillOk
+  fill-count h = both-left _ _ (both-right _ _ (both-right _ _ h))
+
+-- elements that were read
+pub elements-read : (c : ℤ) → countOk c ≡ true → {r f n : ℕ} → r < 4 → f < 2 ^ 31 → n ≡ rise c → n < 2 ^ 31 → Elements r f n
+elements-read c h p q e s = record { register = p; first = q; some = rw e (least-rise 1 c h); count = s }
+
+-- a byte and a step that were read
+pub bytes-read : (e : ℤ) → stepOk e ≡ true → {b u d : ℕ} → b < 2 ^ 31 → u ≡ rise e → d ≡ fall e → Bytes b u d
+bytes-read e h p q r =
+    record {
+      byte = p;
+      up = rw q (spans-rise 65535 65535 e h);
+      down = rw r (spans-fall 65535 65535 e h);
+      way = rw (q, r) (one-way e);
+    }
+
+-- ---- numbers written one after the other
+
+pub four : (l : List ℤ) (at : ℕ) (a b c d : ℤ) {l₁ l₂ l₃ l₄ : List ℤ}
+    → l₁ ≡ set l at a → l₂ ≡ set l₁ (at + 1) b → l₃ ≡ set l₂ (at + 2) c → l₄ ≡ set l₃ (at + 3) d
+    → l₄ ≡ sets l at (a ∷ b ∷ c ∷ d ∷ [])
+four l at a b c d p q r s = rw (s, r, q, p, add-one, add-two, add-three)
+
+pub six : (l : List ℤ) (at : ℕ) (a b c d e f : ℤ) {l₁ l₂ l₃ : List ℤ}
+    → l₁ ≡ sets l at (a ∷ b ∷ c ∷ d ∷ []) → l₂ ≡ set l₁ (at + 4) e → l₃ ≡ set l₂ (at + 5) f
+    → l₃ ≡ sets l at (a ∷ b ∷ c ∷ d ∷ e ∷ f ∷ [])
+six l at a b c d e f p q r = rw (r, q, p, add-four, add-five)

@@ -1,0 +1,32 @@
+-- The ranges of a record's numbers: those that six signed 32-bit numbers can say, and that are not out of range.
+use Prim.Native.Nat.{ℕ, _≤_, _<_, _^_, min}
+use mathlib.Core.Path.{_≡_}
+use Rattle.records.specs.declared.Record.{Record}
+use Rattle.records.specs.declared.Record.the-variants.{Copy, Take, Put, Fill, Whole}
+use Rattle.records.specs.declared.Decoded.{Decoded}
+use Rattle.records.specs.declared.Decoded.the-variants.{Good, Bad}
+
+-- elements of a register
+pub record Elements (r f n : ℕ) : Type 0 where
+  pub register : r < 4
+  pub first : f < 2 ^ 31
+  pub some : 1 ≤ n
+  pub count : n < 2 ^ 31
+
+-- bytes of memory at an even step, which goes one way
+pub record Bytes (b u d : ℕ) : Type 0 where
+  pub byte : b < 2 ^ 31
+  pub up : u ≤ 65535
+  pub down : d ≤ 65535
+  pub way : min u d ≡ 0
+
+abbrev pub Within : Record → Type 0
+Within (Copy register object) = (register < 4) × (object < 4)
+Within (Take register first count byte up down) = Elements register first count × Bytes byte up down
+Within (Put register first count byte up down) = Elements register first count × Bytes byte up down
+Within (Fill register first count value) = Elements register first count × (value < 2 ^ 32)
+Within (Whole step) = step < 2 ^ 31
+
+abbrev pub Sound : Decoded → Type 0
+Sound (Good r) = Within r
+Sound Bad = Unit {0}

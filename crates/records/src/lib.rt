@@ -1,0 +1,347 @@
+// The records of a tape and their six numbers (document 01, "The tape").
+ghost use mathlib.Core.Path.{_≡_};
+ghost use mathlib.Core.Bool.{true};
+ghost use mathlib.Core.List.{[], _∷_};
+ghost use Prim.Native.Nat.{_+_, _<_, _≤_, _^_};
+ghost use lib.ListN.{length};
+ghost use lib.Seq.{sets};
+ghost use lib.IntN.{pos};
+ghost use Rattle.signed.specs.Numbers.{number, rise};
+ghost use Rattle.records.specs.Records.{registerOk, moved, bytesNumbers, recordNumbers, fields, copyOk, bytesOk, fillOk, wholeOk, copyOf, bytesOf, fillOf, wholeOf, recordAt};
+ghost use Rattle.records.specs.Ranges.{Elements, Bytes, Within, Sound};
+
+// The byte step of a take or a put is up - down, of which one is 0.
+pub enum Record {
+    Copy {
+        register: u8,
+        object: u8,
+    },
+    Take {
+        register: u8,
+        first: usize,
+        count: usize,
+        byte: usize,
+        up: usize,
+        down: usize,
+    },
+    Put {
+        register: u8,
+        first: usize,
+        count: usize,
+        byte: usize,
+        up: usize,
+        down: usize,
+    },
+    Fill {
+        register: u8,
+        first: usize,
+        count: usize,
+        value: u32,
+    },
+    Whole {
+        step: usize,
+    },
+}
+
+// What six numbers say.
+pub enum Decoded {
+    Good(Record),
+    Bad,
+}
+
+// Numbers a record.
+pub const NUMBERS: usize = 6;
+
+// The greatest register and the greatest byte step.
+const REGISTER: usize = 3;
+
+const STEP: usize = 65_535;
+
+fn copy_ok(tape: &[i32], at: usize) -> bool
+    requires { ⌜ at + 6 ≤ length (now tape) ⌝ }
+    ensures { λ r. ⌜ r ≡ fields copyOk (now (tape .entry)) at ⌝ }
+{
+    if !signed::spans(tape, at + 1, 0, REGISTER) {
+        return false;
+    }
+    if !signed::spans(tape, at + 2, 0, REGISTER) {
+        return false;
+    }
+    if !signed::is(tape, at + 3, 0) {
+        return false;
+    }
+    if !signed::is(tape, at + 4, 0) {
+        return false;
+    }
+    signed::is(tape, at + 5, 0)
+}
+
+fn bytes_ok(tape: &[i32], at: usize) -> bool
+    requires { ⌜ at + 6 ≤ length (now tape) ⌝ }
+    ensures { λ r. ⌜ r ≡ fields bytesOk (now (tape .entry)) at ⌝ }
+{
+    if !signed::spans(tape, at + 1, 0, REGISTER) {
+        return false;
+    }
+    if !signed::at_least(tape, at + 2, 0) {
+        return false;
+    }
+    if !signed::at_least(tape, at + 3, 1) {
+        return false;
+    }
+    if !signed::at_least(tape, at + 4, 0) {
+        return false;
+    }
+    signed::spans(tape, at + 5, STEP, STEP)
+}
+
+fn fill_ok(tape: &[i32], at: usize) -> bool
+    requires { ⌜ at + 6 ≤ length (now tape) ⌝ }
+    ensures { λ r. ⌜ r ≡ fields fillOk (now (tape .entry)) at ⌝ }
+{
+    if !signed::spans(tape, at + 1, 0, REGISTER) {
+        return false;
+    }
+    if !signed::at_least(tape, at + 2, 0) {
+        return false;
+    }
+    if !signed::at_least(tape, at + 3, 1) {
+        return false;
+    }
+    signed::is(tape, at + 5, 0)
+}
+
+fn whole_ok(tape: &[i32], at: usize) -> bool
+    requires { ⌜ at + 6 ≤ length (now tape) ⌝ }
+    ensures { λ r. ⌜ r ≡ fields wholeOk (now (tape .entry)) at ⌝ }
+{
+    if !signed::at_least(tape, at + 1, 0) {
+        return false;
+    }
+    if !signed::is(tape, at + 2, 0) {
+        return false;
+    }
+    if !signed::is(tape, at + 3, 0) {
+        return false;
+    }
+    if !signed::is(tape, at + 4, 0) {
+        return false;
+    }
+    signed::is(tape, at + 5, 0)
+}
+
+fn register_at(tape: &[i32], at: usize) -> u8
+    requires { ⌜ (at < length (now tape)) × (registerOk (number (now tape) at) ≡ true) ⌝ }
+    ensures { λ r. ⌜ (r ≡ rise (number (now (tape .entry)) at)) × (r < 4) ⌝ }
+{
+    signed::rise(tape, at) as u8
+}
+
+fn copy_record(tape: &[i32], at: usize) -> Decoded
+    requires { ⌜ at + 6 ≤ length (now tape) ⌝ }
+    ensures { λ r. ⌜ (r ≡ fields copyOf (now (tape .entry)) at) × Sound r ⌝ }
+{
+    if !copy_ok(tape, at) {
+        return Decoded::Bad;
+    }
+    let register = register_at(tape, at + 1);
+    let object = register_at(tape, at + 2);
+    Decoded::Good(Record::Copy { register, object })
+}
+
+// A take, or a put.
+pub fn moved(
+    take: bool,
+    register: u8,
+    first: usize,
+    count: usize,
+    byte: usize,
+    up: usize,
+    down: usize,
+) -> Record
+    ensures { λ r. ⌜ r ≡ moved take register first count byte up down ⌝ }
+{
+    if take {
+        return Record::Take {
+            register,
+            first,
+            count,
+            byte,
+            up,
+            down,
+        };
+    }
+    Record::Put {
+        register,
+        first,
+        count,
+        byte,
+        up,
+        down,
+    }
+}
+
+fn bytes_record(tape: &[i32], at: usize, take: bool) -> Decoded
+    requires { ⌜ at + 6 ≤ length (now tape) ⌝ }
+    ensures { λ r. ⌜ (r ≡ fields (bytesOf take) (now (tape .entry)) at) × Sound r ⌝ }
+{
+    if !bytes_ok(tape, at) {
+        return Decoded::Bad;
+    }
+    let register = register_at(tape, at + 1);
+    let first = signed::rise(tape, at + 2);
+    let count = signed::rise(tape, at + 3);
+    let byte = signed::rise(tape, at + 4);
+    let up = signed::rise(tape, at + 5);
+    let down = signed::fall(tape, at + 5);
+    Decoded::Good(moved(take, register, first, count, byte, up, down))
+}
+
+fn fill_record(tape: &[i32], at: usize) -> Decoded
+    requires { ⌜ at + 6 ≤ length (now tape) ⌝ }
+    ensures { λ r. ⌜ (r ≡ fields fillOf (now (tape .entry)) at) × Sound r ⌝ }
+{
+    if !fill_ok(tape, at) {
+        return Decoded::Bad;
+    }
+    let register = register_at(tape, at + 1);
+    let first = signed::rise(tape, at + 2);
+    let count = signed::rise(tape, at + 3);
+    let value = signed::bits(tape, at + 4);
+    Decoded::Good(Record::Fill {
+        register,
+        first,
+        count,
+        value,
+    })
+}
+
+fn whole_record(tape: &[i32], at: usize) -> Decoded
+    requires { ⌜ at + 6 ≤ length (now tape) ⌝ }
+    ensures { λ r. ⌜ (r ≡ fields wholeOf (now (tape .entry)) at) × Sound r ⌝ }
+{
+    if !whole_ok(tape, at) {
+        return Decoded::Bad;
+    }
+    let step = signed::rise(tape, at + 1);
+    Decoded::Good(Record::Whole { step })
+}
+
+// The record whose numbers begin at a place of a tape.
+pub fn read_record(tape: &[i32], at: usize) -> Decoded
+    requires { ⌜ at + 6 ≤ length (now tape) ⌝ }
+    ensures { λ r. ⌜ (r ≡ recordAt (now (tape .entry)) at) × Sound r ⌝ }
+{
+    if signed::is(tape, at, 0) {
+        return copy_record(tape, at);
+    }
+    if signed::is(tape, at, 1) {
+        return bytes_record(tape, at, true);
+    }
+    if signed::is(tape, at, 2) {
+        return bytes_record(tape, at, false);
+    }
+    if signed::is(tape, at, 3) {
+        return fill_record(tape, at);
+    }
+    if signed::is(tape, at, 4) {
+        return whole_record(tape, at);
+    }
+    Decoded::Bad
+}
+
+// The op and the three numbers after it.
+fn put_four(tape: &mut [i32], at: usize, op: usize, a: usize, b: usize, c: usize)
+    requires { ⌜ at + 6 ≤ length (now tape) ⌝ }
+    requires { ⌜ (op < 2 ^ 31) × (a < 2 ^ 31) × (b < 2 ^ 31) × (c < 2 ^ 31) ⌝ }
+    ensures { λ _. ⌜ now (tape .exit) ≡ sets (now (tape .entry)) at (pos op ∷ pos a ∷ pos b ∷ pos c ∷ []) ⌝ }
+{
+    signed::put_natural(tape, at, op);
+    signed::put_natural(tape, at + 1, a);
+    signed::put_natural(tape, at + 2, b);
+    signed::put_natural(tape, at + 3, c);
+}
+
+// A record of naturals, the last two of them unused.
+fn put_plain(tape: &mut [i32], at: usize, op: usize, a: usize, b: usize)
+    requires { ⌜ at + 6 ≤ length (now tape) ⌝ }
+    requires { ⌜ (op < 2 ^ 31) × (a < 2 ^ 31) × (b < 2 ^ 31) ⌝ }
+    ensures { λ _. ⌜ now (tape .exit) ≡ sets (now (tape .entry)) at (pos op ∷ pos a ∷ pos b ∷ pos 0 ∷ pos 0 ∷ pos 0 ∷ []) ⌝ }
+{
+    put_four(tape, at, op, a, b, 0);
+    signed::put_natural(tape, at + 4, 0);
+    signed::put_natural(tape, at + 5, 0);
+}
+
+fn put_bytes(
+    tape: &mut [i32],
+    at: usize,
+    op: usize,
+    register: u8,
+    first: usize,
+    count: usize,
+    byte: usize,
+    up: usize,
+    down: usize,
+)
+    requires { ⌜ at + 6 ≤ length (now tape) ⌝ }
+    requires { ⌜ (op < 3) × Elements register first count × Bytes byte up down ⌝ }
+    ensures { λ _. ⌜ now (tape .exit) ≡ sets (now (tape .entry)) at (bytesNumbers op register first count byte up down) ⌝ }
+{
+    put_four(tape, at, op, register as usize, first, count);
+    signed::put_natural(tape, at + 4, byte);
+    signed::put_difference(tape, at + 5, up, down);
+}
+
+fn put_fill(tape: &mut [i32], at: usize, register: u8, first: usize, count: usize, value: u32)
+    requires { ⌜ at + 6 ≤ length (now tape) ⌝ }
+    requires { ⌜ Elements register first count ⌝ }
+    ensures { λ _. ⌜ now (tape .exit) ≡ sets (now (tape .entry)) at (recordNumbers (Record.Fill register first count value)) ⌝ }
+{
+    put_four(tape, at, 3, register as usize, first, count);
+    signed::put_bits(tape, at + 4, value);
+    signed::put_natural(tape, at + 5, 0);
+}
+
+pub fn put_record(tape: &mut [i32], at: usize, r: Record)
+    requires { ⌜ at + 6 ≤ length (now tape) ⌝ }
+    requires { ⌜ Within r ⌝ }
+    ensures { λ _. ⌜ now (tape .exit) ≡ sets (now (tape .entry)) at (recordNumbers r) ⌝ }
+{
+    match r {
+        Record::Copy { register, object } => {
+            put_plain(tape, at, 0, register as usize, object as usize);
+        }
+        Record::Take {
+            register,
+            first,
+            count,
+            byte,
+            up,
+            down,
+        } => {
+            put_bytes(tape, at, 1, register, first, count, byte, up, down);
+        }
+        Record::Put {
+            register,
+            first,
+            count,
+            byte,
+            up,
+            down,
+        } => {
+            put_bytes(tape, at, 2, register, first, count, byte, up, down);
+        }
+        Record::Fill {
+            register,
+            first,
+            count,
+            value,
+        } => {
+            put_fill(tape, at, register, first, count, value);
+        }
+        Record::Whole { step } => {
+            put_plain(tape, at, 4, step, 0);
+        }
+    }
+}

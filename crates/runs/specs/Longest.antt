@@ -1,0 +1,306 @@
+-- Each run taken is the longest even run from its first element.
+use Prim.Native.Nat.{ℕ, zero, suc, _+_, _*_, _-_, _≤_, _<_, min}
+use mathlib.Core.Path.{_≡_, refl, sym, ap, subst, _∙_}
+use mathlib.Core.Bool.{Bool, true, false, true≢false}
+use mathlib.Core.List.{List, [], _∷_, _++_}
+use native.Mathlib.Nat.{add-mul}
+use native.Mathlib.Omega.{arith}
+use borrow.Author.Tests.{eqb-true, eqb-false, leb-true, leb-false}
+use lib.Dec.{eqb, leb}
+use Rattle.numbers.specs.Choice.{pick-case}
+use Rattle.numbers.specs.Lists.{each}
+use Rattle.outcomes.specs.declared.Outcome.{Outcome}
+use Rattle.outcomes.specs.declared.Outcome.the-variants.{Skipped, Filled, Discarded, Placed}
+use Rattle.runs.specs.declared.Run.{Run}
+use Rattle.runs.specs.declared.Run.the-variants.{Idle, Bytes, Fills}
+use Rattle.runs.specs.declared.Turn.{Turn}
+use Rattle.runs.specs.Runs.{lone, meetByte, meetFill, next, emit, held, ending, ended, runs}
+
+module _ (f : ℕ → Outcome) where
+  -- of the first n elements, m from e on are an even run: consecutive elements alike
+  pub data Even (n e m : ℕ) : Type 0 where
+    -- bytes at the same step: from each element to the next the same difference
+    bytes : (at : ℕ → ℕ) → e + m ≤ n
+        → ((i : ℕ) → i < m → f (e + i) ≡ Placed (at i))
+        → ((i : ℕ) → i + 2 < m → at (i + 2) + at i ≡ at (i + 1) + at (i + 1))
+        → Even n e m
+    -- fills with the same bits
+    fills : (v : ℕ) → e + m ≤ n → ((i : ℕ) → i < m → f (e + i) ≡ Filled v) → Even n e m
+
+  -- no longer even run starts at the same element
+  pub record Longest (n e m : ℕ) : Type 0 where
+    pub some : 1 ≤ m
+    pub even : Even n e m
+    pub most : (k : ℕ) → Even n e k → k ≤ m
+
+  -- and a run of one has step 0
+  pub record LongestBytes (n e m u d : ℕ) : Type 0 where
+    pub longest : Longest n e m
+    pub lone : m ≡ 1 → (u ≡ 0) × (d ≡ 0)
+
+  abbrev pub LongestRun : ℕ → Run → Type 0
+  LongestRun n Idle = ⊥
+  LongestRun n (Bytes e m b u d) = LongestBytes n e m u d
+  LongestRun n (Fills e m v) = Longest n e m
+
+pub data AllRuns (P : Run → Type 0) : List Run → Type 0 where
+  none : AllRuns P []
+  more : {r : Run} {rs : List Run} → P r → AllRuns P rs → AllRuns P (r ∷ rs)
+
+-- ---- what is known of the open run before element k
+
+pub record Going (f : ℕ → Outcome) (k e m b u d : ℕ) : Type 0 where
+  pub ends : e + m ≡ k
+  pub some : 1 ≤ m
+  pub low : (i : ℕ) → i < m → i * d ≤ b + i * u
+  pub at : (i : ℕ) → i < m → f (e + i) ≡ Placed (b + i * u - i * d)
+  pub lone : m ≡ 1 → (u ≡ 0) × (d ≡ 0)
+  pub way : min u d ≡ 0
+
+pub record Pouring (f : ℕ → Outcome) (k e m v : ℕ) : Type 0 where
+  pub ends : e + m ≡ k
+  pub some : 1 ≤ m
+  pub at : (i : ℕ) → i < m → f (e + i) ≡ Filled v
+
+abbrev pub Open : (ℕ → Outcome) → ℕ → Run → Type 0
+Open f k Idle = Unit {0}
+Open f k (Bytes e m b u d) = Going f k e m b u d
+Open f k (Fills e m v) = Pouring f k e m v
+
+pub by-order : {P : Type 0} (a b : ℕ) → (a ≤ b → P) → (b < a → P) → P
+by-order {P = P} a b p q = by (leb a b) refl
+  where
+    by : (t : Bool) → leb a b ≡ t → P
+    by true e = p (leb-true a b e)
+    by false e = q (leb-false a b e)
+
+module _ (f : ℕ → Outcome) where
+  same-byte : {x y : ℕ} {o : Outcome} → o ≡ Placed x → o ≡ Placed y → x ≡ y
+  same-byte p q = cc
+
+  same-value : {x y : ℕ} {o : Outcome} → o ≡ Filled x → o ≡ Filled y → x ≡ y
+  same-value p q = cc
+
+  other : {x y : ℕ} {o : Outcome} → o ≡ Placed x → o ≡ Filled y → ⊥
+  other p q = let z : _≡_ {A = ℕ} 0 1 = cc in omega arith
+
+  steps : (i u : ℕ) → ((i + 1) * u ≡ i * u + u) × ((i + 2) * u ≡ i * u + 2 * u)
+  steps i u = (add-mul i 1 u ∙ omega arith, add-mul i 2 u)
+
+  even-bytes : {k e m b u d : ℕ} (n : ℕ) → k ≤ n → Going f k e m b u d → Even f n e m
+  even-bytes {k} {e} {m} {b} {u} {d} n h g =
+      bytes (λ (i : ℕ). b + i * u - i * d) (omega (arith, g .ends)) (g .at)
+      (λ i l. omega (arith, g .low i (omega arith), g .low (i + 1) (omega arith), g .low (i + 2) l, steps i u .0, steps i u .1, steps i d .0, steps i d .1))
+
+  -- a run of bytes is the longest if the next element, where it has a byte, does not go on at the same step
+  longest-bytes : {k e m b u d : ℕ} (n : ℕ) → k ≤ n → Going f k e m b u d
+      → (k < n → (x : ℕ) → f k ≡ Placed x → (2 ≤ m) × (x + m * d ≡ b + m * u → ⊥))
+      → LongestBytes f n e m u d
+  longest-bytes {k} {e} {m} {b} {u} {d} n h g stops =
+      record { longest = record { some = g .some; even = even-bytes n h g; most = most }; lone = g .lone }
+    where
+      here : (at : ℕ → ℕ) (l : ℕ) → m < l → ((i : ℕ) → i < l → f (e + i) ≡ Placed (at i)) → f k ≡ Placed (at m)
+      here at l q a = subst (λ (x : ℕ). f x ≡ Placed (at m)) (g .ends) (a m q)
+
+      goes-on : (at : ℕ → ℕ) (l j : ℕ) → m < l → m ≡ j + 2
+          → ((i : ℕ) → i < l → f (e + i) ≡ Placed (at i))
+          → ((i : ℕ) → i + 2 < l → at (i + 2) + at i ≡ at (i + 1) + at (i + 1))
+          → at m + m * d ≡ b + m * u
+      goes-on at l j q z a s =
+          rw z
+          (omega (arith, s j (omega arith), same-byte (a j (omega arith)) (g .at j (omega arith)), same-byte (a (j + 1) (omega arith)) (g .at (j + 1) (omega arith)), g .low j (omega arith), g .low (j + 1) (omega arith), steps j u .0, steps j u .1, steps j d .0, steps j d .1))
+
+      too-long : (l : ℕ) → m < l → Even f n e l → ⊥
+      too-long l q (bytes at t a s) =
+          let w = stops (omega (arith, g .ends)) (at m) (here at l q a) in
+          w .1 (goes-on at l (m - 2) q (omega (arith, w .0)) a s)
+      too-long l q (fills v t a) = other (g .at 0 (omega (arith, g .some))) (a 0 (omega arith))
+
+      most : (l : ℕ) → Even f n e l → l ≤ m
+      most l s = by-order l m (λ q. q) (λ q. absurd (too-long l q s))
+
+  longest-fills : {k e m v : ℕ} (n : ℕ) → k ≤ n → Pouring f k e m v → (k < n → f k ≡ Filled v → ⊥) → Longest f n e m
+  longest-fills {k} {e} {m} {v} n h g stops =
+      record { some = g .some; even = fills v (omega (arith, g .ends)) (g .at); most = most }
+    where
+      too-long : (l : ℕ) → m < l → Even f n e l → ⊥
+      too-long l q (bytes at t a s) = other (a 0 (omega arith)) (g .at 0 (omega (arith, g .some)))
+      too-long l q (fills w t a) =
+          let z = same-value (a 0 (omega arith)) (g .at 0 (omega (arith, g .some))) in
+          stops (omega (arith, g .ends)) (subst (λ (x : ℕ). f x ≡ Filled v) (g .ends) (a m q ∙ ap Filled z))
+
+      most : (l : ℕ) → Even f n e l → l ≤ m
+      most l s = by-order l m (λ q. q) (λ q. absurd (too-long l q s))
+
+  -- ---- one element more
+
+  abbrev Done : ℕ → Run → Type 0
+  Done n Idle = Unit {0}
+  Done n (Bytes e m b u d) = LongestBytes f n e m u d
+  Done n (Fills e m v) = Longest f n e m
+
+  record Turned (n k : ℕ) (t : Turn) : Type 0 where
+    was : Open f k (t .done)
+    done : Done n (t .done)
+    held : Open f (suc k) (t .held)
+
+  at-first : {k x : ℕ} {o : Outcome} → f k ≡ o → x ≡ 0 → f (k + x) ≡ o
+  at-first {k} {x} e h = let z : k + x ≡ k = omega arith in rw z e
+
+  lone-going : (k b : ℕ) → f k ≡ Placed b → Going f (suc k) k 1 b 0 0
+  lone-going k b e =
+      record {
+        ends = omega arith;
+        some = omega arith;
+        low = λ i l. omega arith;
+        at = λ i l. let z : b + i * 0 - i * 0 ≡ b = omega arith in rw z (at-first e (omega arith));
+        lone = λ q. (refl, refl);
+        way = refl;
+      }
+
+  sole-pouring : (k v : ℕ) → f k ≡ Filled v → Pouring f (suc k) k 1 v
+  sole-pouring k v e = record { ends = omega arith; some = omega arith; at = λ i l. at-first e (omega arith) }
+
+  -- what holds of each of m elements, and of the next
+  one-more : (P : ℕ → Type 0) (m : ℕ) → ((i : ℕ) → i < m → P i) → P m → (i : ℕ) → i < m + 1 → P i
+  one-more P m p q i l =
+      by-order m i (λ h. subst P (omega arith) q) (λ h. p i h)
+
+  second-going : {k e m b u d : ℕ} (x : ℕ) → Going f k e m b u d → m ≡ 1 → f k ≡ Placed x → Going f (suc k) e 2 b (x - b) (b - x)
+  second-going {k} {e} {m} {b} {u} {d} x g h q =
+      record {
+        ends = omega (arith, g .ends);
+        some = omega arith;
+        low = low;
+        at = at;
+        lone = λ z. absurd (omega arith);
+        way = omega arith;
+      }
+    where
+      low : (i : ℕ) → i < 2 → i * (b - x) ≤ b + i * (x - b)
+      low zero l = omega arith
+      low (suc zero) l = omega arith
+      low (suc (suc i)) l = absurd (omega arith)
+
+      at : (i : ℕ) → i < 2 → f (e + i) ≡ Placed (b + i * (x - b) - i * (b - x))
+      at zero l =
+          let p : b + 0 * u - 0 * d ≡ b + 0 * (x - b) - 0 * (b - x) = omega arith in
+          g .at 0 (omega arith) ∙ ap Placed p
+      at (suc zero) l =
+          let p : e + 1 ≡ k = omega (arith, g .ends) in
+          let r : x ≡ b + 1 * (x - b) - 1 * (b - x) = omega arith in
+          ap f p ∙ q ∙ ap Placed r
+      at (suc (suc i)) l = absurd (omega arith)
+
+  more-going : {k e m b u d : ℕ} (x : ℕ) → Going f k e m b u d → (m ≡ 1 → ⊥) → x + m * d ≡ b + m * u → f k ≡ Placed x → Going f (suc k) e (m + 1) b u d
+  more-going {k} {e} {m} {b} {u} {d} x g o h q =
+      let r : x ≡ b + m * u - m * d = omega arith in
+      record {
+        ends = omega (arith, g .ends);
+        some = omega arith;
+        low = one-more (λ (i : ℕ). i * d ≤ b + i * u) m (g .low) (omega arith);
+        at = one-more (λ (i : ℕ). f (e + i) ≡ Placed (b + i * u - i * d)) m (g .at) (ap f (g .ends) ∙ q ∙ ap Placed r);
+        lone = λ z. absurd (omega (arith, g .some));
+        way = g .way;
+      }
+
+  more-pouring : {k e m v : ℕ} → Pouring f k e m v → f k ≡ Filled v → Pouring f (suc k) e (m + 1) v
+  more-pouring {k} {e} {m} {v} g q =
+      record { ends = omega (arith, g .ends); some = omega arith; at = one-more (λ (i : ℕ). f (e + i) ≡ Filled v) m (g .at) (ap f (g .ends) ∙ q) }
+
+  -- the next element is of another sort
+  abbrev placed : Outcome → Bool
+  placed Skipped = false
+  placed (Filled v) = false
+  placed Discarded = false
+  placed (Placed b) = true
+
+  abbrev filled : Outcome → Bool
+  filled Skipped = false
+  filled (Filled v) = true
+  filled Discarded = false
+  filled (Placed b) = false
+
+  ends-bytes : {k e m b u d : ℕ} (n : ℕ) (o : Outcome) → k < n → Going f k e m b u d → f k ≡ o → placed o ≡ false → LongestBytes f n e m u d
+  ends-bytes n o l g q z = longest-bytes n (omega arith) g (λ h x p. absurd (true≢false (ap placed (sym p ∙ q) ∙ z)))
+
+  ends-fills : {k e m v : ℕ} (n : ℕ) (o : Outcome) → k < n → Pouring f k e m v → f k ≡ o → filled o ≡ false → Longest f n e m
+  ends-fills n o l g q z = longest-fills n (omega arith) g (λ h p. true≢false (ap filled (sym p ∙ q) ∙ z))
+
+  byte-turned : (n k e m b u d x : ℕ) → k < n → Going f k e m b u d → f k ≡ Placed x → Turned n k (meetByte e m b u d k x)
+  unfolding meetByte
+  byte-turned n k e m b u d x l g q =
+      pick-case (Turned n k) (eqb m 1) _ _
+      (λ h. record { was = tt; done = tt; held = second-going x g (eqb-true m 1 h) q })
+      (λ h. pick-case (Turned n k) (eqb (x + m * d) (b + m * u)) _ _
+      (λ s. record { was = tt; done = tt; held = more-going x g (eqb-false m 1 h) (eqb-true _ _ s) q })
+      (λ s. record {
+        was = g;
+        done =
+            longest-bytes n (omega arith) g
+            (λ t y p. let z : y ≡ x = same-byte p q in let o : m ≡ 1 → ⊥ = eqb-false m 1 h in (omega (arith, g .some), λ w. eqb-false _ _ s (rw z at w)));
+        held = lone-going k x q;
+      }))
+
+  fill-turned : (n k e m v x : ℕ) → k < n → Pouring f k e m v → f k ≡ Filled x → Turned n k (meetFill e m v k x)
+  unfolding meetFill
+  fill-turned n k e m v x l g q =
+      pick-case (Turned n k) (eqb x v) _ _
+      (λ h. record { was = tt; done = tt; held = more-pouring g (q ∙ ap Filled (eqb-true x v h)) })
+      (λ h. record {
+        was = g;
+        done = longest-fills n (omega arith) g (λ t p. eqb-false x v h (same-value q p));
+        held = sole-pouring k x q;
+      })
+
+  turned : (n k : ℕ) (r : Run) (o : Outcome) → k < n → Open f k r → f k ≡ o → Turned n k (next r k o)
+  unfolding next
+  turned n k Idle Skipped l g q = record { was = tt; done = tt; held = tt }
+  turned n k (Bytes e m b u d) Skipped l g q = record { was = g; done = ends-bytes n Skipped l g q refl; held = tt }
+  turned n k (Fills e m v) Skipped l g q = record { was = g; done = ends-fills n Skipped l g q refl; held = tt }
+  turned n k Idle Discarded l g q = record { was = tt; done = tt; held = tt }
+  turned n k (Bytes e m b u d) Discarded l g q = record { was = g; done = ends-bytes n Discarded l g q refl; held = tt }
+  turned n k (Fills e m v) Discarded l g q = record { was = g; done = ends-fills n Discarded l g q refl; held = tt }
+  turned n k Idle (Placed x) l g q = record { was = tt; done = tt; held = lone-going k x q }
+  turned n k (Fills e m v) (Placed x) l g q = record { was = g; done = ends-fills n (Placed x) l g q refl; held = lone-going k x q }
+  turned n k (Bytes e m b u d) (Placed x) l g q = byte-turned n k e m b u d x l g q
+  turned n k Idle (Filled x) l g q = record { was = tt; done = tt; held = sole-pouring k x q }
+  turned n k (Bytes e m b u d) (Filled x) l g q = record { was = g; done = ends-bytes n (Filled x) l g q refl; held = sole-pouring k x q }
+  turned n k (Fills e m v) (Filled x) l g q = fill-turned n k e m v x l g q
+
+  pub held-open : (k : ℕ) → Open f k (held f k)
+  unfolding held
+  held-open zero = tt
+  held-open (suc k) = turned (suc k) k (held f k) (f k) (omega arith) (held-open k) refl .held
+
+  pub ending-open : (k : ℕ) → Open f k (ending f k)
+  ending-open k = turned (suc k) k (held f k) (f k) (omega arith) (held-open k) refl .was
+
+  -- ---- all runs
+
+  all-append : {P : Run → Type 0} {xs ys : List Run} → AllRuns P xs → AllRuns P ys → AllRuns P (xs ++ ys)
+  all-append none q = q
+  all-append (more p ps) q = more p (all-append ps q)
+
+  emitted : (n : ℕ) (r : Run) → Done n r → AllRuns (LongestRun f n) (emit r)
+  emitted n Idle h = none
+  emitted n (Bytes e m b u d) h = more h none
+  emitted n (Fills e m v) h = more h none
+
+  ended-longest : (n k : ℕ) → k ≤ n → AllRuns (LongestRun f n) (ended f k)
+  unfolding each
+  ended-longest n zero h = none
+  ended-longest n (suc k) h =
+      all-append (ended-longest n k (omega arith))
+      (emitted n (ending f k) (turned n k (held f k) (f k) h (held-open k) refl .done))
+
+  -- at the end there is no next element
+  last-longest : (n : ℕ) (r : Run) → Open f n r → Done n r
+  last-longest n Idle g = tt
+  last-longest n (Bytes e m b u d) g = longest-bytes n (omega arith) g (λ h. absurd (omega arith))
+  last-longest n (Fills e m v) g = longest-fills n (omega arith) g (λ h. absurd (omega arith))
+
+  -- each run of the first n elements is the longest even run from its first element; a run of one has step 0
+  pub runs-longest : (n : ℕ) → AllRuns (LongestRun f n) (runs f n)
+  unfolding runs
+  runs-longest n = all-append (ended-longest n n (omega arith)) (emitted n (held f n) (last-longest n (held f n) (held-open n)))
