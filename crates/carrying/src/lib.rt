@@ -1,10 +1,19 @@
 // Carrying out a sheet: a check over types that refuses or accepts, then a performance that cannot fail.
+pub mod checks;
 pub mod memory_steps;
 
+ghost use mathlib.Core.Path.{_≡_};
+ghost use lib.ListN.{length};
+ghost use Rattle.carrying.specs.Carrying.{checkedSheet};
 use accesses::Stop;
 use registers::MatrixType;
 use registers::Registers;
 use sheet::Refusal;
+
+// The largest memory.
+pub const MEMORY_LIMIT: usize = 65_536;
+
+const MEMORY_TOO_LARGE: u8 = 18;
 
 // What the check of a step tells: its refusal, or the types that it leaves and how many of its elements have a byte.
 pub struct StepCheck {
@@ -31,4 +40,20 @@ pub struct CarryAnswer {
 pub struct Performed {
     pub registers: Registers,
     pub count: usize,
+}
+
+// Whether a sheet would be refused for a memory of a length, and how many elements of its loads and stores have a byte.
+pub fn check_sheet(sheet: &[u8], memory_len: usize) -> CheckAnswer
+    ensures { λ r. ⌜ r ≡ checkedSheet (now (sheet .entry)) memory_len ⌝ }
+{
+    if MEMORY_LIMIT < memory_len {
+        return checks::check_refused(checks::refusal_at(MEMORY_TOO_LARGE, 0, 0));
+    }
+    let read = sheet_reader::read_sheet(sheet);
+    let refusal = read.refusal;
+    if 0 < refusal.number {
+        return checks::check_refused(refusal);
+    }
+    let model = read.sheet;
+    checks::check(model, memory_len)
 }

@@ -10,6 +10,8 @@ ghost use Rattle.addressing.specs.Valid.{SizedAccess};
 ghost use Rattle.round_trip.specs.Sheets.{Within};
 ghost use Rattle.carrying.specs.Steps.{viewNamed, accessOf, stepCheck, loadCheck, storeCheck, machine, loadDone, storeDone};
 ghost use Rattle.carrying.specs.Carrying.{memoryLimit};
+use super::Performed;
+use super::StepCheck;
 use accesses::Stop;
 use addressing::Access;
 use registers::MatrixType;
@@ -18,8 +20,6 @@ use sheet::Sheet;
 use sheet::View;
 use sheet::sizes;
 use sheet::views;
-use super::Performed;
-use super::StepCheck;
 
 const EMPTY_REGISTER: u8 = 7;
 

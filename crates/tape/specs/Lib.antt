@@ -2,3 +2,12 @@ pub mod Tapes
 pub mod Translating
 pub mod Records
 pub mod Running
+pub mod Passing
+pub mod Moving
+pub mod InRange
+pub mod Stepping
+pub mod Ranges
+pub mod Agreement
+pub mod Unchanged
+pub mod Longest
+pub mod Theorems

@@ -3,6 +3,7 @@ pub mod blocks;
 pub mod products;
 pub mod reduces;
 pub mod refusals;
+pub mod types;
 
 ghost use mathlib.Core.Path.{_≡_};
 ghost use mathlib.Core.Bool.{true};

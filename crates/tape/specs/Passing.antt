@@ -1,0 +1,98 @@
+-- A list of records, run one after the other: none is out of range at the types as they go, and what running keeps.
+use Prim.Native.Nat.{ℕ, suc, _+_, _<_}
+use mathlib.Core.Path.{_≡_, refl, sym, ap, _∙_}
+use mathlib.Core.Bool.{true, true≢false}
+use mathlib.Core.List.{List, [], _∷_, _++_}
+use native.Mathlib.Omega.{arith}
+use lib.ListN.{length, getD}
+use Rattle.numbers.specs.Choice.{pick, both-left, both-right}
+use Rattle.sheet.specs.Steps.{theStep}
+use Rattle.sheet.specs.declared.Sheet.{Sheet}
+use Rattle.sheet.specs.declared.Step.{Step}
+use Rattle.sheet.specs.declared.Step.the-variants as step
+use Rattle.registers.specs.declared.MatrixType.{MatrixType}
+use Rattle.whole_steps.specs.Refusals.{isWhole}
+use Rattle.whole_steps.specs.Whole.{wholeTypes}
+use Rattle.carrying.specs.Steps.{Machine, performedStep}
+use Rattle.carrying.specs.Carrying.{refusalAt}
+use Rattle.records.specs.declared.Record.{Record}
+use Rattle.records.specs.declared.Record.the-variants.{Copy, Take, Put, Fill, Whole}
+use Rattle.records.specs.declared.Decoded.{Decoded}
+use Rattle.records.specs.declared.Decoded.the-variants.{Good}
+use Rattle.runs.specs.States.{performAll}
+use Rattle.tape.specs.Records.{wholeRecordOk, recordOk, recordTypes, ranRecord}
+use Rattle.tape.specs.Running.{rangeFrom, ranDecoded, ranFrom}
+
+-- record k + i of a tape is record i of a list
+abbrev pub Says : (ℕ → Decoded) → ℕ → List Record → Type 0
+Says the k rs = (i : ℕ) → i < length rs → the (k + i) ≡ Good (getD rs i (Whole 0))
+
+-- ---- one record
+
+-- a whole step leaves memory as it was, and the types that the check gives
+pub record WholeKeeps (sh : Sheet) (st : Step) (m : Machine) : Type 0 where
+  pub types : performedStep sh st m .registers .types ≡ wholeTypes (m .registers .types) st
+  pub memory : performedStep sh st m .memory ≡ m .memory
+
+pub whole-keeps : (sh : Sheet) (st : Step) (m : Machine) → isWhole st ≡ true → WholeKeeps sh st m
+unfolding performedStep
+whole-keeps sh step.Nothing m e = absurd (true≢false (sym e))
+whole-keeps sh (step.Fill register rows columns kind value) m e = record { types = refl; memory = refl }
+whole-keeps sh (step.Load register object layout view base) m e = absurd (true≢false (sym e))
+whole-keeps sh (step.Store register layout view base) m e = absurd (true≢false (sym e))
+whole-keeps sh (step.Reduce result source rows columns mode combine) m e = record { types = refl; memory = refl }
+whole-keeps sh (step.Transpose result source) m e = record { types = refl; memory = refl }
+whole-keeps sh (step.MultiplyAdd result a b c) m e = record { types = refl; memory = refl }
+
+-- op 4 that is not out of range names such a step
+pub whole-named : (sh : Sheet) (ts : List MatrixType) (k : ℕ) → wholeRecordOk sh ts k ≡ true → isWhole (theStep (sh .step) k) ≡ true
+unfolding wholeRecordOk
+whole-named sh ts k e = both-left _ _ (both-right _ _ e)
+
+module _ (sh : Sheet) where
+  pub record-types : (r : Record) (m : Machine) (len : ℕ) → recordOk sh (m .registers .types) len r ≡ true
+      → ranRecord sh r m .registers .types ≡ recordTypes sh (m .registers .types) r
+  unfolding ranRecord
+  record-types (Copy register object) m len e = refl
+  record-types (Take register first count byte up down) m len e = refl
+  record-types (Put register first count byte up down) m len e = refl
+  record-types (Fill register first count value) m len e = refl
+  record-types (Whole k) m len e = whole-keeps sh (theStep (sh .step) k) m (whole-named sh (m .registers .types) k e) .types
+
+  -- ---- all records
+
+  -- no record is out of range, from registers of types ts on; types us are left
+  pub data Passes (len : ℕ) : List Record → List MatrixType → List MatrixType → Type 0 where
+    none : {ts : List MatrixType} → Passes len [] ts ts
+    more : {r : Record} {rs : List Record} {ts us : List MatrixType} → recordOk sh ts len r ≡ true → Passes len rs (recordTypes sh ts r) us → Passes len (r ∷ rs) ts us
+
+  pub passes-append : {len : ℕ} {rs qs : List Record} {ts us vs : List MatrixType} → Passes len rs ts us → Passes len qs us vs → Passes len (rs ++ qs) ts vs
+  passes-append none q = q
+  passes-append (more e p) q = more e (passes-append p q)
+
+  -- records in order, each on what the last one left
+  abbrev pub ranAll : List Record → Machine → Machine
+  ranAll rs m = performAll (ranRecord sh) rs m
+
+  -- ---- the records of a list by their numbers
+
+  module _ (the : ℕ → Decoded) where
+    says-first : (k : ℕ) (r : Record) (rs : List Record) → Says the k (r ∷ rs) → the k ≡ Good r
+    says-first k r rs s = let e : k + 0 ≡ k = omega arith in rw e at (s 0 (omega arith))
+
+    says-others : (k : ℕ) (r : Record) (rs : List Record) → Says the k (r ∷ rs) → Says the (k + 1) rs
+    says-others k r rs s i l = let e : k + 1 + i ≡ k + suc i = omega arith in rw e (s (suc i) (omega arith))
+
+    pub passes-range : {len : ℕ} {rs : List Record} {ts us : List MatrixType} (k : ℕ) → Says the k rs → Passes len rs ts us
+        → rangeFrom (length rs) sh len the k ts ≡ refusalAt 0 0 0
+    unfolding rangeFrom pick
+    passes-range k s none = refl
+    passes-range k s (more {r = r} {rs = rs} e p) =
+        rw (says-first k r rs s, e) (passes-range (k + 1) (says-others k r rs s) p)
+
+    pub ran-list : (rs : List Record) (k : ℕ) (m : Machine) → Says the k rs → ranFrom (length rs) sh the k m ≡ ranAll rs m
+    unfolding ranFrom performAll
+    ran-list [] k m s = refl
+    ran-list (r ∷ rs) k m s =
+        ap (λ (d : Decoded). ranFrom (length rs) sh the (k + 1) (ranDecoded sh d m)) (says-first k r rs s)
+        ∙ ran-list rs (k + 1) (ranRecord sh r m) (says-others k r rs s)

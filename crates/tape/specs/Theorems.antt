@@ -1,0 +1,125 @@
+-- Demand 3 over what the public routines are stated by: where a sheet is translated, running the numbers that were written gives what
+-- carrying out the sheet gives, in its answer and in memory.
+use Prim.Native.Nat.{ℕ, _≤_}
+use mathlib.Core.Path.{_≡_, refl, ap, _∙_}
+use mathlib.Core.Bool.{true}
+use mathlib.Core.List.{List, _++_}
+use native.Mathlib.Nat.{zero-add}
+use native.Mathlib.Omega.{arith}
+use borrow.Author.Tests.{leb-true, le-leb, eqb-true, eqb-false, eq-eqb}
+use lib.Dec.{leb, eqb}
+use lib.IntN.{ℤ}
+use lib.ListN.{length, drop}
+use lib.Seq.{sets-eq}
+use Rattle.numbers.specs.Choice.{pick, pick-case, both-left, both-right}
+use Rattle.sheet.specs.declared.Sheet.{Sheet}
+use Rattle.sheet_reader.specs.Reading.{readSheet}
+use Rattle.round_trip.specs.Sheets.{Within}
+use Rattle.round_trip.specs.Theorems.{read-within, not-refused}
+use Rattle.carrying.specs.Steps.{Machine}
+use Rattle.carrying.specs.Carrying.{refusalAt, memoryLimit, checked, checkedSheet, carryAnswer, carried, carriedMemory}
+use Rattle.carrying.specs.declared.CheckAnswer.{CheckAnswer}
+use Rattle.records.specs.Records.{tapeNumbers}
+use Rattle.records.specs.Laws.{length-tape}
+use Rattle.tape.specs.Tapes.{tapeOf}
+use Rattle.tape.specs.Translating.{recordLimit, recordsFit, fitsRoom, translated, translatedRoom}
+use Rattle.tape.specs.Running.{runRefusal, runTape, ranMemory}
+use Rattle.tape.specs.Agreement.{NumbersAgree, agreement-numbers}
+use Rattle.tape.specs.declared.TranslateAnswer.{TranslateAnswer}
+
+-- a sheet that is not refused for a memory of a length
+record SheetAccepted (s : List ℕ) (len : ℕ) : Type 0 where
+  most : len ≤ memoryLimit
+  read : readSheet s .refusal .number ≡ 0
+  steps : checked (readSheet s .sheet) len .refusal .number ≡ 0
+
+sheet-accepted : (s : List ℕ) (len : ℕ) → checkedSheet s len .refusal .number ≡ 0 → SheetAccepted s len
+unfolding checkedSheet
+sheet-accepted s len =
+    pick-case P (leb len memoryLimit) _ _
+    (λ l. pick-case P (eqb (readSheet s .refusal .number) 0) _ _
+    (λ e h. record { most = leb-true len memoryLimit l; read = eqb-true (readSheet s .refusal .number) 0 e; steps = h })
+    (λ e h. absurd (eqb-false (readSheet s .refusal .number) 0 e h)))
+    (λ l h. absurd (omega arith))
+  where
+    P : CheckAnswer → Type 0
+    P c = c .refusal .number ≡ 0 → SheetAccepted s len
+
+-- a sheet that is translated into a room
+record Translated (s : List ℕ) (len room : ℕ) (r : TranslateAnswer) : Type 0 where
+  accepted : checkedSheet s len .refusal .number ≡ 0
+  fits : fitsRoom s len room ≡ true
+  records : r .records ≡ length (tapeOf (readSheet s .sheet) len)
+
+is-translated : (s : List ℕ) (len room : ℕ) → translated s len room .refusal .number ≡ 0 → Translated s len room (translated s len room)
+unfolding translated
+is-translated s len room =
+    pick-case P (eqb (checkedSheet s len .refusal .number) 0) _ _
+    (λ e. pick-case P (fitsRoom s len room) _ _
+    (λ f h. record { accepted = eqb-true (checkedSheet s len .refusal .number) 0 e; fits = f; records = refl })
+    (λ f h. absurd (omega arith)))
+    (λ e h. absurd (eqb-false (checkedSheet s len .refusal .number) 0 e h))
+  where
+    P : TranslateAnswer → Type 0
+    P r = r .refusal .number ≡ 0 → Translated s len room r
+
+-- running so many records of a tape answers as carrying out the sheet does, and leaves the same memory
+pub record RunsAsCarried (s memory : List ℕ) (tape : List ℤ) (records : ℕ) : Type 0 where
+  pub answer : runTape s tape records memory ≡ carried s memory
+  pub bytes : ranMemory s tape records memory ≡ carriedMemory s memory
+
+module _ (s memory : List ℕ) (room : List ℤ) (h : translated s (length memory) (length room) .refusal .number ≡ 0) where
+  abbrev sh : Sheet
+  sh = readSheet s .sheet
+
+  abbrev numbers : List ℤ
+  numbers = translatedRoom s (length memory) room
+
+  abbrev written : List ℤ
+  written = tapeNumbers (tapeOf sh (length memory))
+
+  -- past what was written the room is as it was
+  abbrev rest : List ℤ
+  rest = drop (length written) room
+
+  told : Translated s (length memory) (length room) (translated s (length memory) (length room))
+  told = is-translated s (length memory) (length room) h
+
+  accepted : SheetAccepted s (length memory)
+  accepted = sheet-accepted s (length memory) (told .accepted)
+
+  few : length (tapeOf sh (length memory)) ≤ recordLimit (sh .edition)
+  unfolding fitsRoom recordsFit
+  few = leb-true _ _ (both-left _ _ (told .fits))
+
+  long : length written ≤ length room
+  unfolding fitsRoom recordsFit
+  long = rw (length-tape (tapeOf sh (length memory))) (leb-true _ _ (both-right _ _ (told .fits)))
+
+  numbers-are : numbers ≡ written ++ rest
+  unfolding translatedRoom pick
+  numbers-are = rw (told .accepted, told .fits) (sets-eq written room 0 (rw (zero-add (length written)) long) ∙ rw (zero-add (length written)))
+
+  sheet-within : Within sh
+  sheet-within = read-within s sh (not-refused s (accepted .read))
+
+  agrees : NumbersAgree sh memory (length (tapeOf sh (length memory))) numbers
+  agrees = agreement-numbers sh sheet-within memory (accepted .steps) (accepted .most) few numbers rest numbers-are
+
+  run-accepted : runRefusal s numbers (length (tapeOf sh (length memory))) (length memory) ≡ refusalAt 0 0 0
+  unfolding runRefusal pick
+  run-accepted = rw (le-leb (length memory) memoryLimit (accepted .most), eq-eqb (readSheet s .refusal .number) 0 (accepted .read)) (agrees .accepted)
+
+  runs-as-carried : RunsAsCarried s memory numbers (length (tapeOf sh (length memory)))
+  unfolding runTape ranMemory carried carriedMemory pick
+  runs-as-carried =
+      record {
+        answer =
+            rw (run-accepted, told .accepted)
+            (ap (λ (m : Machine). carryAnswer (refusalAt 0 0 0) (m .registers) (m .count)) (agrees .same));
+        bytes = rw (run-accepted, told .accepted) (ap (λ (m : Machine). m .memory) (agrees .same));
+      }
+
+  -- Where translating is not refused, what it wrote runs as the sheet is carried out.
+  pub translated-runs : RunsAsCarried s memory (translatedRoom s (length memory) room) (translated s (length memory) (length room) .records)
+  translated-runs = rw (told .records) runs-as-carried
