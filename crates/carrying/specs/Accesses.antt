@@ -64,12 +64,12 @@ shaped t s e =
     let a : t .rows * t .columns ≤ 16 * 16 = mul-le-mul (s .rows) (s .columns) in
     record { some = s .some (omega arith); most = omega (arith, s .columns); tall = omega (arith, s .rows); area = a }
 
--- a check that is not refused: the register is not empty, and no refusal 9 to 15
-pub record Accepted (t : MatrixType) (a : Access) : Type 0 where
+-- a load or a store that its check does not refuse: the register is not empty, and no refusal 9 to 15
+pub record Clear (t : MatrixType) (a : Access) : Type 0 where
   pub filled : isEmpty t ≡ false
   pub clear : accessRefusal a (t .rows) (t .columns) .number ≡ 0
 
-accepted : (t : MatrixType) (a : Access) (ts us : List MatrixType) → pick (isEmpty t) (stepCheck 7 0 ts 0) (accessCheck us (checkedAccess a (t .rows) (t .columns))) .stop .number ≡ 0 → Accepted t a
+accepted : (t : MatrixType) (a : Access) (ts us : List MatrixType) → pick (isEmpty t) (stepCheck 7 0 ts 0) (accessCheck us (checkedAccess a (t .rows) (t .columns))) .stop .number ≡ 0 → Clear t a
 unfolding pick checked
 accepted t a ts us e =
     by-test (isEmpty t) (λ b. let z : _≡_ {A = ℕ} 7 0 = rw b at e in absurd (omega arith))
@@ -80,10 +80,10 @@ accepted t a ts us e =
     by-test false f g = g refl
 
 module _ (sh : Sheet) (ts : List MatrixType) (len register : ℕ) (t : MatrixType) (layout view base : ℕ) where
-  pub load-accepted : loadCheck sh ts len register t layout view base .stop .number ≡ 0 → Accepted t (accessOf sh true layout view base t len)
+  pub load-accepted : loadCheck sh ts len register t layout view base .stop .number ≡ 0 → Clear t (accessOf sh true layout view base t len)
   unfolding loadCheck
   load-accepted e = accepted t (accessOf sh true layout view base t len) ts (withType ts register t) e
 
-  pub store-accepted : storeCheck sh ts len t layout view base .stop .number ≡ 0 → Accepted t (accessOf sh false layout view base t len)
+  pub store-accepted : storeCheck sh ts len t layout view base .stop .number ≡ 0 → Clear t (accessOf sh false layout view base t len)
   unfolding storeCheck
   store-accepted e = accepted t (accessOf sh false layout view base t len) ts ts e

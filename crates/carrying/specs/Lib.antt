@@ -7,3 +7,4 @@ pub mod Untouched
 pub mod Stores
 pub mod Strips
 pub mod Done
+pub mod Loops

@@ -114,6 +114,10 @@ unfoldable pub objectDone : ℕ → ℕ → Machine → Machine
 objectDone register object m =
     pick (eqb object 255) m (machine (copied (m .registers) register object) (m .memory) (m .count))
 
+-- the registers that it leaves
+unfoldable pub objectRegisters : ℕ → ℕ → Registers → Registers
+objectRegisters register object g = pick (eqb object 255) g (copied g register object)
+
 abbrev pub wholeStepDone : Step → Machine → Machine
 wholeStepDone step m = machine (wholeDone (m .registers) step) (m .memory) (m .count)
 

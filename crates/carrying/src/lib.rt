@@ -1,6 +1,7 @@
 // Carrying out a sheet: a check over types that refuses or accepts, then a performance that cannot fail.
 pub mod checks;
 pub mod memory_steps;
+pub mod performing;
 
 ghost use mathlib.Core.Path.{_≡_};
 ghost use lib.ListN.{length};
@@ -44,7 +45,7 @@ pub struct Performed {
 
 // Whether a sheet would be refused for a memory of a length, and how many elements of its loads and stores have a byte.
 pub fn check_sheet(sheet: &[u8], memory_len: usize) -> CheckAnswer
-    ensures { λ r. ⌜ r ≡ checkedSheet (now (sheet .entry)) memory_len ⌝ }
+    ensures { λ r. ⌜ r ≡ checkedSheet (now (sheet .entry)) «memory_len» ⌝ }
 {
     if MEMORY_LIMIT < memory_len {
         return checks::check_refused(checks::refusal_at(MEMORY_TOO_LARGE, 0, 0));

@@ -1,6 +1,6 @@
 // Loads and stores of a sheet: their check, and their performance.
 ghost use mathlib.Core.Path.{_≡_};
-ghost use mathlib.Core.Bool.{true};
+ghost use mathlib.Core.Bool.{true, false};
 ghost use Prim.Native.Nat.{_≤_, _<_, _^_};
 ghost use lib.ListN.{length};
 ghost use Rattle.sheet.specs.Sizes.{optionOk};
@@ -10,6 +10,7 @@ ghost use Rattle.addressing.specs.Valid.{SizedAccess};
 ghost use Rattle.round_trip.specs.Sheets.{Within};
 ghost use Rattle.carrying.specs.Steps.{viewNamed, accessOf, stepCheck, loadCheck, storeCheck, machine, loadDone, storeDone};
 ghost use Rattle.carrying.specs.Carrying.{memoryLimit};
+ghost use Rattle.carrying.specs.Accesses.{Clear};
 use super::Performed;
 use super::StepCheck;
 use accesses::Stop;
@@ -139,7 +140,7 @@ pub fn perform_load(
     count: usize,
 ) -> Performed
     requires { ⌜ Within sheet × Sized (registers .types) × (register < 4) × (length (now memory) ≤ memoryLimit) × (count < 2 ^ 31) ⌝ }
-    requires { ⌜ loadCheck sheet (registers .types) (length (now memory)) register (theType (registers .types) register) layout view base .stop .number ≡ 0 ⌝ }
+    requires { ⌜ Clear (theType (registers .types) register) (accessOf sheet true layout view base (theType (registers .types) register) (length (now memory))) ⌝ }
     requires { ⌜ (layout < sheet .layouts) × (optionOk (sheet .views) view ≡ true) ⌝ }
     ensures { λ r. ⌜ machine (r .registers) (now (memory .entry)) (r .count) ≡ loadDone sheet register layout view base (machine registers (now (memory .entry)) count) ⌝ }
 {
@@ -168,7 +169,7 @@ pub fn perform_store(
     count: usize,
 ) -> usize
     requires { ⌜ Within sheet × Sized (registers .types) × (register < 4) × (length (now memory) ≤ memoryLimit) × (count < 2 ^ 31) ⌝ }
-    requires { ⌜ storeCheck sheet (registers .types) (length (now memory)) (theType (registers .types) register) layout view base .stop .number ≡ 0 ⌝ }
+    requires { ⌜ Clear (theType (registers .types) register) (accessOf sheet false layout view base (theType (registers .types) register) (length (now memory))) ⌝ }
     requires { ⌜ (layout < sheet .layouts) × (optionOk (sheet .views) view ≡ true) ⌝ }
     ensures { λ r. ⌜ machine registers (now (memory .exit)) r ≡ storeDone sheet register layout view base (machine registers (now (memory .entry)) count) ⌝ }
 {

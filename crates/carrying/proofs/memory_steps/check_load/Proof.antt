@@ -53,7 +53,7 @@ returns-2 : tie.Need-returns-2
 unfolding loadCheck
 returns-2 c =
     left _ (went (c .before .before .before .before .before .before .before .is-empty .ensures) (c .before .before .before .before .before .before .if1 .left))
-    (rw (← c .before .before .before .before .before .access-of .ensures .0, ← c .before .before .check-access .ensures) (cc))
+    (rw (← c .before .before .before .before .before .access-of .ensures .0, ← c .before .before .check-access .ensures, c .with-type .ensures))
 
 pub check-load-spec : {M : Type 1} → statement M
 check-load-spec =

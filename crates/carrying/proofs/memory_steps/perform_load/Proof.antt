@@ -1,8 +1,17 @@
+use Prim.Native.Nat.{_*_}
+use denote.Ref.{now}
+use lib.ListN.{length}
+use mathlib.Core.Bool.{true}
+use Rattle.registers.specs.Types.{theType}
+use Rattle.registers.specs.declared.MatrixType.{MatrixType}
+use Rattle.addressing.specs.declared.Access.{Access}
+use Rattle.carrying.specs.Steps.{accessOf, machine}
+use Rattle.carrying.specs.Done.{load-performed}
 use mathlib.Core.Path.{_≡_, refl, sym, ap, _∙_}
 use Rattle.accesses.specs.Accepted.{accepted-valid}
 use Rattle.addressing.specs.Valid.{SizedAccess, ValidAccess, planned-access, planned-columns}
 use Rattle.carrying.specs.Steps.{loadDone}
-use Rattle.carrying.specs.Accesses.{shaped, load-accepted}
+use Rattle.carrying.specs.Accesses.{shaped}
 use native.Mathlib.Omega.{arith}
 use borrow.Author.Needs.{needs}
 use Rattle.carrying.proofs.memory_steps.perform_load.Statement.{statement}
@@ -28,7 +37,12 @@ cast-plan-of c = search needs
 
 -- src/memory_steps.rt:149:9
 plan-of-requires : tie.Need-plan-of-requires
-plan-of-requires c κs = ?
+plan-of-requires c κs =
+    let q = c .before .before .before .before .before .pre in
+    let a = c .before .before .before .before .before .args in
+    let g = q .1 .0 in
+    let e = c .before .access-of .ensures .0 ∙ ap (λ (t : MatrixType). accessOf (a .sheet) true (a .layout) (a .view) (a .base) t (length (now (a .memory)))) (c .before .before .the-type .ensures) in
+    rw e (accepted-valid _ _ _ (g .clear) (rw e at (c .before .access-of .ensures .1)))
 
 -- src/memory_steps.rt:151:14
 cast-n : tie.Need-cast-n
@@ -40,15 +54,35 @@ cast-n-2 c = search needs
 
 -- src/memory_steps.rt:151:13
 mul-n : tie.Need-mul-n
-mul-n c = ?
+mul-n c =
+    let d = c .before .before .before .before .before .before in
+    let q = d .before .before .before .pre in
+    let a = d .before .before .before .args in
+    let g = q .1 .0 in
+    let s = shaped _ (q .0 .1 .each (a .register)) (g .filled) in
+    rw (d .the-type .ensures) (record { fits = omega (arith, s .area) })
 
 -- src/memory_steps.rt:152:9
 load-elements-requires : tie.Need-load-elements-requires
-load-elements-requires c κs = ?
+load-elements-requires c κs =
+    let p = c .before .before .before .before in
+    let d = p .before .before .before in
+    let q = d .before .before .before .pre in
+    let a = d .before .before .before .args in
+    let g = q .1 .0 in
+    let s = shaped _ (q .0 .1 .each (a .register)) (g .filled) in
+    let e = ap (λ (t : MatrixType). t .columns) (d .the-type .ensures) in
+    let n = planned-columns _ _ (p .plan-of .ensures .0) ∙ e in
+    let m = ap (λ (x : Access). x .memory) (planned-access _ _ (p .plan-of .ensures .0) ∙ p .before .before .access-of .ensures .0) in
+    ((p .plan-of .ensures .1, rw n (s .some), rw n (s .most), m), (q .0 .2, rw (d .the-type .ensures) (s .area), q .0 .4))
 
 -- src/memory_steps.rt:131:1
 returns : tie.Need-returns
-returns c = ?
+returns c =
+    let p = c .before .before .before .before .before in
+    let d = p .before .before .before in
+    let a = d .before .before .before .args in
+    load-performed (a .sheet) (a .register) (a .layout) (a .view) (a .base) (machine (a .registers) (now (a .memory)) (a .count)) (d .the-type .result) (d .the-type .ensures) (p .before .before .access-of .result) (p .plan-of .result) (p .before .before .access-of .ensures .0) (p .plan-of .ensures .0) (c .load-elements .ensures .0) (c .load-elements .ensures .1)
 
 pub perform-load-spec : {M : Type 1} → statement M
 perform-load-spec =

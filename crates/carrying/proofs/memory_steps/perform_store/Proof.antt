@@ -1,3 +1,16 @@
+use mathlib.Core.Path.{_≡_, refl, sym, ap, _∙_}
+use Rattle.accesses.specs.Accepted.{accepted-valid}
+use Rattle.addressing.specs.Valid.{SizedAccess, ValidAccess, planned-access, planned-columns}
+use Rattle.carrying.specs.Accesses.{shaped}
+use Rattle.carrying.specs.Done.{store-performed}
+use Prim.Native.Nat.{_*_}
+use denote.Ref.{now}
+use lib.ListN.{length}
+use mathlib.Core.Bool.{false}
+use Rattle.registers.specs.Types.{theType}
+use Rattle.registers.specs.declared.MatrixType.{MatrixType}
+use Rattle.addressing.specs.declared.Access.{Access}
+use Rattle.carrying.specs.Steps.{accessOf, machine}
 use native.Mathlib.Omega.{arith}
 use borrow.Author.Needs.{needs}
 use Rattle.carrying.proofs.memory_steps.perform_store.Statement.{statement}
@@ -23,7 +36,12 @@ cast-plan-of c = search needs
 
 -- src/memory_steps.rt:178:9
 plan-of-requires : tie.Need-plan-of-requires
-plan-of-requires c κs = ?
+plan-of-requires c κs =
+    let q = c .before .before .before .before .before .pre in
+    let a = c .before .before .before .before .before .args in
+    let g = q .1 .0 in
+    let e = c .before .access-of .ensures .0 ∙ ap (λ (t : MatrixType). accessOf (a .sheet) false (a .layout) (a .view) (a .base) t (length (now (a .memory)))) (c .before .before .the-type .ensures) in
+    rw e (accepted-valid _ _ _ (g .clear) (rw e at (c .before .access-of .ensures .1)))
 
 -- src/memory_steps.rt:180:14
 cast-n : tie.Need-cast-n
@@ -35,11 +53,27 @@ cast-n-2 c = search needs
 
 -- src/memory_steps.rt:180:13
 mul-n : tie.Need-mul-n
-mul-n c = ?
+mul-n c =
+    let d = c .before .before .before .before .before .before in
+    let q = d .before .before .before .pre in
+    let a = d .before .before .before .args in
+    let g = q .1 .0 in
+    let s = shaped _ (q .0 .1 .each (a .register)) (g .filled) in
+    rw (d .the-type .ensures) (record { fits = omega (arith, s .area) })
 
 -- src/memory_steps.rt:181:5
 store-elements-requires : tie.Need-store-elements-requires
-store-elements-requires c κs = ?
+store-elements-requires c κs =
+    let p = c .before .before .before .before .before in
+    let d = p .before .before .before in
+    let q = d .before .before .before .pre in
+    let a = d .before .before .before .args in
+    let g = q .1 .0 in
+    let s = shaped _ (q .0 .1 .each (a .register)) (g .filled) in
+    let e = ap (λ (t : MatrixType). t .columns) (d .the-type .ensures) in
+    let n = planned-columns _ _ (p .plan-of .ensures .0) ∙ e in
+    let m = ap (λ (x : Access). x .memory) (planned-access _ _ (p .plan-of .ensures .0) ∙ p .before .before .access-of .ensures .0) in
+    ((p .plan-of .ensures .1, rw n (s .some), rw n (s .most), m), (q .0 .2, rw (d .the-type .ensures) (s .area), q .0 .4))
 
 -- src/memory_steps.rt:160:1
 same-length : tie.Need-same-length
@@ -47,7 +81,11 @@ same-length c = search needs
 
 -- src/memory_steps.rt:160:1
 returns : tie.Need-returns
-returns c = ?
+returns c =
+    let p = c .before .before .before .before .before .before .before .before in
+    let d = p .before .before .before in
+    let a = d .before .before .before .args in
+    store-performed (a .sheet) (a .register) (a .layout) (a .view) (a .base) (machine (a .registers) (now (a .memory)) (a .count)) (d .the-type .result) (d .the-type .ensures) (p .before .before .access-of .result) (p .plan-of .result) (p .before .before .access-of .ensures .0) (p .plan-of .ensures .0) (c .before .before .store-elements .ensures .0) (c .before .before .store-elements .ensures .1)
 
 pub perform-store-spec : {M : Type 1} → statement M
 perform-store-spec =
