@@ -4,7 +4,8 @@ use mathlib.Core.Path.{_≡_, refl}
 use mathlib.Core.Bool.{Bool, true, false}
 use mathlib.Core.List.{List, [], _∷_}
 use native.Mathlib.Omega.{arith}
-use borrow.Author.Tests.{ltb-true, eq-eqb, ne-eqb}
+use lib.ListN.{length}
+use borrow.Author.Tests.{ltb-true, le-leb, lt-leb, eq-eqb, ne-eqb}
 use lib.Dec.{eqb, ltb}
 use Rattle.numbers.specs.Choice.{pick, both-left, both-right}
 use Rattle.sheet.specs.Sizes.{optionOk}
@@ -14,8 +15,10 @@ use Rattle.registers.specs.Types.{noType}
 use Rattle.registers.specs.Registers.{emptyRegisters}
 use Rattle.registers.specs.Sized.{Sized, sized-empty}
 use Rattle.registers.specs.declared.MatrixType.{MatrixType}
-use Rattle.carrying.specs.Steps.{objectOf, checkedStep}
-use Rattle.carrying.specs.Carrying.{refusalAt, checkRefused, checkedFrom, checked}
+use Rattle.registers.specs.declared.Registers.{Registers}
+use Rattle.sheet_reader.specs.Reading.{readSheet}
+use Rattle.carrying.specs.Steps.{objectOf, checkedStep, machine}
+use Rattle.carrying.specs.Carrying.{refusalAt, memoryLimit, checkRefused, checkedFrom, checked, checkedSheet, started, performed, carryAnswer, carried, carriedMemory}
 use Rattle.carrying.specs.declared.StepCheck.{StepCheck}
 use Rattle.carrying.specs.declared.CheckAnswer.{CheckAnswer}
 
@@ -80,3 +83,36 @@ module _ (n : ℕ) (sh : Sheet) (len k : ℕ) (ts : List MatrixType) (count : �
 pub load-option : (layouts views register object layout view : ℕ) → loadOk layouts views register object layout view ≡ true → optionOk 4 object ≡ true
 unfolding loadOk
 load-option layouts views register object layout view e = both-left _ _ (both-right _ _ e)
+
+-- which answer a sheet gets, by the ways that the code takes
+module _ (s : List ℕ) (len : ℕ) where
+  pub large : memoryLimit < len → checkedSheet s len ≡ checkRefused (refusalAt 18 0 0)
+  unfolding checkedSheet pick
+  large h = rw (lt-leb len memoryLimit h)
+
+  pub unread : len ≤ memoryLimit → 0 < readSheet s .refusal .number → checkedSheet s len ≡ checkRefused (readSheet s .refusal)
+  unfolding checkedSheet pick
+  unread h n = rw (le-leb len memoryLimit h, ne-eqb (readSheet s .refusal .number) 0 (λ e. omega arith))
+
+  pub readable : len ≤ memoryLimit → readSheet s .refusal .number ≡ 0 → checkedSheet s len ≡ checked (readSheet s .sheet) len
+  unfolding checkedSheet pick
+  readable h n = rw (le-leb len memoryLimit h, eq-eqb (readSheet s .refusal .number) 0 n)
+
+module _ (s memory : List ℕ) where
+  -- refused: the check's refusal, empty registers, memory unchanged
+  pub carried-refused : {c : CheckAnswer} → checkedSheet s (length memory) ≡ c → 0 < c .refusal .number → carryAnswer (c .refusal) emptyRegisters 0 ≡ carried s memory
+  unfolding carried pick
+  carried-refused {c} e n = rw (e, ne-eqb (c .refusal .number) 0 (λ q. omega arith))
+
+  pub memory-refused : {c : CheckAnswer} → checkedSheet s (length memory) ≡ c → 0 < c .refusal .number → memory ≡ carriedMemory s memory
+  unfolding carriedMemory pick
+  memory-refused {c} e n = rw (e, ne-eqb (c .refusal .number) 0 (λ q. omega arith))
+
+  -- accepted: what the steps leave
+  pub carried-accepted : {registers : Registers} {after : List ℕ} {count : ℕ} → checkedSheet s (length memory) .refusal .number ≡ 0 → machine registers after count ≡ performed (readSheet s .sheet) (started memory) → carryAnswer (refusalAt 0 0 0) registers count ≡ carried s memory
+  unfolding carried pick
+  carried-accepted n e = rw (eq-eqb (checkedSheet s (length memory) .refusal .number) 0 n, ← e)
+
+  pub memory-accepted : {registers : Registers} {after : List ℕ} {count : ℕ} → checkedSheet s (length memory) .refusal .number ≡ 0 → machine registers after count ≡ performed (readSheet s .sheet) (started memory) → after ≡ carriedMemory s memory
+  unfolding carriedMemory pick
+  memory-accepted n e = rw (eq-eqb (checkedSheet s (length memory) .refusal .number) 0 n, ← e)

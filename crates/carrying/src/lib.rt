@@ -5,7 +5,8 @@ pub mod performing;
 
 ghost use mathlib.Core.Path.{_≡_};
 ghost use lib.ListN.{length};
-ghost use Rattle.carrying.specs.Carrying.{checkedSheet};
+ghost use Rattle.carrying.specs.Carrying.{carryAnswer, checkedSheet, carried, carriedMemory};
+ghost use Rattle.registers.specs.Registers.{emptyRegisters};
 use accesses::Stop;
 use registers::MatrixType;
 use registers::Registers;
@@ -57,4 +58,43 @@ pub fn check_sheet(sheet: &[u8], memory_len: usize) -> CheckAnswer
     }
     let model = read.sheet;
     checks::check(model, memory_len)
+}
+
+fn carry_refused(refusal: Refusal) -> CarryAnswer
+    ensures { λ r. ⌜ r ≡ carryAnswer refusal emptyRegisters 0 ⌝ }
+{
+    let registers = registers::empty_registers();
+    CarryAnswer {
+        refusal,
+        count: 0,
+        registers,
+    }
+}
+
+// Carries out a sheet on the lent memory. Refused: memory is unchanged and the registers are empty.
+pub fn carry_out(sheet: &[u8], memory: &mut [u8]) -> CarryAnswer
+    ensures { λ r. ⌜ r ≡ carried (now (sheet .entry)) (now (memory .entry)) ⌝ }
+    ensures { λ _. ⌜ now (memory .exit) ≡ carriedMemory (now (sheet .entry)) (now (memory .entry)) ⌝ }
+{
+    if MEMORY_LIMIT < memory.len() {
+        return carry_refused(checks::refusal_at(MEMORY_TOO_LARGE, 0, 0));
+    }
+    let read = sheet_reader::read_sheet(sheet);
+    let unread = read.refusal;
+    if 0 < unread.number {
+        return carry_refused(unread);
+    }
+    let model = read.sheet;
+    let found = checks::check(model, memory.len());
+    let refused = found.refusal;
+    if 0 < refused.number {
+        return carry_refused(refused);
+    }
+    let done = performing::perform(model, memory);
+    let registers = done.registers;
+    CarryAnswer {
+        refusal: checks::refusal_at(0, 0, 0),
+        count: done.count,
+        registers,
+    }
 }

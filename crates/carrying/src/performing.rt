@@ -13,12 +13,12 @@ ghost use Rattle.round_trip.specs.Sheets.{Within};
 ghost use Rattle.carrying.specs.Steps.{machine, objectRegisters, performedStep};
 ghost use Rattle.carrying.specs.Carrying.{started, performed, checked, memoryLimit};
 ghost use Rattle.carrying.specs.Types.{Accepted, Formed};
+use super::Performed;
+use super::memory_steps;
 use registers::Registers;
 use sheet::Sheet;
 use sheet::Step;
 use sheet::sizes;
-use super::Performed;
-use super::memory_steps;
 
 // A load first gives its register the object, type and elements.
 fn with_object(registers: Registers, register: u8, object: u8) -> Registers
@@ -42,7 +42,13 @@ fn perform_whole(registers: Registers, step: Step, count: usize) -> Performed
     }
 }
 
-fn perform_step(sheet: Sheet, registers: Registers, memory: &mut [u8], step: Step, count: usize) -> Performed
+fn perform_step(
+    sheet: Sheet,
+    registers: Registers,
+    memory: &mut [u8],
+    step: Step,
+    count: usize,
+) -> Performed
     requires { ⌜ Within sheet × (stepOk (sheet .edition) (sheet .layouts) (sheet .views) step ≡ true) × (length (now memory) ≤ memoryLimit) × (count < 2 ^ 31) ⌝ }
     requires { ⌜ Formed (machine registers (now memory) count) × Accepted sheet step (machine registers (now memory) count) ⌝ }
     ensures { λ r. ⌜ machine (r .registers) (now (memory .exit)) (r .count) ≡ performedStep sheet step (machine registers (now (memory .entry)) count) ⌝ }
@@ -73,7 +79,14 @@ fn perform_step(sheet: Sheet, registers: Registers, memory: &mut [u8], step: Ste
             base,
         } => {
             let counted = memory_steps::perform_store(
-                sheet, registers, memory, register, layout, view, base, count,
+                sheet,
+                registers,
+                memory,
+                register,
+                layout,
+                view,
+                base,
+                count,
             );
             Performed {
                 registers,

@@ -94,11 +94,12 @@ loop-again c =
     let s = r .before .before .before .before .before in
     let h = r .before .before .loop-test .taken in
     let w = within-step (s .args .t1) (s .pre .0) (i .k) h in
-    let p : r .check-step .result .placed ≤ 256 = rw (r .check-step .ensures) (step-placed (s .args .t1) (i .types) (s .args .memory) _ (i .inv .1)) in
-    (omega (arith, h),
-    rw (r .check-step .ensures) (check-sized (s .args .t1) (i .types) (s .args .memory) _ _ _ _ w (i .inv .1)),
-    omega (arith, p, i .inv .2),
-    checked-go (s .args .t1 .steps) (s .args .t1) (s .args .memory) (i .k) (i .types) (i .count) (r .check-step .result) (r .check-step .ensures) h (omega arith) ∙ i .inv .3)
+    let p : r .check-step .result .placed ≤ 256 = rw (r .check-step .ensures) (step-placed (s .args .t1) (i .types) (s .args .memory) _ (i .inv .1)) in (
+      omega (arith, h),
+      rw (r .check-step .ensures) (check-sized (s .args .t1) (i .types) (s .args .memory) _ _ _ _ w (i .inv .1)),
+      omega (arith, p, i .inv .2),
+      checked-go (s .args .t1 .steps) (s .args .t1) (s .args .memory) (i .k) (i .types) (i .count) (r .check-step .result) (r .check-step .ensures) h (omega arith) ∙ i .inv .3,
+    )
 
 -- src/checks.rt:138:18
 refusal-at-requires-2 : tie.Need-refusal-at-requires-2 Inv-loop μ-loop

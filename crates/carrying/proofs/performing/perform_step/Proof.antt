@@ -54,10 +54,13 @@ perform-load-requires c κs =
     let m = machine (s .args .registers) (now (s .args .memory)) (s .args .count) in
     let f = s .pre .1 .0 in
     let a = rw (g .1) at (s .pre .1 .1) in
-    rw (c .before .with-object .ensures)
-    ((s .pre .0 .0, given-sized (s .args .sheet) m (g .0 .0) (g .0 .1 .1 .0) (g .0 .1 .1 .1 .0) (g .0 .1 .1 .1 .1 .0) f (g .0 .1 .0), n .named, s .pre .0 .2, s .pre .0 .3),
-    (load-clear (s .args .sheet) m (g .0 .0) (g .0 .1 .1 .0) (g .0 .1 .1 .1 .0) (g .0 .1 .1 .1 .1 .0) f (n .named) (g .0 .1 .0) a,
-    (n .given, n .option)))
+    rw (c .before .with-object .ensures) (
+      (s .pre .0 .0, given-sized (s .args .sheet) m (g .0 .0) (g .0 .1 .1 .0) (g .0 .1 .1 .1 .0) (g .0 .1 .1 .1 .1 .0) f (g .0 .1 .0), n .named, s .pre .0 .2, s .pre .0 .3),
+      (
+        load-clear (s .args .sheet) m (g .0 .0) (g .0 .1 .1 .0) (g .0 .1 .1 .1 .0) (g .0 .1 .1 .1 .1 .0) f (n .named) (g .0 .1 .0) a,
+        (n .given, n .option),
+      ),
+    )
 
 -- src/performing.rt:70:13
 enum-known-step-2 : tie.Need-enum-known-step-2
