@@ -6,16 +6,15 @@ use mathlib.Core.Logic.{_⊎_, inl, inr}
 use native.Mathlib.Nat.{not-suc-le-zero, mul-le-mul-right}
 use native.Mathlib.Omega.{arith}
 use lib.Dec.{eqb, ltb}
-use borrow.Author.Tests.{eq-eqb, eqb-true, eqb-false, ltb-true, ltb-false, not-false}
+use borrow.Author.Tests.{eqb-true, eqb-false, ltb-true, ltb-false, not-false}
 use Rattle.numbers.specs.Choice.{pick, both}
-use Rattle.outcomes.specs.declared.Outcome.{Outcome}
-use Rattle.outcomes.specs.declared.Outcome.the-variants.{Skipped, Filled, Discarded, Placed}
+use Rattle.outcomes.specs.declared.Outcome.the-variants.{Filled, Discarded, Placed}
 use Rattle.addressing.specs.declared.Access.{Access}
 use Rattle.addressing.specs.declared.Located.{Located}
 use Rattle.addressing.specs.Valid.{SizedAccess, ValidAccess}
 use Rattle.addressing.specs.Sound.{Sound, located-sound}
 use Rattle.accesses.specs.declared.Stop.{Stop}
-use Rattle.accesses.specs.Refusals.{elementOutcome, stopAt, misplaced, ranksDiffer, storeBlocked, firstRefused, sameByte, sameAt, meets, clashFrom, clashRefusal, elementsRefusal, accessRefusal}
+use Rattle.accesses.specs.Refusals.{elementOutcome, stopAt, misplaced, ranksDiffer, storeBlocked, firstRefused, sameAt, meets, clashFrom, clashRefusal, elementsRefusal, accessRefusal}
 
 pub element-sound : (a : Access) (n k : ℕ) → Sound a (elementOutcome a n k .outcome)
 unfolding elementOutcome

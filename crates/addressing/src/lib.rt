@@ -1,7 +1,6 @@
 // Where one element of a load or a store goes (document 01, "Where an element goes").
 ghost use mathlib.Core.Path.{_≡_};
-ghost use Prim.Native.Nat.{ℕ, _+_, _*_, _^_, _%_, _≤_, _<_, min};
-ghost use lib.ListN.{getD};
+ghost use Prim.Native.Nat.{_*_, _^_, _%_, _≤_, _<_, min};
 ghost use Rattle.addressing.specs.Rules.{lowBits, addressed, reached, located, refused, answered, planned};
 ghost use Rattle.addressing.specs.Valid.{ValidAccess, Planned};
 
