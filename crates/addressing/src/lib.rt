@@ -13,6 +13,9 @@ use outcomes::Outcome;
 use sheet::Layout;
 use sheet::View;
 
+// 2 to the 32nd, from which on an index gets 12.
+const INDEX_LIMIT: u64 = 4294967296;
+
 // A load or a store: its layout, its view where it is `viewed`, its base, the bytes of an element and of memory.
 pub struct Access {
     pub load: bool,
@@ -145,7 +148,7 @@ fn reach(a: Access, fill: u32, index: u64) -> Located
     requires { ⌜ ValidAccess a × (fill ≡ lowBits a) ⌝ }
     ensures { λ r. ⌜ r ≡ reached a index ⌝ }
 {
-    if 4294967296 <= index {
+    if INDEX_LIMIT <= index {
         return refuse(12);
     }
     let l = a.layout;
