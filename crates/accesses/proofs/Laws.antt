@@ -1,5 +1,5 @@
 -- Laws of an access's elements, as the loops go over them.
-use Prim.Native.Nat.{ℕ, zero, suc, _+_, _-_, _*_, _/_, _%_, _<_, _≤_, zero-le}
+use Prim.Native.Nat.{ℕ, zero, suc, _+_, _-_, _*_, _<_, _≤_, zero-le}
 use mathlib.Core.Path.{_≡_, refl, sym, ap, _∙_}
 use mathlib.Core.Bool.{Bool, true, false}
 use mathlib.Core.List.{List}
@@ -9,8 +9,9 @@ use native.Mathlib.Omega.{arith}
 use lib.Dec.{eqb}
 use lib.ListN.{length, getD, set, length-set}
 use lib.Seq.{getD-set-same, getD-set-other}
-use borrow.Author.Tests.{lt-ltb, le-ltb, eq-eqb, ne-eqb, eqb-true, eqb-false, not-false}
-use Rattle.numbers.specs.Choice.{pick, both}
+use borrow.Author.Tests.{lt-ltb, le-ltb, eq-eqb, ne-eqb, eqb-true, eqb-false}
+use Rattle.numbers.specs.Choice.{pick}
+use Rattle.numbers.specs.Places.{by-test}
 use Rattle.outcomes.specs.declared.Outcome.{Outcome}
 use Rattle.outcomes.specs.declared.Outcome.the-variants.{Skipped, Filled, Discarded, Placed}
 use Rattle.addressing.specs.declared.Access.{Access}
@@ -22,10 +23,6 @@ use Rattle.accesses.specs.declared.Survey.{Survey}
 use Rattle.accesses.specs.Refusals.{elementOutcome, stopAt, firstRefused, sameByte, sameAt, meets, clashFrom, clashRefusal, elementsRefusal, placedOne, placedCount, checkedBy, checked, misplaced, ranksDiffer, storeBlocked, accessRefusal, checkedAccess}
 use Rattle.accesses.specs.Entries.{entryOf, hits, sameEntry, Surveyed}
 use Rattle.accesses.specs.Accepted.{element-sound}
-
-by-test : {P : Type 0} (b : Bool) → (b ≡ true → P) → (b ≡ false → P) → P
-by-test true f g = f refl
-by-test false f g = g refl
 
 -- The search of refusal 15
 module _ (same : ℕ → ℕ → Bool) where

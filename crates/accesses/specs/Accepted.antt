@@ -1,13 +1,14 @@
 -- What is known of the elements of an access, and of one that is not refused.
-use Prim.Native.Nat.{ℕ, zero, suc, _+_, _*_, _/_, _%_, _^_, _<_, _≤_}
+use Prim.Native.Nat.{ℕ, zero, suc, _+_, _*_, _/_, _%_, _^_, _<_, _≤_, zero-le}
 use mathlib.Core.Path.{_≡_, refl, sym, ap, _∙_}
 use mathlib.Core.Bool.{Bool, true, false, true≢false}
 use mathlib.Core.Logic.{_⊎_, inl, inr}
-use native.Mathlib.Nat.{not-suc-le-zero, mul-le-mul-right}
+use native.Mathlib.Nat.{le-refl, not-suc-le-zero, mul-le-mul-right}
 use native.Mathlib.Omega.{arith}
 use lib.Dec.{eqb, ltb}
-use borrow.Author.Tests.{eq-eqb, eqb-true, eqb-false, ltb-true, ltb-false, not-false}
+use borrow.Author.Tests.{eqb-true, eqb-false, ltb-true, ltb-false, not-false}
 use Rattle.numbers.specs.Choice.{pick, both}
+use Rattle.numbers.specs.Places.{by-test}
 use Rattle.outcomes.specs.declared.Outcome.{Outcome}
 use Rattle.outcomes.specs.declared.Outcome.the-variants.{Skipped, Filled, Discarded, Placed}
 use Rattle.addressing.specs.declared.Access.{Access}
@@ -15,7 +16,7 @@ use Rattle.addressing.specs.declared.Located.{Located}
 use Rattle.addressing.specs.Valid.{SizedAccess, ValidAccess}
 use Rattle.addressing.specs.Sound.{Sound, located-sound}
 use Rattle.accesses.specs.declared.Stop.{Stop}
-use Rattle.accesses.specs.Refusals.{elementOutcome, stopAt, misplaced, ranksDiffer, storeBlocked, firstRefused, sameByte, sameAt, meets, clashFrom, clashRefusal, elementsRefusal, accessRefusal}
+use Rattle.accesses.specs.Refusals.{elementOutcome, stopAt, misplaced, ranksDiffer, storeBlocked, firstRefused, sameAt, meets, clashFrom, clashRefusal, elementsRefusal, accessRefusal, placedOne, placedCount}
 
 pub element-sound : (a : Access) (n k : ℕ) → Sound a (elementOutcome a n k .outcome)
 unfolding elementOutcome
@@ -39,9 +40,17 @@ module _ (a : Access) (n k : ℕ) where
   pub filled-fits : {bits : ℕ} → elementOutcome a n k .outcome ≡ Filled bits → bits < 2 ^ (8 * a .size)
   filled-fits e = (rw e at (element-sound a n k)) .1
 
-by-test : {P : Type 0} (b : Bool) → (b ≡ true → P) → (b ≡ false → P) → P
-by-test true f g = f refl
-by-test false f g = g refl
+one-most : (o : Outcome) → placedOne o ≤ 1
+one-most Skipped = zero-le
+one-most (Filled bits) = zero-le
+one-most Discarded = zero-le
+one-most (Placed byte) = le-refl 1
+
+-- no more elements have a byte than there are
+pub placed-most : (f : ℕ → Located) (m : ℕ) → placedCount f m ≤ m
+unfolding placedCount
+placed-most f zero = omega arith
+placed-most f (suc m) = omega (arith, placed-most f m, one-most (f m .outcome))
 
 -- a choice between a refusal and another answer that is no refusal
 past : (b : Bool) (x y : Stop) → (x .number ≡ 0 → ⊥) → pick b x y .number ≡ 0 → (b ≡ false) × (y .number ≡ 0)

@@ -1,11 +1,10 @@
 // All elements of a load or a store: refusals 9 to 15, and how many elements have a byte.
 ghost use mathlib.Core.Path.{_≡_};
-ghost use mathlib.Core.Bool.{true, false};
-ghost use Prim.Native.Nat.{ℕ, _+_, _*_, _≤_, _<_};
-ghost use lib.ListN.{getD};
+ghost use mathlib.Core.Bool.{true};
+ghost use Prim.Native.Nat.{_*_, _≤_, _<_};
 ghost use Rattle.sheet.specs.Layouts.{theDimension, layoutOk};
-ghost use Rattle.addressing.specs.Valid.{SizedAccess, ValidAccess, Planned};
-ghost use Rattle.accesses.specs.Refusals.{elementOutcome, misplaced, ranksDiffer, blocksOne, storeBlocked, stopAt, clashFrom, elementsRefusal, placedOne, checkedBy, checked, checkedAccess};
+ghost use Rattle.addressing.specs.Valid.{SizedAccess, Planned};
+ghost use Rattle.accesses.specs.Refusals.{elementOutcome, ranksDiffer, blocksOne, storeBlocked, stopAt, clashFrom, elementsRefusal, placedOne, checkedBy, checked, checkedAccess};
 ghost use Rattle.accesses.specs.Entries.{entryOf, hits, sameEntry, Surveyed};
 use addressing::Access;
 use addressing::Located;
@@ -32,7 +31,7 @@ pub struct Checked {
 pub struct Survey {
     pub stop: Stop,
     pub placed: usize,
-    pub entries: [u32; 256],
+    pub entries: [u32; ELEMENTS],
 }
 
 // Element number k.
@@ -72,7 +71,7 @@ fn survey_of(p: Plan, count: usize) -> Survey
     requires { ⌜ Planned p × (0 < p .columns) × (p .columns < 256) × (count ≤ 256) ⌝ }
     ensures { λ r. ⌜ Surveyed (elementOutcome (p .access) (p .columns)) count r ⌝ }
 {
-    let mut entries = [0u32; 256];
+    let mut entries = [0u32; ELEMENTS];
     let mut placed = 0;
     let mut k = 0;
     while k < count {
@@ -112,7 +111,7 @@ fn same_byte(y: u32, x: u32) -> bool
 }
 
 // Refusal 15: the first of `count` elements that has an earlier one's byte, or the count.
-fn first_clash(entries: [u32; 256], count: usize) -> usize
+fn first_clash(entries: [u32; ELEMENTS], count: usize) -> usize
     requires { ⌜ count ≤ 256 ⌝ }
     ensures { λ r. ⌜ r ≡ clashFrom (sameEntry entries) 0 count ⌝ }
 {

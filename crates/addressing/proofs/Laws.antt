@@ -13,6 +13,7 @@ use lib.Seq.{getD-set-same, getD-set-other, set-out}
 use mathlib.Core.List.{List, [], _∷_}
 use borrow.Author.Tests.{lt-ltb, le-ltb, le-leb, lt-leb, ltb-true, ltb-false, leb-true, leb-false, eqb-true, eqb-false}
 use Rattle.numbers.specs.Choice.{pick, pick-case}
+use Rattle.numbers.specs.Places.{by-test}
 use Rattle.sheet.specs.Facts.{InSize, layout-span, view-most, view-size}
 use Rattle.sheet.specs.Views.{theViewDimension}
 use Rattle.addressing.specs.Valid.{ValidAccess, Planned}
@@ -40,10 +41,6 @@ clip-low c x e =
 -- the product of two sides
 pub sides : (a b : ℕ) → a < 256 → b < 256 → a * b ≤ 65025
 sides a b g h = mul-le-mul {n₁ = a} {m₁ = b} {n₂ = 255} {m₂ = 255} (omega arith) (omega arith)
-
-by-test : {P : Type 0} (b : Bool) → (b ≡ true → P) → (b ≡ false → P) → P
-by-test true f g = f refl
-by-test false f g = g refl
 
 -- a list of numbers below m stays so
 pub set-below : (m : ℕ) (l : List ℕ) (j x : ℕ) → x < m → ((i : ℕ) → getD l i 0 < m) → (i : ℕ) → getD (set l j x) i 0 < m

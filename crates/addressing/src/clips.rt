@@ -1,6 +1,6 @@
 // Rule 1 with a view.
 ghost use mathlib.Core.Path.{_≡_};
-ghost use Prim.Native.Nat.{_≤_, _<_};
+ghost use Prim.Native.Nat.{_<_};
 ghost use Rattle.addressing.specs.Rules.{outsideClip, clipped};
 use super::Clipped;
 use super::wide;

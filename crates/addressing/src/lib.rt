@@ -1,7 +1,6 @@
 // Where one element of a load or a store goes (document 01, "Where an element goes").
 ghost use mathlib.Core.Path.{_≡_};
-ghost use Prim.Native.Nat.{ℕ, _+_, _*_, _^_, _%_, _≤_, _<_, min};
-ghost use lib.ListN.{getD};
+ghost use Prim.Native.Nat.{_*_, _^_, _%_, _≤_, _<_, min};
 ghost use Rattle.addressing.specs.Rules.{lowBits, addressed, reached, located, refused, answered, planned};
 ghost use Rattle.addressing.specs.Valid.{ValidAccess, Planned};
 
@@ -13,6 +12,9 @@ pub mod views;
 use outcomes::Outcome;
 use sheet::Layout;
 use sheet::View;
+
+// 2 to the 32nd, from which on an index gets 12.
+const INDEX_LIMIT: u64 = 4294967296;
 
 // A load or a store: its layout, its view where it is `viewed`, its base, the bytes of an element and of memory.
 pub struct Access {
@@ -146,7 +148,7 @@ fn reach(a: Access, fill: u32, index: u64) -> Located
     requires { ⌜ ValidAccess a × (fill ≡ lowBits a) ⌝ }
     ensures { λ r. ⌜ r ≡ reached a index ⌝ }
 {
-    if 4294967296 <= index {
+    if INDEX_LIMIT <= index {
         return refuse(12);
     }
     let l = a.layout;

@@ -1,9 +1,9 @@
 // Rules 3 to 5.
 ghost use mathlib.Core.Path.{_≡_};
 ghost use mathlib.Core.Bool.{true};
-ghost use Prim.Native.Nat.{ℕ, _*_, _^_, _≤_, _<_};
+ghost use Prim.Native.Nat.{ℕ, _*_, _^_, _<_};
 ghost use lib.ListN.{getD};
-ghost use Rattle.sheet.specs.Layouts.{layoutOk, theDimension};
+ghost use Rattle.sheet.specs.Layouts.{layoutOk};
 ghost use Rattle.sheet.specs.Facts.{InSize};
 ghost use Rattle.addressing.specs.Rules.{spanCoordinates, part, tensorIndex};
 ghost use Rattle.addressing.specs.Valid.{AtMost};

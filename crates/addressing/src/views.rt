@@ -1,16 +1,15 @@
 // Rule 2.
 ghost use mathlib.Core.Path.{_≡_};
-ghost use mathlib.Core.Bool.{true, false};
+ghost use mathlib.Core.Bool.{true};
 ghost use Prim.Native.Nat.{ℕ, _^_, _≤_, _<_};
 ghost use lib.ListN.{getD};
-ghost use Rattle.sheet.specs.Layouts.{theDimension, layoutOk};
+ghost use Rattle.sheet.specs.Layouts.{layoutOk};
 ghost use Rattle.sheet.specs.Views.{theViewDimension, viewOk};
 ghost use Rattle.sheet.specs.Facts.{InSize};
 ghost use Rattle.addressing.specs.Rules.{five, spanOf, rowMajor, viewSizes, viewStrides, viewCoordinates, weighted, viewIndex};
 use super::wide;
 use sheet::Layout;
 use sheet::View;
-use sheet::ViewDimension;
 
 pub fn span_at(l: Layout, k: usize) -> u32
     requires { ⌜ k < 5 ⌝ }

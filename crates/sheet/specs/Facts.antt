@@ -1,12 +1,12 @@
 -- What is known of the numbers of a layout and of a view that keep to Sizes.
 use Prim.Native.Nat.{ℕ, _<_, _≤_}
 use mathlib.Core.Path.{_≡_, sym, _∙_}
-use mathlib.Core.Bool.{Bool, true, false}
+use mathlib.Core.Bool.{Bool, true}
 use lib.ListN.{getD}
 use lib.Dec.{ltb}
 use borrow.Author.Tests.{lt-ltb, ltb-true}
 use native.Mathlib.Omega.{arith}
-use Rattle.numbers.specs.Choice.{pick, both, both-left, both-right, between, between-low, between-high}
+use Rattle.numbers.specs.Choice.{pick, both, both-left, both-right, between-low, between-high}
 use Rattle.numbers.specs.All.{all-at}
 use Rattle.sheet.specs.Sizes.{rankOk, sizeOk, offsetOk}
 use Rattle.sheet.specs.Layouts.{theDimension, dimensionOk, dimensionAtOk, dimensionsOk, layoutOk}

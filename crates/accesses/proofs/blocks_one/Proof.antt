@@ -1,19 +1,16 @@
 use Prim.Native.Nat.{ℕ, _-_, _≤_}
 use mathlib.Core.Path.{_≡_, sym}
 use mathlib.Core.Bool.{true}
-use borrow.Author.Tests.{le-leb, lt-leb}
+use native.Mathlib.Omega.{arith}
 use lib.Dec.{leb}
+use borrow.Author.Tests.{le-leb, lt-leb}
+use borrow.Author.Needs.{needs}
+use Rattle.numbers.specs.All.{all, all-none, all-more, all-false}
 use Rattle.sheet.specs.Facts.{layout-most}
 use Rattle.sheet.specs.Layouts.{theDimension}
-use Rattle.numbers.specs.All.{all, all-none, all-more, all-false}
 use Rattle.accesses.specs.Refusals.{blocksOne}
-use borrow.Author.Needs.{needs}
-use native.Mathlib.Omega.{arith}
 use Rattle.accesses.proofs.blocks_one.Statement.{statement}
 use Rattle.accesses.proofs.blocks_one.Tie as tie
-use Rattle.accesses.proofs.blocks_one.Reads as reads
-use Rattle.accesses.proofs.blocks_one.Lts as lts
-use Rattle.accesses.proofs.block_at.Reads as block-at-reads
 
 abbrev Inv-loop : tie.InvT-loop
 Inv-loop l rank d₀ d = (d ≤ l .rank) × (all d (λ (i : ℕ). leb (theDimension (l .dimensions) i .block) 1) ≡ true)
@@ -21,39 +18,31 @@ Inv-loop l rank d₀ d = (d ≤ l .rank) × (all d (λ (i : ℕ). leb (theDimens
 abbrev μ-loop : tie.MeasureT-loop
 μ-loop l rank d₀ d = l .rank - d
 
--- src/lib.rt:203:16
 cast-rank : tie.Need-cast-rank Inv-loop μ-loop
 cast-rank c = search needs
 
--- src/lib.rt:205:5
 loop-holds : tie.Need-loop-holds Inv-loop μ-loop
 loop-holds c = (search needs, all-none _)
 
--- src/lib.rt:206:16
 block-at-requires : tie.Need-block-at-requires Inv-loop μ-loop
 block-at-requires c κs = omega (arith, layout-most (c .before .before .before .args .l) (c .before .before .before .pre))
 
--- src/lib.rt:207:13
 returns : tie.Need-returns Inv-loop μ-loop
 unfolding blocksOne
 returns c = sym (all-false _ _ (c .before .before .before .loop .d) (c .before .before .loop-test .taken) (rw (← c .before .block-at .ensures) (lt-leb _ _ (c .if1 .taken))))
 
--- src/lib.rt:209:9
 add-d : tie.Need-add-d Inv-loop μ-loop
 add-d c = search needs
 
--- src/lib.rt:205:5
 loop-less : tie.Need-loop-less Inv-loop μ-loop
 loop-less c = search needs
 
--- src/lib.rt:205:5
 loop-again : tie.Need-loop-again Inv-loop μ-loop
 loop-again c = (
   search needs,
   all-more _ _ (c .before .before .before .loop .inv .1) (rw (← c .before .block-at .ensures) (le-leb _ _ (c .if1 .left))),
 )
 
--- src/lib.rt:199:1
 returns-2 : tie.Need-returns-2 Inv-loop μ-loop
 unfolding blocksOne
 returns-2 c = let i = c .before .loop in

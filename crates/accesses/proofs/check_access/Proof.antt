@@ -1,53 +1,36 @@
-use Rattle.accesses.specs.Accepted.{ranks-agree}
 use mathlib.Core.Path.{_∙_}
-use Rattle.numbers.specs.Choice.{went, tests, ne-not, eq-not}
-use Rattle.addressing.specs.Valid.{planned-access, planned-columns}
-use Rattle.accesses.proofs.Laws.{access-nine, access-ten, access-eleven, access-elements}
-use native.Mathlib.Omega.{arith}
 use borrow.Author.Needs.{needs}
+use Rattle.numbers.specs.Choice.{went, tests}
+use Rattle.addressing.specs.Valid.{planned-access, planned-columns}
+use Rattle.accesses.specs.Accepted.{ranks-agree}
+use Rattle.accesses.proofs.Laws.{access-nine, access-ten, access-eleven, access-elements}
 use Rattle.accesses.proofs.check_access.Statement.{statement}
 use Rattle.accesses.proofs.check_access.Tie as tie
-use Rattle.accesses.proofs.check_access.Reads as reads
-use Rattle.accesses.proofs.check_access.Lts as lts
-use Rattle.accesses.proofs.check_elements.Reads as check-elements-reads
-use Rattle.accesses.proofs.ranks_differ.Reads as ranks-differ-reads
-use Rattle.accesses.proofs.refuse.Reads as refuse-reads
-use Rattle.accesses.proofs.store_blocked.Reads as store-blocked-reads
-use Rattle.addressing.proofs.plan_of.Reads as plan-of-reads
 
--- src/lib.rt:233:9
 refuse-requires : tie.Need-refuse-requires
 refuse-requires c κs = search needs
 
--- src/lib.rt:233:9
 returns : tie.Need-returns
 returns c = c .refuse .ensures ∙ access-nine _ _ _ (search tests)
 
--- src/lib.rt:235:8
 ranks-differ-requires : tie.Need-ranks-differ-requires
 ranks-differ-requires c κs = search needs
 
--- src/lib.rt:236:9
 refuse-requires-2 : tie.Need-refuse-requires-2
 refuse-requires-2 c κs = search needs
 
--- src/lib.rt:236:9
 returns-2 : tie.Need-returns-2
 returns-2 c = c .refuse2 .ensures ∙ access-ten _ _ _ (search tests) (search tests)
 
--- src/lib.rt:238:8
 store-blocked-requires : tie.Need-store-blocked-requires
 store-blocked-requires c κs = search needs
 
--- src/lib.rt:239:9
 refuse-requires-3 : tie.Need-refuse-requires-3
 refuse-requires-3 c κs = search needs
 
--- src/lib.rt:239:9
 returns-3 : tie.Need-returns-3
 returns-3 c = c .refuse3 .ensures ∙ access-eleven _ _ _ (search tests) (search tests) (search tests)
 
--- src/lib.rt:241:9
 plan-of-requires : tie.Need-plan-of-requires
 plan-of-requires c κs =
     record {
@@ -55,22 +38,18 @@ plan-of-requires c κs =
       ranks = ranks-agree _ (went (c .before .before .before .ranks-differ .ensures) (c .before .before .if2 .left));
     }
 
--- src/lib.rt:242:24
 mul-check-elements : tie.Need-mul-check-elements
 mul-check-elements c = search needs
 
--- src/lib.rt:242:23
 cast-check-elements : tie.Need-cast-check-elements
 cast-check-elements c = search needs
 
--- src/lib.rt:242:5
 check-elements-requires : tie.Need-check-elements-requires
 check-elements-requires c κs =
     let s = c .before .before .before .before .before .before .before in
     let e = planned-columns _ _ (c .plan-of .ensures .0) in
     (c .plan-of .ensures .1, rw e (s .pre .1), rw e (s .pre .2), s .pre .3)
 
--- src/lib.rt:228:1
 returns-4 : tie.Need-returns-4
 returns-4 c =
     let e = c .before .plan-of .ensures .0 in

@@ -1,50 +1,35 @@
-use mathlib.Core.Path.{_∙_, sym}
-use Rattle.accesses.proofs.Laws.{clash-surveyed, checked-refused, checked-load, checked-clash, checked-apart}
-use native.Mathlib.Omega.{arith}
+use mathlib.Core.Path.{_∙_}
 use borrow.Author.Needs.{needs}
+use Rattle.accesses.proofs.Laws.{clash-surveyed, checked-refused, checked-load, checked-clash, checked-apart}
 use Rattle.accesses.proofs.check_elements.Statement.{statement}
 use Rattle.accesses.proofs.check_elements.Tie as tie
-use Rattle.accesses.proofs.check_elements.Reads as reads
-use Rattle.accesses.proofs.check_elements.Lts as lts
-use Rattle.accesses.proofs.accept.Reads as accept-reads
-use Rattle.accesses.proofs.first_clash.Reads as first-clash-reads
-use Rattle.accesses.proofs.refuse.Reads as refuse-reads
-use Rattle.accesses.proofs.survey_of.Reads as survey-of-reads
 
--- src/lib.rt:160:9
 survey-of-requires : tie.Need-survey-of-requires
 survey-of-requires c κs = search needs
 
--- src/lib.rt:163:9
 refuse-requires : tie.Need-refuse-requires
 refuse-requires c κs = search needs
 
--- src/lib.rt:163:9
 returns : tie.Need-returns
 returns c =
     let s = c .before .before .before .before .survey-of in
     c .refuse .ensures ∙ checked-refused _ _ _ (s .ensures .stop) (c .before .if1 .taken)
 
--- src/lib.rt:167:9
 accept-requires : tie.Need-accept-requires
 accept-requires c κs = search needs
 
--- src/lib.rt:167:9
 returns-2 : tie.Need-returns-2
 returns-2 c =
     let s = c .before .before .before .before .before .before .survey-of in
     let z = c .before .before .before .if1 .left in
     c .accept .ensures ∙ checked-load _ _ _ (s .ensures .stop) z (c .before .if2 .taken) (s .ensures .placed z)
 
--- src/lib.rt:170:9
 first-clash-requires : tie.Need-first-clash-requires
 first-clash-requires c κs = search needs
 
--- src/lib.rt:172:9
 refuse-requires-2 : tie.Need-refuse-requires-2
 refuse-requires-2 c κs = search needs
 
--- src/lib.rt:172:9
 returns-3 : tie.Need-returns-3
 returns-3 c =
     let s = c .before .before .before .before .before .before .before .before .before .survey-of in
@@ -53,11 +38,9 @@ returns-3 c =
     ∙ checked-clash _ _ _ (s .ensures .stop) z _ (c .before .before .before .before .if2 .left)
     (c .before .before .first-clash .ensures ∙ clash-surveyed (s .ensures) z) (c .before .if3 .taken)
 
--- src/lib.rt:174:5
 accept-requires-2 : tie.Need-accept-requires-2
 accept-requires-2 c κs = search needs
 
--- src/lib.rt:156:1
 returns-4 : tie.Need-returns-4
 returns-4 c =
     let s = c .before .before .before .before .before .before .before .before .before .survey-of in

@@ -1,28 +1,21 @@
 use native.Mathlib.Nat.{div-lt-iff-lt-mul, mod-lt}
-use Rattle.accesses.specs.Refusals.{elementOutcome}
 use native.Mathlib.Omega.{arith}
 use borrow.Author.Needs.{needs}
+use Rattle.accesses.specs.Refusals.{elementOutcome}
 use Rattle.accesses.proofs.element.Statement.{statement}
 use Rattle.accesses.proofs.element.Tie as tie
-use Rattle.accesses.proofs.element.Reads as reads
-use Rattle.accesses.proofs.element.Lts as lts
-use Rattle.addressing.proofs.locate.Reads as locate-reads
 
--- src/lib.rt:48:27
 div-locate : tie.Need-div-locate
 div-locate c = search needs
 
--- src/lib.rt:48:42
 rem-locate : tie.Need-rem-locate
 rem-locate c = search needs
 
--- src/lib.rt:48:5
 locate-requires : tie.Need-locate-requires
 locate-requires c κs =
     let s = c .before .before in
     (s .pre .0, s .pre .2, div-lt-iff-lt-mul (s .pre .1) .1 (s .pre .3), omega (arith, mod-lt (s .args .k) (s .pre .1), s .pre .2))
 
--- src/lib.rt:44:1
 returns : tie.Need-returns
 unfolding elementOutcome
 returns c = c .locate .ensures

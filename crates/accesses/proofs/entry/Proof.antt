@@ -3,52 +3,40 @@ use native.Mathlib.Omega.{arith}
 use borrow.Author.Needs.{needs}
 use Rattle.accesses.proofs.entry.Statement.{statement}
 use Rattle.accesses.proofs.entry.Tie as tie
-use Rattle.accesses.proofs.entry.Reads as reads
-use Rattle.accesses.proofs.entry.Lts as lts
 
--- src/lib.rt:57:29
 enum-told : tie.Need-enum-told
 enum-told c = search needs
 
--- src/lib.rt:58:31
 enum-told-2 : tie.Need-enum-told-2
 enum-told-2 c = search needs
 
--- src/lib.rt:59:31
 enum-told-3 : tie.Need-enum-told-3
 enum-told-3 c = search needs
 
--- src/lib.rt:60:25
 enum-known-o : tie.Need-enum-known-o
 enum-known-o c = search needs
 
--- src/lib.rt:60:31
 cast-result : tie.Need-cast-result
 cast-result c =
     let o = c .before .o in
     let h : o .given .0 .0 + 1 ≤ 65536 = rw (o .given .1) at (c .before .before .before .pre) in
     omega arith
 
--- src/lib.rt:60:31
 add-result : tie.Need-add-result
 add-result c =
     let o = c .before .o in
     let h : o .given .0 .0 + 1 ≤ 65536 = rw (o .given .1) at (c .before .before .before .pre) in
     omega arith
 
--- src/lib.rt:52:1
 returns : tie.Need-returns
 returns c = search needs
 
--- src/lib.rt:52:1
 returns-2 : tie.Need-returns-2
 returns-2 c = search needs
 
--- src/lib.rt:52:1
 returns-3 : tie.Need-returns-3
 returns-3 c = search needs
 
--- src/lib.rt:52:1
 returns-4 : tie.Need-returns-4
 returns-4 c = rw (c .before .o .given .1)
 

@@ -1,17 +1,14 @@
-use Prim.Native.Nat.{ℕ, _-_, _≤_}
+use Prim.Native.Nat.{_-_, _≤_}
 use mathlib.Core.Path.{_≡_, sym, _∙_}
 use mathlib.Core.Bool.{false}
 use native.Mathlib.Nat.{sub-zero}
+use native.Mathlib.Omega.{arith}
+use borrow.Author.Needs.{needs}
 use Rattle.accesses.specs.Entries.{sameEntry}
 use Rattle.accesses.specs.Refusals.{meets, clashFrom}
 use Rattle.accesses.proofs.Laws.{meets-none, meets-miss, clash-on, clash-found, clash-none}
-use borrow.Author.Needs.{needs}
-use native.Mathlib.Omega.{arith}
 use Rattle.accesses.proofs.first_clash.Statement.{statement}
 use Rattle.accesses.proofs.first_clash.Tie as tie
-use Rattle.accesses.proofs.first_clash.Reads as reads
-use Rattle.accesses.proofs.first_clash.Lts as lts
-use Rattle.accesses.proofs.same_byte.Reads as same-byte-reads
 
 abbrev Inv-loop : tie.InvT-loop
 Inv-loop count entries i x j₀ j = (j ≤ i) × (meets (sameEntry entries) i j ≡ false)
@@ -25,68 +22,53 @@ Inv-search count entries i₀ i = (i ≤ count) × (clashFrom (sameEntry entries
 abbrev μ-search : tie.MeasureT-search
 μ-search count entries i₀ i = count - i
 
--- src/lib.rt:121:5
 search-holds : tie.Need-search-holds Inv-loop μ-loop Inv-search μ-search
 search-holds c = (omega arith, rw sub-zero)
 
--- src/lib.rt:122:17
 mul-x : tie.Need-mul-x Inv-loop μ-loop Inv-search μ-search
 mul-x c = search needs
 
--- src/lib.rt:122:17
 array-read-x : tie.Need-array-read-x Inv-loop μ-loop Inv-search μ-search
 array-read-x c = search needs
 
--- src/lib.rt:124:9
 loop-holds : tie.Need-loop-holds Inv-loop μ-loop Inv-search μ-search
 loop-holds c = (omega arith, meets-none _ _)
 
--- src/lib.rt:125:26
 mul-same-byte : tie.Need-mul-same-byte Inv-loop μ-loop Inv-search μ-search
 mul-same-byte c = search needs
 
--- src/lib.rt:125:26
 array-read-same-byte : tie.Need-array-read-same-byte Inv-loop μ-loop Inv-search μ-search
 array-read-same-byte c = search needs
 
--- src/lib.rt:125:16
 same-byte-requires : tie.Need-same-byte-requires Inv-loop μ-loop Inv-search μ-search
 same-byte-requires c κs = search needs
 
--- src/lib.rt:128:13
 add-j : tie.Need-add-j Inv-loop μ-loop Inv-search μ-search
 add-j c = search needs
 
--- src/lib.rt:124:9
 loop-less : tie.Need-loop-less Inv-loop μ-loop Inv-search μ-search
 loop-less c = omega arith
 
--- src/lib.rt:124:9
 loop-again : tie.Need-loop-again Inv-loop μ-loop Inv-search μ-search
 loop-again c = (
   omega arith,
   meets-miss (sameEntry (c .before .before .before .before .before .before .args .t1)) _ _ (sym (c .before .same-byte .ensures) ∙ c .if1 .left) (c .before .before .before .loop .inv .1),
 )
 
--- src/lib.rt:130:9
 add-i : tie.Need-add-i Inv-loop μ-loop Inv-search μ-search
 add-i c = search needs
 
--- src/lib.rt:121:5
 search-less : tie.Need-search-less Inv-loop μ-loop Inv-search μ-search
 search-less c = omega arith
 
--- src/lib.rt:121:5
 search-again : tie.Need-search-again Inv-loop μ-loop Inv-search μ-search
 search-again c =
     let i = c .before .before .before .search in
     (omega arith, clash-on _ _ _ (i .inv .1) (c .before .loop .j) (omega arith) (omega arith) (omega arith) (c .before .loop .inv .1))
 
--- src/lib.rt:116:1
 returns : tie.Need-returns Inv-loop μ-loop Inv-search μ-search
 returns c = clash-none _ _ _ (c .before .search .inv .1) (omega arith)
 
--- src/lib.rt:116:1
 returns-2 : tie.Need-returns-2 Inv-loop μ-loop Inv-search μ-search
 returns-2 c =
     let i = c .before .before .before .before .before .search in

@@ -1,26 +1,18 @@
-use mathlib.Core.Bool.{not}
-use borrow.Author.Tests.{not-true, not-false}
 use mathlib.Core.Path.{refl}
+use borrow.Author.Tests.{not-true, not-false}
 use Rattle.numbers.specs.Choice.{stop, pass}
 use Rattle.accesses.specs.Refusals.{ranksDiffer}
-use borrow.Author.Needs.{needs}
-use native.Mathlib.Omega.{arith}
 use Rattle.accesses.proofs.ranks_differ.Statement.{statement}
 use Rattle.accesses.proofs.ranks_differ.Tie as tie
-use Rattle.accesses.proofs.ranks_differ.Reads as reads
-use Rattle.accesses.proofs.ranks_differ.Lts as lts
 
--- src/lib.rt:181:9
 returns : tie.Need-returns
 unfolding ranksDiffer
 returns c = stop _ (not-true _ (c .if1 .taken))
 
--- src/lib.rt:185:9
 returns-2 : tie.Need-returns-2
 unfolding ranksDiffer
 returns-2 c = pass (not-false _ (c .before .before .if1 .left)) (stop _ (rw (c .if2 .taken)))
 
--- src/lib.rt:177:1
 returns-3 : tie.Need-returns-3
 unfolding ranksDiffer
 returns-3 c = pass (not-false _ (c .before .before .before .before .before .if1 .left)) (pass (rw (c .before .before .before .if2 .left)) refl)

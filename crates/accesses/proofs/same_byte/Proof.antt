@@ -1,19 +1,13 @@
 use mathlib.Core.Path.{refl}
 use Rattle.numbers.specs.Choice.{taken, left, tests}
 use Rattle.accesses.specs.Entries.{hits}
-use borrow.Author.Needs.{needs}
-use native.Mathlib.Omega.{arith}
 use Rattle.accesses.proofs.same_byte.Statement.{statement}
 use Rattle.accesses.proofs.same_byte.Tie as tie
-use Rattle.accesses.proofs.same_byte.Reads as reads
-use Rattle.accesses.proofs.same_byte.Lts as lts
 
--- src/lib.rt:110:9
 returns : tie.Need-returns
 unfolding hits
 returns c = taken _ (search tests) refl
 
--- src/lib.rt:106:1
 returns-2 : tie.Need-returns-2
 unfolding hits
 returns-2 c = left _ (search tests) refl

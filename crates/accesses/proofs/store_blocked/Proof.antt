@@ -1,25 +1,18 @@
 use mathlib.Core.Bool.{not}
 use mathlib.Core.Path.{ap}
+use borrow.Author.Needs.{needs}
 use Rattle.numbers.specs.Choice.{stop, pass}
 use Rattle.accesses.specs.Refusals.{storeBlocked}
-use native.Mathlib.Omega.{arith}
-use borrow.Author.Needs.{needs}
 use Rattle.accesses.proofs.store_blocked.Statement.{statement}
 use Rattle.accesses.proofs.store_blocked.Tie as tie
-use Rattle.accesses.proofs.store_blocked.Reads as reads
-use Rattle.accesses.proofs.store_blocked.Lts as lts
-use Rattle.accesses.proofs.blocks_one.Reads as blocks-one-reads
 
--- src/lib.rt:221:9
 returns : tie.Need-returns
 unfolding storeBlocked
 returns c = stop _ (rw (c .if1 .taken))
 
--- src/lib.rt:224:6
 blocks-one-requires : tie.Need-blocks-one-requires
 blocks-one-requires c κs = search needs
 
--- src/lib.rt:216:1
 returns-2 : tie.Need-returns-2
 unfolding storeBlocked
 returns-2 c = pass (rw (c .before .before .if1 .left)) (ap not (c .blocks-one .ensures))

@@ -1,16 +1,11 @@
-use Prim.Native.Nat.{ℕ, _-_}
-use mathlib.Core.Path.{_≡_, refl, ap, _∙_}
+use Prim.Native.Nat.{_-_}
+use mathlib.Core.Path.{refl, ap, _∙_}
+use native.Mathlib.Omega.{arith}
+use borrow.Author.Needs.{needs}
 use Rattle.accesses.specs.Refusals.{elementOutcome, placedCount}
 use Rattle.accesses.proofs.Laws.{Passed, passed-none, passed-stop, passed-more, passed-end, element-entry}
-use borrow.Author.Needs.{needs}
-use native.Mathlib.Omega.{arith}
 use Rattle.accesses.proofs.survey_of.Statement.{statement}
 use Rattle.accesses.proofs.survey_of.Tie as tie
-use Rattle.accesses.proofs.survey_of.Reads as reads
-use Rattle.accesses.proofs.survey_of.Lts as lts
-use Rattle.accesses.proofs.element.Reads as element-reads
-use Rattle.accesses.proofs.entry.Reads as entry-reads
-use Rattle.accesses.proofs.placed_one.Reads as placed-one-reads
 
 abbrev Inv-loop : tie.InvT-loop
 Inv-loop p count entries₀ placed₀ k₀ entries placed k = Passed (elementOutcome (p .access) (p .columns)) count k placed entries
@@ -18,21 +13,17 @@ Inv-loop p count entries₀ placed₀ k₀ entries placed k = Passed (elementOut
 abbrev μ-loop : tie.MeasureT-loop
 μ-loop p count entries₀ placed₀ k₀ entries placed k = count - k
 
--- src/lib.rt:78:5
 loop-holds : tie.Need-loop-holds Inv-loop μ-loop
 loop-holds c = passed-none _ _ _ refl
 
--- src/lib.rt:79:28
 cast-element : tie.Need-cast-element Inv-loop μ-loop
 cast-element c = search needs
 
--- src/lib.rt:79:13
 element-requires : tie.Need-element-requires Inv-loop μ-loop
 element-requires c κs =
     let s = c .before .before in
     (s .pre .0, s .pre .1, s .pre .2, omega (arith, s .pre .1, s .pre .3))
 
--- src/lib.rt:81:13
 returns : tie.Need-returns Inv-loop μ-loop
 returns c =
     let i = c .before .before .before .before .loop in
@@ -43,40 +34,32 @@ returns c =
       entries = λ z. absurd (c .if1 .taken z);
     }
 
--- src/lib.rt:91:22
 entry-requires : tie.Need-entry-requires Inv-loop μ-loop
 entry-requires c κs =
     let s = c .before .before .before .before .before in
     rw (c .before .before .element .ensures)
     (element-entry (s .args .p .access) (s .pre .0 .valid .sized) (s .args .p .columns) (c .before .before .before .before .loop .k))
 
--- src/lib.rt:91:9
 mul-entries : tie.Need-mul-entries Inv-loop μ-loop
 mul-entries c = search needs
 
--- src/lib.rt:91:9
 array-write-entries : tie.Need-array-write-entries Inv-loop μ-loop
 array-write-entries c = search needs
 
--- src/lib.rt:92:19
 placed-one-requires : tie.Need-placed-one-requires Inv-loop μ-loop
 placed-one-requires c κs = search needs
 
--- src/lib.rt:92:9
 add-placed : tie.Need-add-placed Inv-loop μ-loop
 add-placed c =
     let i = c .before .before .before .before .before .before .loop in
     omega (arith, i .inv .few, i .inv .inside, c .placed-one .ensures .1)
 
--- src/lib.rt:93:9
 add-k : tie.Need-add-k Inv-loop μ-loop
 add-k c = search needs
 
--- src/lib.rt:78:5
 loop-less : tie.Need-loop-less Inv-loop μ-loop
 loop-less c = omega arith
 
--- src/lib.rt:78:5
 loop-again : tie.Need-loop-again Inv-loop μ-loop
 loop-again c =
     let i = c .before .before .before .before .before .before .loop in
@@ -84,7 +67,6 @@ loop-again c =
     passed-more _ (i .inv) (e .result) (c .before .before .before .before .before .loop-test .taken) (e .ensures)
     (c .before .before .before .before .before .before .before .pre .3) (search needs) (c .before .entry .ensures) (c .placed-one .ensures .0) (c .placed-one .ensures .1)
 
--- src/lib.rt:71:1
 returns-2 : tie.Need-returns-2 Inv-loop μ-loop
 returns-2 c =
     let i = c .before .loop in

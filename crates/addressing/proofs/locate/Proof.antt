@@ -1,74 +1,57 @@
-use native.Mathlib.Nat.{min-le-left}
-use Rattle.addressing.specs.declared.Clipped.the-variants.{Skipped, Index}
 use mathlib.Core.Path.{_∙_, sym}
-use Rattle.addressing.proofs.Laws.{sides, located-plain, located-through, view-sizes-in, plan-width, plan-sizes, plan-strides, plan-fill}
+use native.Mathlib.Nat.{min-le-left}
 use native.Mathlib.Omega.{arith}
 use borrow.Author.Needs.{needs}
+use Rattle.addressing.specs.declared.Clipped.the-variants.{Skipped, Index}
+use Rattle.addressing.proofs.Laws.{sides, located-plain, located-through, view-sizes-in, plan-width, plan-sizes, plan-strides, plan-fill}
 use Rattle.addressing.proofs.locate.Statement.{statement}
 use Rattle.addressing.proofs.locate.Tie as tie
-use Rattle.addressing.proofs.locate.Reads as reads
-use Rattle.addressing.proofs.locate.Lts as lts
-use Rattle.addressing.proofs.answer.Reads as answer-reads
-use Rattle.addressing.proofs.clips.clip_index.Reads as clip-index-reads
-use Rattle.addressing.proofs.reach.Reads as reach-reads
-use Rattle.addressing.proofs.views.view_index.Reads as view-index-reads
 
--- src/lib.rt:168:15
 clip-index-requires : tie.Need-clip-index-requires
 clip-index-requires c κs =
     let s = c .before .before .before in
     (rw (plan-width (s .args .p) (s .pre .0)) (omega (arith, min-le-left (s .args .p .columns) (s .args .p .access .view .columns .span))), s .pre .2, s .pre .3)
 
--- src/lib.rt:169:40
 enum-told : tie.Need-enum-told
 enum-told c = search needs
 
--- src/lib.rt:169:33
 answer-requires : tie.Need-answer-requires
 answer-requires c κs = search needs
 
--- src/lib.rt:170:28
 enum-known-i : tie.Need-enum-known-i
 enum-known-i c = search needs
 
--- src/lib.rt:173:34
 view-index-requires : tie.Need-view-index-requires
 view-index-requires c κs =
     let s = c .before .before .before .before .before .before .before .before .before in
     let e = c .before .before .before .before .before .before .before .if1 .taken in
     (s .pre .0 .valid .sized .view e, rw (plan-sizes (s .args .p) (s .pre .0)) (view-sizes-in (s .args .p .access) (s .pre .0 .valid) e), s .pre .0 .strides)
 
--- src/lib.rt:173:17
 reach-requires : tie.Need-reach-requires
 reach-requires c κs =
     let s = c .before .before .before .before .before .before .before .before .before .before in
     (s .pre .0 .valid, plan-fill (s .args .p) (s .pre .0))
 
--- src/lib.rt:177:27
 mul-reach : tie.Need-mul-reach
 mul-reach c =
     let s = c .before .before .before in
     omega (arith, sides (s .args .row) (s .args .p .columns) (s .pre .2) (s .pre .1))
 
--- src/lib.rt:177:27
 add-reach : tie.Need-add-reach
 add-reach c =
     let s = c .before .before .before in
     omega (arith, sides (s .args .row) (s .args .p .columns) (s .pre .2) (s .pre .1))
 
--- src/lib.rt:177:26
 cast-reach : tie.Need-cast-reach
 cast-reach c =
     let s = c .before .before .before in
     omega (arith, sides (s .args .row) (s .args .p .columns) (s .pre .2) (s .pre .1))
 
--- src/lib.rt:177:9
 reach-requires-2 : tie.Need-reach-requires-2
 reach-requires-2 c κs =
     let s = c .before .before .before in
     (s .pre .0 .valid, plan-fill (s .args .p) (s .pre .0))
 
--- src/lib.rt:161:1
 returns : tie.Need-returns
 returns c =
     let s = c .before .before .before .before .before .before .before in
@@ -76,7 +59,6 @@ returns c =
     ∙ located-through (s .args .p .access) _ _ _ Skipped (c .before .before .before .before .before .if1 .taken)
     (rw (← plan-width (s .args .p) (s .pre .0)) (sym (c .before .before .before .clip-index .ensures) ∙ c .before .enum-told .given .1))
 
--- src/lib.rt:161:1
 returns-2 : tie.Need-returns-2
 returns-2 c =
     let s = c .before .before .before .before .before .before .before .before .before .before .before in
@@ -86,7 +68,6 @@ returns-2 c =
     (located-through (s .args .p .access) _ _ _ (Index (i .given .0 .0)) (c .before .before .before .before .before .before .before .before .before .if1 .taken)
     (rw (← plan-width (s .args .p) (s .pre .0)) (sym (c .before .before .before .before .before .before .before .clip-index .ensures) ∙ i .given .1)))
 
--- src/lib.rt:161:1
 returns-3 : tie.Need-returns-3
 returns-3 c = c .reach2 .ensures ∙ located-plain _ _ _ _ (c .before .before .if1 .left)
 

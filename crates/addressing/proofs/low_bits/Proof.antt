@@ -1,21 +1,15 @@
-use native.Mathlib.Nat.{mod-eq-of-lt}
 use mathlib.Core.Path.{_≡_, sym}
-use borrow.Author.Needs.{needs}
+use native.Mathlib.Nat.{mod-eq-of-lt}
 use native.Mathlib.Omega.{arith}
 use Rattle.addressing.proofs.low_bits.Statement.{statement}
 use Rattle.addressing.proofs.low_bits.Tie as tie
-use Rattle.addressing.proofs.low_bits.Reads as reads
-use Rattle.addressing.proofs.low_bits.Lts as lts
 
--- src/lib.rt:82:9
 returns : tie.Need-returns
 returns c = rw (c .if1 .taken)
 
--- src/lib.rt:85:9
 returns-2 : tie.Need-returns-2
 returns-2 c = rw (c .if2 .taken)
 
--- src/lib.rt:77:1
 returns-3 : tie.Need-returns-3
 returns-3 c =
     let a = c .before .before .args in

@@ -1,88 +1,63 @@
 use Prim.Native.Nat.{_≤_, _*_, _^_}
-use Rattle.addressing.specs.declared.Clamped.the-variants.{Refused, Discarded, Filled, At}
-use mathlib.Core.Path.{_∙_, sym}
-use Rattle.addressing.proofs.Laws.{span-coordinates-lt, reached-far, reached-is}
-use native.Mathlib.Omega.{arith}
+use mathlib.Core.Path.{_∙_}
 use borrow.Author.Needs.{needs}
+use Rattle.addressing.specs.declared.Clamped.the-variants.{Refused, Discarded, Filled, At}
+use Rattle.addressing.proofs.Laws.{span-coordinates-lt, reached-far, reached-is}
 use Rattle.addressing.proofs.reach.Statement.{statement}
 use Rattle.addressing.proofs.reach.Tie as tie
-use Rattle.addressing.proofs.reach.Reads as reads
-use Rattle.addressing.proofs.reach.Lts as lts
-use Rattle.addressing.proofs.address.Reads as address-reads
-use Rattle.addressing.proofs.answer.Reads as answer-reads
-use Rattle.addressing.proofs.refuse.Reads as refuse-reads
-use Rattle.addressing.proofs.tensors.span_coordinates.Reads as span-coordinates-reads
-use Rattle.addressing.proofs.tensors.tensor_index.Reads as tensor-index-reads
 
--- src/lib.rt:148:9
 refuse-requires : tie.Need-refuse-requires
 refuse-requires c κs = search needs
 
--- src/lib.rt:148:9
 returns : tie.Need-returns
 returns c = c .refuse .ensures ∙ reached-far _ _ (c .before .if1 .taken)
 
--- src/lib.rt:151:43
 cast-span-coordinates : tie.Need-cast-span-coordinates
 cast-span-coordinates c = search needs
 
--- src/lib.rt:151:9
 span-coordinates-requires : tie.Need-span-coordinates-requires
 span-coordinates-requires c κs = search needs
 
--- src/lib.rt:152:11
 tensor-index-requires : tie.Need-tensor-index-requires
 tensor-index-requires c κs =
     let s = c .before .before .before in
     (s .pre .0 .sized .layout, rw (c .span-coordinates .ensures) (span-coordinates-lt _ (s .pre .0 .sized .layout) _))
 
--- src/lib.rt:153:29
 enum-told : tie.Need-enum-told
 enum-told c = search needs
 
--- src/lib.rt:153:29
 refuse-requires-2 : tie.Need-refuse-requires-2
 refuse-requires-2 c κs = search needs
 
--- src/lib.rt:154:38
 enum-told-2 : tie.Need-enum-told-2
 enum-told-2 c = search needs
 
--- src/lib.rt:154:31
 answer-requires : tie.Need-answer-requires
 answer-requires c κs = search needs
 
--- src/lib.rt:155:35
 enum-told-3 : tie.Need-enum-told-3
 enum-told-3 c = search needs
 
--- src/lib.rt:155:28
 answer-requires-2 : tie.Need-answer-requires-2
 answer-requires-2 c κs = search needs
 
--- src/lib.rt:156:21
 enum-known-t : tie.Need-enum-known-t
 enum-known-t c = search needs
 
--- src/lib.rt:156:27
 address-requires : tie.Need-address-requires
 address-requires c κs =
     let m : c .before .t .given .0 .0 ≤ 5 * 2 ^ 28 = rw (c .before .t .given .1) at (c .before .before .before .tensor-index .ensures .1) in
     (c .before .before .before .before .before .before .before .pre .0, m)
 
--- src/lib.rt:143:1
 returns-2 : tie.Need-returns-2
 returns-2 c = c .refuse2 .ensures ∙ reached-is _ _ Refused (search needs) (cc)
 
--- src/lib.rt:143:1
 returns-3 : tie.Need-returns-3
 returns-3 c = c .answer .ensures ∙ reached-is _ _ Discarded (search needs) (cc)
 
--- src/lib.rt:143:1
 returns-4 : tie.Need-returns-4
 returns-4 c = c .answer2 .ensures ∙ rw (c .before .before .before .before .before .before .before .pre .1) (reached-is _ _ Filled (search needs) (cc))
 
--- src/lib.rt:143:1
 returns-5 : tie.Need-returns-5
 returns-5 c = c .address .ensures ∙ reached-is _ _ (At (c .before .before .t .given .0 .0)) (search needs) (cc)
 

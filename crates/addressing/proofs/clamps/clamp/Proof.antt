@@ -1,44 +1,31 @@
-use Rattle.numbers.specs.Choice.{pick}
 use mathlib.Core.Path.{_∙_}
-use mathlib.Core.Path.{refl}
 use borrow.Author.Tests.{le-leb, lt-leb}
-use Rattle.numbers.specs.Choice.{taken, left, tests}
-use Rattle.addressing.specs.Rules.{clamped}
-use native.Mathlib.Omega.{arith}
 use borrow.Author.Needs.{needs}
+use Rattle.numbers.specs.Choice.{pick, taken, left}
+use Rattle.addressing.specs.Rules.{clamped}
 use Rattle.addressing.proofs.clamps.clamp.Statement.{statement}
 use Rattle.addressing.proofs.clamps.clamp.Tie as tie
-use Rattle.addressing.proofs.clamps.clamp.Reads as reads
-use Rattle.addressing.proofs.clamps.clamp.Lts as lts
-use Rattle.addressing.proofs.clamps.outside.Reads as outside-reads
 
--- src/clamps.rt:100:24
 enum-known-c : tie.Need-enum-known-c
 enum-known-c c = search needs
 
--- src/clamps.rt:102:17
 outside-requires : tie.Need-outside-requires
 outside-requires c κs = search needs
 
--- src/clamps.rt:107:33
 enum-told : tie.Need-enum-told
 enum-told c = search needs
 
--- src/clamps.rt:107:33
 outside-requires-2 : tie.Need-outside-requires-2
 outside-requires-2 c κs = search needs
 
--- src/clamps.rt:95:1
 returns : tie.Need-returns
 unfolding clamped pick
 returns c = c .outside .ensures ∙ rw (c .before .before .before .c .given .1, le-leb _ _ (c .before .if1 .taken))
 
--- src/clamps.rt:95:1
 returns-2 : tie.Need-returns-2
 unfolding clamped pick
 returns-2 c = rw (c .before .before .c .given .1, lt-leb _ _ (c .if1 .left))
 
--- src/clamps.rt:95:1
 returns-3 : tie.Need-returns-3
 unfolding clamped
 returns-3 c = c .outside2 .ensures ∙ rw (c .before .enum-told .given .1)

@@ -3,38 +3,28 @@ use native.Mathlib.Omega.{arith}
 use borrow.Author.Needs.{needs}
 use Rattle.addressing.proofs.clamps.rest.Statement.{statement}
 use Rattle.addressing.proofs.clamps.rest.Tie as tie
-use Rattle.addressing.proofs.clamps.rest.Reads as reads
-use Rattle.addressing.proofs.clamps.rest.Lts as lts
 
--- src/clamps.rt:31:24
 enum-known-c : tie.Need-enum-known-c
 enum-known-c c = search needs
 
--- src/clamps.rt:31:30
 rem-result : tie.Need-rem-result
 rem-result c = search needs
 
--- src/clamps.rt:32:27
 enum-known-c-2 : tie.Need-enum-known-c-2
 enum-known-c-2 c = search needs
 
--- src/clamps.rt:32:33
 sub-result : tie.Need-sub-result
 sub-result c = search needs
 
--- src/clamps.rt:32:41
 rem-result-2 : tie.Need-rem-result-2
 rem-result-2 c = search needs
 
--- src/clamps.rt:32:33
 sub-result-2 : tie.Need-sub-result-2
 sub-result-2 c = omega (arith, mod-lt (c .before .c2 .given .0 .0) (c .before .before .before .pre))
 
--- src/clamps.rt:26:1
 returns : tie.Need-returns
 returns c = rw (c .before .c .given .1)
 
--- src/clamps.rt:26:1
 returns-2 : tie.Need-returns-2
 returns-2 c = rw (c .before .c2 .given .1)
 

@@ -1,44 +1,35 @@
 use Prim.Native.Nat.{suc, _-_}
-use lib.IntN.{pos, negsuc}
 use mathlib.Core.Path.{ap}
+use native.Mathlib.Omega.{arith}
+use lib.IntN.{pos, negsuc}
 use borrow.Author.Tests.{lt-ltb, le-ltb}
+use borrow.Author.Needs.{needs}
 use Rattle.numbers.specs.Choice.{pick}
 use Rattle.addressing.specs.Rules.{twos}
-use native.Mathlib.Omega.{arith}
-use borrow.Author.Needs.{needs}
 use Rattle.addressing.proofs.clamps.shifted.Statement.{statement}
 use Rattle.addressing.proofs.clamps.shifted.Tie as tie
-use Rattle.addressing.proofs.clamps.shifted.Reads as reads
-use Rattle.addressing.proofs.clamps.shifted.Lts as lts
 
--- src/clamps.rt:16:31
 add-t5 : tie.Need-add-t5
 add-t5 c = search needs
 
--- src/clamps.rt:16:9
 returns : tie.Need-returns
 unfolding twos pick
 returns c = rw (lt-ltb _ _ (c .if1 .taken))
 
--- src/clamps.rt:18:16
 sub-back : tie.Need-sub-back
 sub-back c = search needs
 
--- src/clamps.rt:20:27
 sub-t7 : tie.Need-sub-t7
 sub-t7 c = search needs
 
--- src/clamps.rt:20:27
 sub-t8 : tie.Need-sub-t8
 sub-t8 c = search needs
 
--- src/clamps.rt:11:1
 returns-2 : tie.Need-returns-2
 unfolding twos pick
 returns-2 c = let a = c .before .before .args in
     simp (le-ltb _ _ (c .before .if1 .left), lt-ltb (a .s) (suc (65535 - a .raw)) (omega arith)) (ap negsuc (omega arith))
 
--- src/clamps.rt:11:1
 returns-3 : tie.Need-returns-3
 unfolding twos pick
 returns-3 c = let a = c .before .before .args in

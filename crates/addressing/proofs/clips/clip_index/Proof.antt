@@ -1,64 +1,49 @@
 use Prim.Native.Nat.{_-_}
-use Rattle.addressing.proofs.Laws.{clip-low, sides}
 use mathlib.Core.Path.{refl}
-use Rattle.addressing.specs.Rules.{clipped}
-use Rattle.numbers.specs.Choice.{taken, left, went, tests}
 use native.Mathlib.Omega.{arith}
 use borrow.Author.Needs.{needs}
+use Rattle.numbers.specs.Choice.{taken, left, went, tests}
+use Rattle.addressing.proofs.Laws.{clip-low, sides}
+use Rattle.addressing.specs.Rules.{clipped}
 use Rattle.addressing.proofs.clips.clip_index.Statement.{statement}
 use Rattle.addressing.proofs.clips.clip_index.Tie as tie
-use Rattle.addressing.proofs.clips.clip_index.Reads as reads
-use Rattle.addressing.proofs.clips.clip_index.Lts as lts
-use Rattle.addressing.proofs.clips.outside_clip.Reads as outside-clip-reads
-use Rattle.addressing.proofs.wide.Reads as wide-reads
 
--- src/clips.rt:26:8
 outside-clip-requires : tie.Need-outside-clip-requires
 outside-clip-requires c κs = search needs
 
--- src/clips.rt:27:9
 returns : tie.Need-returns
 unfolding clipped
 returns c = taken _ (search tests) refl
 
--- src/clips.rt:30:8
 outside-clip-requires-2 : tie.Need-outside-clip-requires-2
 outside-clip-requires-2 c κs = search needs
 
--- src/clips.rt:31:9
 returns-2 : tie.Need-returns-2
 unfolding clipped
 returns-2 c = left _ (search tests) (taken _ (search tests) refl)
 
--- src/clips.rt:33:27
 wide-requires : tie.Need-wide-requires
 wide-requires c κs = search needs
 
--- src/clips.rt:33:21
 sub-t10 : tie.Need-sub-t10
 sub-t10 c = omega (arith, clip-low _ _ (went (c .before .before .before .before .before .outside-clip .ensures) (c .before .before .before .before .if1 .left)))
 
--- src/clips.rt:33:20
 mul-t11 : tie.Need-mul-t11
 mul-t11 c =
     let s = c .before .before .before .before .before .before .before in
     omega (arith, sides (s .args .row - c .wide .result) (s .args .width) (omega arith) (omega arith))
 
--- src/clips.rt:33:63
 wide-requires-2 : tie.Need-wide-requires-2
 wide-requires-2 c κs = search needs
 
--- src/clips.rt:33:57
 sub-t13 : tie.Need-sub-t13
 sub-t13 c = omega (arith, clip-low _ _ (went (c .before .before .before .outside-clip2 .ensures) (c .before .before .if2 .left)))
 
--- src/clips.rt:33:20
 add-t14 : tie.Need-add-t14
 add-t14 c =
     let s = c .before .before .before .before .before .before .before .before in
     omega (arith, sides (s .args .row - c .before .wide .result) (s .args .width) (omega arith) (omega arith))
 
--- src/clips.rt:21:1
 returns-3 : tie.Need-returns-3
 unfolding clipped
 returns-3 c = left _ (search tests) (left _ (search tests) (rw (c .before .wide .ensures .0, c .wide2 .ensures .0)))

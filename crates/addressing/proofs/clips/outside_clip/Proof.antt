@@ -1,33 +1,25 @@
-use borrow.Author.Tests.{lt-ltb, le-ltb}
 use mathlib.Core.Path.{refl}
-use Rattle.addressing.specs.Rules.{outsideClip}
-use Rattle.numbers.specs.Choice.{taken, left}
 use native.Mathlib.Omega.{arith}
+use borrow.Author.Tests.{lt-ltb, le-ltb}
 use borrow.Author.Needs.{needs}
+use Rattle.numbers.specs.Choice.{taken, left}
+use Rattle.addressing.specs.Rules.{outsideClip}
 use Rattle.addressing.proofs.clips.outside_clip.Statement.{statement}
 use Rattle.addressing.proofs.clips.outside_clip.Tie as tie
-use Rattle.addressing.proofs.clips.outside_clip.Reads as reads
-use Rattle.addressing.proofs.clips.outside_clip.Lts as lts
-use Rattle.addressing.proofs.wide.Reads as wide-reads
 
--- src/clips.rt:13:9
 wide-requires : tie.Need-wide-requires
 wide-requires c κs = search needs
 
--- src/clips.rt:15:9
 returns : tie.Need-returns
 unfolding outsideClip
 returns c = let a = c .before .before .args in taken _ (lt-ltb (a .x) (a .c .offset) (omega arith)) refl
 
--- src/clips.rt:17:14
 wide-requires-2 : tie.Need-wide-requires-2
 wide-requires-2 c κs = search needs
 
--- src/clips.rt:17:5
 add-result : tie.Need-add-result
 add-result c = search needs
 
--- src/clips.rt:10:1
 returns-2 : tie.Need-returns-2
 unfolding outsideClip
 returns-2 c = let a = c .before .before .before .args in

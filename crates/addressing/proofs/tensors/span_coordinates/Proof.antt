@@ -1,15 +1,12 @@
-use Prim.Native.Nat.{ℕ, _-_, _≤_, _<_}
+use Prim.Native.Nat.{ℕ, _-_, _≤_}
 use mathlib.Core.Path.{_≡_, refl, _∙_}
-use Rattle.sheet.specs.Facts.{InSize, layout-most, layout-span}
+use native.Mathlib.Omega.{arith}
+use borrow.Author.Needs.{needs}
+use Rattle.sheet.specs.Facts.{layout-most, layout-span}
 use Rattle.addressing.proofs.Laws.{coordinates-more, coordinates-end}
 use Rattle.addressing.specs.Rules.{coordinates, spanCoordinates, spanOf}
-use borrow.Author.Needs.{needs}
-use native.Mathlib.Omega.{arith}
 use Rattle.addressing.proofs.tensors.span_coordinates.Statement.{statement}
 use Rattle.addressing.proofs.tensors.span_coordinates.Tie as tie
-use Rattle.addressing.proofs.tensors.span_coordinates.Reads as reads
-use Rattle.addressing.proofs.tensors.span_coordinates.Lts as lts
-use Rattle.addressing.proofs.views.span_at.Reads as span-at-reads
 
 abbrev Inv-loop : tie.InvT-loop
 Inv-loop l index cs₀ left₀ d₀ cs left d = (d ≤ l .rank) × (coordinates (λ (i : ℕ). i) (spanOf l) d left cs ≡ spanCoordinates l index)
@@ -17,55 +14,44 @@ Inv-loop l index cs₀ left₀ d₀ cs left d = (d ≤ l .rank) × (coordinates 
 abbrev μ-loop : tie.MeasureT-loop
 μ-loop l index cs₀ left₀ d₀ cs left d = d
 
--- src/tensors.rt:24:17
 cast-d : tie.Need-cast-d Inv-loop μ-loop
 cast-d c = search needs
 
--- src/tensors.rt:25:5
 loop-holds : tie.Need-loop-holds Inv-loop μ-loop
 unfolding spanCoordinates
 loop-holds c = (search needs, refl)
 
--- src/tensors.rt:26:9
 sub-d : tie.Need-sub-d Inv-loop μ-loop
 sub-d c = search needs
 
--- src/tensors.rt:27:13
 span-at-requires : tie.Need-span-at-requires Inv-loop μ-loop
 span-at-requires c κs = omega (arith, layout-most (c .before .before .before .args .l) (c .before .before .before .pre))
 
--- src/tensors.rt:28:17
 rem-cs : tie.Need-rem-cs Inv-loop μ-loop
 rem-cs c =
     let s = c .before .before .before .before in
     rw (c .span-at .ensures) (layout-span (s .args .l) (s .pre) (c .before .before .loop .d - 1) (omega arith) .some)
 
--- src/tensors.rt:28:9
 mul-cs : tie.Need-mul-cs Inv-loop μ-loop
 mul-cs c = omega (arith, layout-most (c .before .before .before .before .args .l) (c .before .before .before .before .pre))
 
--- src/tensors.rt:28:9
 array-write-cs : tie.Need-array-write-cs Inv-loop μ-loop
 array-write-cs c = omega (arith, layout-most (c .before .before .before .before .args .l) (c .before .before .before .before .pre))
 
--- src/tensors.rt:29:9
 div-left : tie.Need-div-left Inv-loop μ-loop
 div-left c =
     let s = c .before .before .before .before in
     rw (c .span-at .ensures) (layout-span (s .args .l) (s .pre) (c .before .before .loop .d - 1) (omega arith) .some)
 
--- src/tensors.rt:25:5
 loop-less : tie.Need-loop-less Inv-loop μ-loop
 loop-less c = search needs
 
--- src/tensors.rt:25:5
 loop-again : tie.Need-loop-again Inv-loop μ-loop
 loop-again c = (
   omega arith,
   rw (c .span-at .ensures) (coordinates-more (λ (i : ℕ). i) (spanOf (c .before .before .before .before .args .l)) _ _ _ (omega arith) ∙ c .before .before .loop .inv .1),
 )
 
--- src/tensors.rt:18:1
 returns : tie.Need-returns Inv-loop μ-loop
 returns c = coordinates-end _ _ _ _ _ (omega arith) ∙ c .before .loop .inv .1
 

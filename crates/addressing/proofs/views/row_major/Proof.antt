@@ -1,17 +1,14 @@
-use native.Mathlib.Nat.{mul-le-mul, le-refl}
-use Prim.Native.Nat.{ℕ, _+_, _-_, _≤_, _<_}
+use Prim.Native.Nat.{_+_, _-_, _≤_, _<_}
 use mathlib.Core.Logic.{_⊎_, inl, inr}
 use mathlib.Core.Path.{_≡_, sym, _∙_}
+use native.Mathlib.Nat.{mul-le-mul, le-refl}
+use native.Mathlib.Omega.{arith}
+use borrow.Author.Needs.{needs}
 use Rattle.sheet.specs.Facts.{layout-some, layout-most, layout-span}
 use Rattle.addressing.proofs.Laws.{row-major-past, row-major-more, row-major-end, row-major-most}
 use Rattle.addressing.specs.Rules.{rowMajor, spanOf}
-use borrow.Author.Needs.{needs}
-use native.Mathlib.Omega.{arith}
 use Rattle.addressing.proofs.views.row_major.Statement.{statement}
 use Rattle.addressing.proofs.views.row_major.Tie as tie
-use Rattle.addressing.proofs.views.row_major.Reads as reads
-use Rattle.addressing.proofs.views.row_major.Lts as lts
-use Rattle.addressing.proofs.views.span_at.Reads as span-at-reads
 
 abbrev Inv-loop : tie.InvT-loop
 Inv-loop l i rank product₀ j₀ product j = (i < j) × ((j ≤ l .rank) ⊎ (j ≡ i + 1)) × (product ≡ rowMajor (spanOf l) j i)
@@ -19,27 +16,21 @@ Inv-loop l i rank product₀ j₀ product j = (i < j) × ((j ≤ l .rank) ⊎ (j
 abbrev μ-loop : tie.MeasureT-loop
 μ-loop l i rank product₀ j₀ product j = l .rank - j
 
--- src/views.rt:52:16
 cast-rank : tie.Need-cast-rank Inv-loop μ-loop
 cast-rank c = search needs
 
--- src/views.rt:54:17
 add-j : tie.Need-add-j Inv-loop μ-loop
 add-j c = search needs
 
--- src/views.rt:55:5
 loop-holds : tie.Need-loop-holds Inv-loop μ-loop
 loop-holds c = (omega arith, inr (search needs), sym (row-major-past _ _ _ (le-refl _)))
 
--- src/views.rt:56:20
 span-at-requires : tie.Need-span-at-requires Inv-loop μ-loop
 span-at-requires c κs = omega (arith, layout-most (c .before .before .before .args .l) (c .before .before .before .pre .0))
 
--- src/views.rt:56:20
 cast-product : tie.Need-cast-product Inv-loop μ-loop
 cast-product c = search needs
 
--- src/views.rt:56:9
 mul-product : tie.Need-mul-product Inv-loop μ-loop
 mul-product c =
     let s = c .before .before .before .before in
@@ -52,15 +43,12 @@ mul-product c =
           (layout-span (s .args .l) (s .pre .0) j (omega arith) .most),
     ))
 
--- src/views.rt:57:9
 add-j-2 : tie.Need-add-j-2 Inv-loop μ-loop
 add-j-2 c = omega (arith, layout-most (c .before .before .before .before .args .l) (c .before .before .before .before .pre .0))
 
--- src/views.rt:55:5
 loop-less : tie.Need-loop-less Inv-loop μ-loop
 loop-less c = omega arith
 
--- src/views.rt:55:5
 loop-again : tie.Need-loop-again Inv-loop μ-loop
 loop-again c = (
   omega arith,
@@ -68,7 +56,6 @@ loop-again c = (
   rw (c .before .before .loop .inv .2, c .span-at .ensures) (sym (row-major-more _ _ _ (c .before .before .loop .inv .0))),
 )
 
--- src/views.rt:48:1
 returns : tie.Need-returns Inv-loop μ-loop
 returns c =
     let s = c .before .before .before in

@@ -1,15 +1,13 @@
-use lib.ListN.{getD}
-use Prim.Native.Nat.{ℕ, _-_, _≤_, _<_}
+use Prim.Native.Nat.{ℕ, _-_, _≤_}
 use mathlib.Core.Path.{_≡_, refl, _∙_}
-use Rattle.sheet.specs.Facts.{InSize, view-most, view-entry}
+use native.Mathlib.Omega.{arith}
+use lib.ListN.{getD}
+use borrow.Author.Needs.{needs}
+use Rattle.sheet.specs.Facts.{view-most, view-entry}
 use Rattle.addressing.proofs.Laws.{coordinates-more, coordinates-end}
 use Rattle.addressing.specs.Rules.{coordinates, viewCoordinates}
-use borrow.Author.Needs.{needs}
-use native.Mathlib.Omega.{arith}
 use Rattle.addressing.proofs.views.view_coordinates.Statement.{statement}
 use Rattle.addressing.proofs.views.view_coordinates.Tie as tie
-use Rattle.addressing.proofs.views.view_coordinates.Reads as reads
-use Rattle.addressing.proofs.views.view_coordinates.Lts as lts
 
 abbrev Inv-loop : tie.InvT-loop
 Inv-loop index v sizes cs₀ left₀ k₀ cs left k = (k ≤ v .rank) × (coordinates (λ (j : ℕ). getD (v .permutation) j 0) (λ (i : ℕ). getD sizes i 0) k left cs ≡ viewCoordinates v sizes index)
@@ -17,70 +15,57 @@ Inv-loop index v sizes cs₀ left₀ k₀ cs left k = (k ≤ v .rank) × (coordi
 abbrev μ-loop : tie.MeasureT-loop
 μ-loop index v sizes cs₀ left₀ k₀ cs left k = k
 
--- src/views.rt:88:17
 cast-k : tie.Need-cast-k Inv-loop μ-loop
 cast-k c = search needs
 
--- src/views.rt:89:5
 loop-holds : tie.Need-loop-holds Inv-loop μ-loop
 unfolding viewCoordinates
 loop-holds c = (search needs, refl)
 
--- src/views.rt:90:9
 sub-k : tie.Need-sub-k Inv-loop μ-loop
 sub-k c = search needs
 
--- src/views.rt:91:17
 element-copy-out-i : tie.Need-element-copy-out-i Inv-loop μ-loop
 element-copy-out-i c = omega (arith, view-most (c .before .before .args .t1) (c .before .before .pre .0))
 
--- src/views.rt:91:17
 cast-i : tie.Need-cast-i Inv-loop μ-loop
 cast-i c =
     let s = c .before .before .before in
     omega (arith, view-most (s .args .t1) (s .pre .0), view-entry (s .args .t1) (s .pre .0) (c .before .before .loop .k - 1) (omega arith))
 
--- src/views.rt:92:20
 mul-size : tie.Need-mul-size Inv-loop μ-loop
 mul-size c =
     let s = c .before .before .before in
     omega (arith, view-most (s .args .t1) (s .pre .0), view-entry (s .args .t1) (s .pre .0) (c .before .before .loop .k - 1) (omega arith))
 
--- src/views.rt:92:20
 array-read-size : tie.Need-array-read-size Inv-loop μ-loop
 array-read-size c =
     let s = c .before .before .before in
     omega (arith, view-most (s .args .t1) (s .pre .0), view-entry (s .args .t1) (s .pre .0) (c .before .before .loop .k - 1) (omega arith))
 
--- src/views.rt:93:17
 rem-cs : tie.Need-rem-cs Inv-loop μ-loop
 rem-cs c =
     let s = c .before .before .before in
     s .pre .1 _ (view-entry (s .args .t1) (s .pre .0) (c .before .before .loop .k - 1) (omega arith)) .some
 
--- src/views.rt:93:9
 mul-cs : tie.Need-mul-cs Inv-loop μ-loop
 mul-cs c =
     let s = c .before .before .before in
     omega (arith, view-most (s .args .t1) (s .pre .0), view-entry (s .args .t1) (s .pre .0) (c .before .before .loop .k - 1) (omega arith))
 
--- src/views.rt:93:9
 array-write-cs : tie.Need-array-write-cs Inv-loop μ-loop
 array-write-cs c =
     let s = c .before .before .before in
     omega (arith, view-most (s .args .t1) (s .pre .0), view-entry (s .args .t1) (s .pre .0) (c .before .before .loop .k - 1) (omega arith))
 
--- src/views.rt:94:9
 div-left : tie.Need-div-left Inv-loop μ-loop
 div-left c =
     let s = c .before .before .before in
     s .pre .1 _ (view-entry (s .args .t1) (s .pre .0) (c .before .before .loop .k - 1) (omega arith)) .some
 
--- src/views.rt:89:5
 loop-less : tie.Need-loop-less Inv-loop μ-loop
 loop-less c = search needs
 
--- src/views.rt:89:5
 loop-again : tie.Need-loop-again Inv-loop μ-loop
 loop-again c =
     let s = c .before .before .before in (
@@ -88,7 +73,6 @@ loop-again c =
       coordinates-more (λ (j : ℕ). getD (s .args .t1 .permutation) j 0) (λ (i : ℕ). getD (s .args .t2) i 0) _ _ _ (omega arith) ∙ c .before .before .loop .inv .1,
     )
 
--- src/views.rt:82:1
 returns : tie.Need-returns Inv-loop μ-loop
 returns c = coordinates-end _ _ _ _ _ (omega arith) ∙ c .before .loop .inv .1
 

@@ -1,25 +1,17 @@
-use Rattle.sheet.specs.Facts.{view-most, view-entry}
 use mathlib.Core.Path.{_∙_}
+use borrow.Author.Needs.{needs}
+use Rattle.sheet.specs.Facts.{view-most, view-entry}
 use Rattle.addressing.proofs.Laws.{coordinates-lt, zeros-lt}
 use Rattle.addressing.specs.Rules.{viewIndex, viewCoordinates}
-use native.Mathlib.Omega.{arith}
-use borrow.Author.Needs.{needs}
 use Rattle.addressing.proofs.views.view_index.Statement.{statement}
 use Rattle.addressing.proofs.views.view_index.Tie as tie
-use Rattle.addressing.proofs.views.view_index.Reads as reads
-use Rattle.addressing.proofs.views.view_index.Lts as lts
-use Rattle.addressing.proofs.views.view_coordinates.Reads as view-coordinates-reads
-use Rattle.addressing.proofs.views.weighted.Reads as weighted-reads
 
--- src/views.rt:123:9
 view-coordinates-requires : tie.Need-view-coordinates-requires
 view-coordinates-requires c κs = search needs
 
--- src/views.rt:124:16
 cast-rank : tie.Need-cast-rank
 cast-rank c = search needs
 
--- src/views.rt:125:5
 weighted-requires : tie.Need-weighted-requires
 unfolding viewCoordinates
 weighted-requires c κs = let s = c .before .before in (
@@ -28,7 +20,6 @@ weighted-requires c κs = let s = c .before .before in (
   s .pre .2,
 )
 
--- src/views.rt:119:1
 returns : tie.Need-returns
 unfolding viewIndex
 returns c = c .weighted .ensures ∙ rw (c .before .before .view-coordinates .ensures)

@@ -1,57 +1,41 @@
 use Prim.Native.Nat.{_^_}
-use Rattle.addressing.proofs.Laws.{five-most}
-use Rattle.numbers.specs.Choice.{taken, left}
-use Rattle.addressing.specs.Rules.{viewStrides}
-use native.Mathlib.Omega.{arith}
 use borrow.Author.Needs.{needs}
+use Rattle.numbers.specs.Choice.{taken, left}
+use Rattle.addressing.proofs.Laws.{five-most}
+use Rattle.addressing.specs.Rules.{viewStrides}
 use Rattle.addressing.proofs.views.view_strides.Statement.{statement}
 use Rattle.addressing.proofs.views.view_strides.Tie as tie
-use Rattle.addressing.proofs.views.view_strides.Reads as reads
-use Rattle.addressing.proofs.views.view_strides.Lts as lts
-use Rattle.addressing.proofs.views.row_major.Reads as row-major-reads
-use Rattle.addressing.proofs.views.stride_at.Reads as stride-at-reads
 
--- src/views.rt:75:10
 stride-at-requires : tie.Need-stride-at-requires
 stride-at-requires c κs = search needs
 
--- src/views.rt:75:27
 stride-at-requires-2 : tie.Need-stride-at-requires-2
 stride-at-requires-2 c κs = search needs
 
--- src/views.rt:75:44
 stride-at-requires-3 : tie.Need-stride-at-requires-3
 stride-at-requires-3 c κs = search needs
 
--- src/views.rt:75:61
 stride-at-requires-4 : tie.Need-stride-at-requires-4
 stride-at-requires-4 c κs = search needs
 
--- src/views.rt:75:78
 stride-at-requires-5 : tie.Need-stride-at-requires-5
 stride-at-requires-5 c κs = search needs
 
--- src/views.rt:77:10
 row-major-requires : tie.Need-row-major-requires
 row-major-requires c κs = search needs
 
--- src/views.rt:77:27
 row-major-requires-2 : tie.Need-row-major-requires-2
 row-major-requires-2 c κs = search needs
 
--- src/views.rt:77:44
 row-major-requires-3 : tie.Need-row-major-requires-3
 row-major-requires-3 c κs = search needs
 
--- src/views.rt:77:61
 row-major-requires-4 : tie.Need-row-major-requires-4
 row-major-requires-4 c κs = search needs
 
--- src/views.rt:77:78
 row-major-requires-5 : tie.Need-row-major-requires-5
 row-major-requires-5 c κs = search needs
 
--- src/views.rt:70:1
 returns : tie.Need-returns
 unfolding viewStrides
 returns c = let s = c .before .before .before .before in (
@@ -59,7 +43,6 @@ returns c = let s = c .before .before .before .before in (
   five-most (4096 ^ 4) (s .stride-at .ensures .1) (c .before .before .before .stride-at2 .ensures .1) (c .before .before .stride-at3 .ensures .1) (c .before .stride-at4 .ensures .1) (c .stride-at5 .ensures .1),
 )
 
--- src/views.rt:70:1
 returns-2 : tie.Need-returns-2
 unfolding viewStrides
 returns-2 c = let s = c .before .before .before .before in (

@@ -1,16 +1,12 @@
+use Prim.Native.Nat.{_-_, _*_, _^_, _≤_}
+use mathlib.Core.Path.{_≡_}
 use native.Mathlib.Nat.{mul-le-mul, le-of-lt}
-use lib.ListN.{getD}
-use Prim.Native.Nat.{ℕ, _-_, _*_, _^_, _≤_, _<_}
-use mathlib.Core.Path.{_≡_, refl, _∙_}
+use native.Mathlib.Omega.{arith}
+use borrow.Author.Needs.{needs}
 use Rattle.addressing.proofs.Laws.{weighted-none, weighted-more}
 use Rattle.addressing.specs.Rules.{weighted}
-use borrow.Author.Needs.{needs}
-use native.Mathlib.Omega.{arith}
 use Rattle.addressing.proofs.views.weighted.Statement.{statement}
 use Rattle.addressing.proofs.views.weighted.Tie as tie
-use Rattle.addressing.proofs.views.weighted.Reads as reads
-use Rattle.addressing.proofs.views.weighted.Lts as lts
-use Rattle.addressing.proofs.views.long.Reads as long-reads
 
 abbrev Inv-loop : tie.InvT-loop
 Inv-loop n cs strides sum₀ i₀ sum i = (i ≤ n) × (sum ≤ i * 4096 ^ 5) × (sum ≡ weighted cs strides i)
@@ -18,53 +14,42 @@ Inv-loop n cs strides sum₀ i₀ sum i = (i ≤ n) × (sum ≤ i * 4096 ^ 5) ×
 abbrev μ-loop : tie.MeasureT-loop
 μ-loop n cs strides sum₀ i₀ sum i = n - i
 
--- src/views.rt:112:5
 loop-holds : tie.Need-loop-holds Inv-loop μ-loop
 loop-holds c = (search needs, search needs, weighted-none _ _)
 
--- src/views.rt:113:21
 mul-long : tie.Need-mul-long Inv-loop μ-loop
 mul-long c = search needs
 
--- src/views.rt:113:21
 array-read-long : tie.Need-array-read-long Inv-loop μ-loop
 array-read-long c = search needs
 
--- src/views.rt:113:16
 long-requires : tie.Need-long-requires Inv-loop μ-loop
 long-requires c κs = search needs
 
--- src/views.rt:113:30
 mul-sum : tie.Need-mul-sum Inv-loop μ-loop
 mul-sum c = search needs
 
--- src/views.rt:113:30
 array-read-sum : tie.Need-array-read-sum Inv-loop μ-loop
 array-read-sum c = search needs
 
--- src/views.rt:113:16
 mul-sum-2 : tie.Need-mul-sum-2 Inv-loop μ-loop
 mul-sum-2 c =
     let s = c .before .before .before in
     let i = c .before .before .loop .i in
     rw (c .long .ensures) (omega (arith, mul-le-mul (le-of-lt (s .pre .1 i)) (s .pre .2 i)))
 
--- src/views.rt:113:9
 add-sum : tie.Need-add-sum Inv-loop μ-loop
 add-sum c =
     let s = c .before .before .before in
     let i = c .before .before .loop .i in
     rw (c .long .ensures) (omega (arith, mul-le-mul (le-of-lt (s .pre .1 i)) (s .pre .2 i)))
 
--- src/views.rt:114:9
 add-i : tie.Need-add-i Inv-loop μ-loop
 add-i c = search needs
 
--- src/views.rt:112:5
 loop-less : tie.Need-loop-less Inv-loop μ-loop
 loop-less c = search needs
 
--- src/views.rt:112:5
 loop-again : tie.Need-loop-again Inv-loop μ-loop
 loop-again c =
     let s = c .before .before .before in
@@ -74,7 +59,6 @@ loop-again c =
       rw (c .long .ensures, c .before .before .loop .inv .2) (weighted-more _ _ _),
     )
 
--- src/views.rt:106:1
 returns : tie.Need-returns Inv-loop μ-loop
 returns c =
     let e : c .before .loop .i ≡ c .before .before .args .n = omega arith in
