@@ -20,7 +20,9 @@ use sheet::views;
 
 // The tags of the table of "The sheet".
 const EDITION: u8 = 0x01;
+
 const LAYOUT: u8 = 0x10;
+
 const VIEW: u8 = 0x11;
 
 pub fn put_pair(out: &mut [u8], at: usize, a: u8, b: u8)

@@ -28,6 +28,7 @@ pub struct WriteAnswer {
 
 // Refusals: a model that no sheet reads as, and a room too short for its bytes.
 const BEYOND_SIZES: u8 = 5;
+
 const SHORT_ROOM: u8 = 19;
 
 fn answer(number: u8, bytes: usize) -> WriteAnswer

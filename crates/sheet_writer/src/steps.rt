@@ -101,7 +101,12 @@ fn put_reduce(
     ensures { λ _. ⌜ now (out .exit) ≡ sets (now (out .entry)) at (result ∷ source ∷ rows ∷ columns ∷ reduceCode mode ∷ combineCode combine ∷ []) ⌝ }
 {
     put_four(out, at, result, source, rows, columns);
-    fields::put_pair(out, at + 4, codes::reduce_code(mode), codes::combine_code(combine));
+    fields::put_pair(
+        out,
+        at + 4,
+        codes::reduce_code(mode),
+        codes::combine_code(combine),
+    );
 }
 
 fn put_step_content(out: &mut [u8], at: usize, s: Step)
