@@ -1,17 +1,16 @@
 -- What a writable model keeps to, as far as its writer needs it.
 use Prim.Native.Nat.{ℕ, _≤_, _<_}
-use mathlib.Core.Path.{_≡_, refl, sym, _∙_}
+use mathlib.Core.Path.{_≡_, refl, _∙_}
 use mathlib.Core.List.{List}
-use mathlib.Core.Bool.{Bool, true, false}
+use mathlib.Core.Bool.{true}
 use native.Mathlib.Omega.{arith}
 use borrow.Author.Tests.{lt-ltb, leb-true}
-use lib.Dec.{ltb, leb}
-use Rattle.numbers.specs.Choice.{pick, taken, both-left, both-right, between-high}
+use Rattle.numbers.specs.Choice.{taken, both-left, both-right, between-high}
 use Rattle.numbers.specs.All.{all, all-at}
-use Rattle.sheet.specs.Sizes.{editionOk, stepLimit, rankOk}
-use Rattle.sheet.specs.Layouts.{theLayout, layoutOk, dimensionsOk}
+use Rattle.sheet.specs.Sizes.{stepLimit}
+use Rattle.sheet.specs.Layouts.{theLayout, layoutOk}
 use Rattle.sheet.specs.Views.{theView, viewOk}
-use Rattle.sheet.specs.Sheets.{layoutAtOk, viewAtOk, stepAtOk, countsOk, writable}
+use Rattle.sheet.specs.Sheets.{layoutAtOk, viewAtOk, countsOk, writable}
 use Rattle.sheet.specs.declared.Layout.{Layout}
 use Rattle.sheet.specs.declared.View.{View}
 use Rattle.sheet.specs.declared.Sheet.{Sheet}

@@ -18,12 +18,14 @@ pub const HEAD: usize = 3;
 // The bytes of the edition's field.
 pub const EDITION_LEN: usize = 4;
 
+// Dimension count, clamp mode and clamp value take 6 bytes, each dimension 10.
 pub fn layout_len(l: Layout) -> u16
     ensures { λ r. ⌜ r ≡ length (layoutBytes l) ⌝ }
 {
     6 + numbers::wide(l.rank) * 10
 }
 
+// Dimension count, has-dimensions and the clip take 10 bytes, each permutation entry 1, each dimension of the view's own 4.
 pub fn view_len(v: View) -> u16
     ensures { λ r. ⌜ r ≡ length (viewBytes v) ⌝ }
 {
@@ -32,6 +34,7 @@ pub fn view_len(v: View) -> u16
     10 + numbers::wide(rank) + numbers::wide(sized) * 4
 }
 
+// By the table of "The sheet".
 pub fn step_len(s: Step) -> u16
     ensures { λ r. ⌜ r ≡ length (stepBytes s) ⌝ }
 {

@@ -1,23 +1,16 @@
-use denote.Ref.{now}
 use mathlib.Core.List.{[], _∷_, _++_}
+use native.Mathlib.Omega.{arith}
+use denote.Ref.{now}
+use borrow.Author.Needs.{needs}
 use lib.ListN.{length-append}
 use Rattle.numbers.specs.Lists.{each, puts-after}
+use Rattle.sheet_writer.specs.Bytes.{fieldBytes, layoutField, viewField, stepField, sheetBytes}
 use Rattle.sheet_writer.proofs.Puts.{puts-at}
 use Rattle.sheet_writer.proofs.Counts.{length-sheet}
 use Rattle.sheet_writer.proofs.Writable.{writable-counts, writable-layouts, writable-views}
-use Rattle.sheet_writer.specs.Bytes.{fieldBytes, layoutField, viewField, stepField, sheetBytes}
-use native.Mathlib.Omega.{arith}
-use borrow.Author.Needs.{needs}
 use Rattle.sheet_writer.proofs.put_sheet.Statement.{statement}
 use Rattle.sheet_writer.proofs.put_sheet.Tie as tie
-use Rattle.sheet_writer.proofs.put_sheet.Reads as reads
-use Rattle.sheet_writer.proofs.put_sheet.Lts as lts
-use Rattle.sheet_writer.proofs.fields.put_edition.Reads as put-edition-reads
-use Rattle.sheet_writer.proofs.put_layouts.Reads as put-layouts-reads
-use Rattle.sheet_writer.proofs.put_steps.Reads as put-steps-reads
-use Rattle.sheet_writer.proofs.put_views.Reads as put-views-reads
 
--- src/lib.rt:98:5
 put-edition-requires : tie.Need-put-edition-requires
 put-edition-requires c κs =
     let sh = c .before .before .before .before .before .args .model in
@@ -25,7 +18,6 @@ put-edition-requires c κs =
     let e = length-sheet sh in
     omega arith
 
--- src/lib.rt:99:9
 put-layouts-requires : tie.Need-put-layouts-requires
 put-layouts-requires c κs =
     let sh = c .before .before .before .before .before .before .before .before .before .args .model in
@@ -33,7 +25,6 @@ put-layouts-requires c κs =
     let e = length-sheet sh in
     ((writable-counts sh ok .0, writable-layouts sh ok), omega arith)
 
--- src/lib.rt:100:9
 put-views-requires : tie.Need-put-views-requires
 put-views-requires c κs =
     let sh = c .before .before .before .before .before .before .before .before .before .before .before .before .before .args .model in
@@ -41,7 +32,6 @@ put-views-requires c κs =
     let e = length-sheet sh in
     ((writable-counts sh ok .1 .0, writable-views sh ok), omega arith)
 
--- src/lib.rt:101:5
 put-steps-requires : tie.Need-put-steps-requires
 put-steps-requires c κs =
     let sh = c .before .before .before .before .before .before .before .before .before .before .before .before .before .before .before .before .before .args .model in
@@ -49,11 +39,9 @@ put-steps-requires c κs =
     let e = length-sheet sh in
     (writable-counts sh ok .1 .1, omega arith)
 
--- src/lib.rt:91:1
 same-length : tie.Need-same-length
 same-length c = search needs
 
--- src/lib.rt:91:1
 returns : tie.Need-returns
 unfolding sheetBytes fieldBytes
 returns c =

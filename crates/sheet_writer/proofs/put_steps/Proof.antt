@@ -1,13 +1,9 @@
 use Prim.Native.Nat.{_-_, _≤_}
-use Rattle.sheet_writer.proofs.Puts.{Turns, no-turns, one-turn, turn-fits, all-turns}
-use Rattle.sheet_writer.specs.Bytes.{stepField}
 use borrow.Author.Needs.{needs}
-use native.Mathlib.Omega.{arith}
+use Rattle.sheet_writer.specs.Bytes.{stepField}
+use Rattle.sheet_writer.proofs.Puts.{Turns, no-turns, one-turn, turn-fits, all-turns}
 use Rattle.sheet_writer.proofs.put_steps.Statement.{statement}
 use Rattle.sheet_writer.proofs.put_steps.Tie as tie
-use Rattle.sheet_writer.proofs.put_steps.Reads as reads
-use Rattle.sheet_writer.proofs.put_steps.Lts as lts
-use Rattle.sheet_writer.proofs.steps.put_step.Reads as put-step-reads
 
 abbrev Inv-loop : tie.InvT-loop
 Inv-loop out₀ at count cs p₀ k₀ out p k = (k ≤ count) × Turns out₀ at (stepField cs) out p k
@@ -15,39 +11,30 @@ Inv-loop out₀ at count cs p₀ k₀ out p k = (k ≤ count) × Turns out₀ at
 abbrev μ-loop : tie.MeasureT-loop
 μ-loop out₀ at count cs p₀ k₀ out p k = count - k
 
--- src/lib.rt:81:5
 loop-holds : tie.Need-loop-holds Inv-loop μ-loop
 loop-holds c = (search needs, no-turns _ _ _)
 
--- src/lib.rt:82:17
 mul-c : tie.Need-mul-c Inv-loop μ-loop
 mul-c c = search needs
 
--- src/lib.rt:82:17
 array-copy-out-c : tie.Need-array-copy-out-c Inv-loop μ-loop
 array-copy-out-c c = search needs
 
--- src/lib.rt:84:9
 put-step-requires : tie.Need-put-step-requires Inv-loop μ-loop
 put-step-requires c κs = turn-fits _ _ _ _ (c .before .before .before .loop .inv .1) (c .before .before .before .before .before .pre .1) (c .before .before .loop-test .taken)
 
--- src/lib.rt:85:9
 add-k : tie.Need-add-k Inv-loop μ-loop
 add-k c = search needs
 
--- src/lib.rt:81:5
 loop-less : tie.Need-loop-less Inv-loop μ-loop
 loop-less c = search needs
 
--- src/lib.rt:81:5
 loop-again : tie.Need-loop-again Inv-loop μ-loop
 loop-again c = (search needs, one-turn _ _ _ (c .before .before .before .before .before .before .loop .inv .1) (c .before .before .put-step .ensures .0) (c .before .before .put-step .ensures .1))
 
--- src/lib.rt:75:1
 same-length : tie.Need-same-length Inv-loop μ-loop
 same-length c = c .before .loop .inv .1 .kept
 
--- src/lib.rt:75:1
 returns : tie.Need-returns Inv-loop μ-loop
 returns c = all-turns _ _ _ _ (c .before .loop .inv .1) (c .before .loop .inv .0) (c .loop-test .left)
 

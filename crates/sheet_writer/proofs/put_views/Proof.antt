@@ -1,14 +1,10 @@
 use Prim.Native.Nat.{_-_, _≤_}
-use Rattle.sheet_writer.proofs.Puts.{Turns, no-turns, one-turn, turn-fits, all-turns}
-use Rattle.sheet_writer.specs.Bytes.{viewField}
-use Rattle.sheet_writer.proofs.Writable.{view-rank-at}
 use borrow.Author.Needs.{needs}
-use native.Mathlib.Omega.{arith}
+use Rattle.sheet_writer.specs.Bytes.{viewField}
+use Rattle.sheet_writer.proofs.Puts.{Turns, no-turns, one-turn, turn-fits, all-turns}
+use Rattle.sheet_writer.proofs.Writable.{view-rank-at}
 use Rattle.sheet_writer.proofs.put_views.Statement.{statement}
 use Rattle.sheet_writer.proofs.put_views.Tie as tie
-use Rattle.sheet_writer.proofs.put_views.Reads as reads
-use Rattle.sheet_writer.proofs.put_views.Lts as lts
-use Rattle.sheet_writer.proofs.fields.put_view.Reads as put-view-reads
 
 abbrev Inv-loop : tie.InvT-loop
 Inv-loop out₀ at count vs p₀ k₀ out p k = (k ≤ count) × Turns out₀ at (viewField vs) out p k
@@ -16,19 +12,15 @@ Inv-loop out₀ at count vs p₀ k₀ out p k = (k ≤ count) × Turns out₀ at
 abbrev μ-loop : tie.MeasureT-loop
 μ-loop out₀ at count vs p₀ k₀ out p k = count - k
 
--- src/lib.rt:67:5
 loop-holds : tie.Need-loop-holds Inv-loop μ-loop
 loop-holds c = (search needs, no-turns _ _ _)
 
--- src/lib.rt:68:17
 mul-v : tie.Need-mul-v Inv-loop μ-loop
 mul-v c = search needs
 
--- src/lib.rt:68:17
 array-copy-out-v : tie.Need-array-copy-out-v Inv-loop μ-loop
 array-copy-out-v c = search needs
 
--- src/lib.rt:69:9
 put-view-requires : tie.Need-put-view-requires Inv-loop μ-loop
 put-view-requires c κs =
     let a = c .before .before .before .before .before .args in
@@ -37,23 +29,18 @@ put-view-requires c κs =
       turn-fits _ _ _ _ (c .before .before .before .loop .inv .1) (c .before .before .before .before .before .pre .1) (c .before .before .loop-test .taken),
     )
 
--- src/lib.rt:70:9
 add-k : tie.Need-add-k Inv-loop μ-loop
 add-k c = search needs
 
--- src/lib.rt:67:5
 loop-less : tie.Need-loop-less Inv-loop μ-loop
 loop-less c = search needs
 
--- src/lib.rt:67:5
 loop-again : tie.Need-loop-again Inv-loop μ-loop
 loop-again c = (search needs, one-turn _ _ _ (c .before .before .before .before .before .before .loop .inv .1) (c .before .before .put-view .ensures .0) (c .before .before .put-view .ensures .1))
 
--- src/lib.rt:61:1
 same-length : tie.Need-same-length Inv-loop μ-loop
 same-length c = c .before .loop .inv .1 .kept
 
--- src/lib.rt:61:1
 returns : tie.Need-returns Inv-loop μ-loop
 returns c = all-turns _ _ _ _ (c .before .loop .inv .1) (c .before .loop .inv .0) (c .loop-test .left)
 

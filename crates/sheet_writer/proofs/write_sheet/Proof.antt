@@ -1,42 +1,29 @@
 use mathlib.Core.Path.{refl}
 use borrow.Author.Tests.{le-leb, lt-leb}
+use borrow.Author.Needs.{needs}
 use Rattle.numbers.specs.Choice.{taken, left, went-not, went-past}
 use Rattle.sheet_writer.specs.Writing.{written, writtenRoom}
-use native.Mathlib.Omega.{arith}
-use borrow.Author.Needs.{needs}
 use Rattle.sheet_writer.proofs.write_sheet.Statement.{statement}
 use Rattle.sheet_writer.proofs.write_sheet.Tie as tie
-use Rattle.sheet_writer.proofs.write_sheet.Reads as reads
-use Rattle.sheet_writer.proofs.write_sheet.Lts as lts
-use Rattle.sheet.proofs.sheets.writable.Reads as writable-reads
-use Rattle.sheet_writer.proofs.answer.Reads as answer-reads
-use Rattle.sheet_writer.proofs.lengths.sheet_len.Reads as sheet-len-reads
-use Rattle.sheet_writer.proofs.put_sheet.Reads as put-sheet-reads
 
--- src/lib.rt:107:9
 writable-requires : tie.Need-writable-requires
 writable-requires c κs = search needs
 
--- src/lib.rt:108:9
 answer-requires : tie.Need-answer-requires
 answer-requires c κs = search needs
 
--- src/lib.rt:108:9
 returns : tie.Need-returns
 unfolding written writtenRoom
 returns c =
     let bad = went-not (c .before .before .writable .ensures) (c .before .if1 .taken) in
     (left _ bad (c .answer .ensures), left _ bad refl)
 
--- src/lib.rt:110:20
 sheet-len-requires : tie.Need-sheet-len-requires
 sheet-len-requires c κs = went-past (c .before .writable .ensures) (c .if1 .left)
 
--- src/lib.rt:111:9
 answer-requires-2 : tie.Need-answer-requires-2
 answer-requires-2 c κs = search needs
 
--- src/lib.rt:111:9
 returns-2 : tie.Need-returns-2
 unfolding written writtenRoom
 returns-2 c =
@@ -44,19 +31,15 @@ returns-2 c =
     let short = lt-leb _ _ (rw (c .before .before .sheet-len .ensures) at (c .before .if2 .taken)) in
     (taken _ ok (left _ short (c .answer2 .ensures)), taken _ ok (left _ short refl))
 
--- src/lib.rt:113:9
 put-sheet-requires : tie.Need-put-sheet-requires
 put-sheet-requires c κs = (went-past (c .before .before .before .before .writable .ensures) (c .before .before .before .if1 .left), rw (c .before .before .sheet-len .ensures) at (c .before .if2 .left))
 
--- src/lib.rt:114:5
 answer-requires-3 : tie.Need-answer-requires-3
 answer-requires-3 c κs = search needs
 
--- src/lib.rt:104:1
 same-length : tie.Need-same-length
 same-length c = search needs
 
--- src/lib.rt:104:1
 returns-3 : tie.Need-returns-3
 unfolding written writtenRoom
 returns-3 c =

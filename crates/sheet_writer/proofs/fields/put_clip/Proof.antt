@@ -1,32 +1,23 @@
 use denote.Ref.{now}
+use borrow.Author.Needs.{needs}
 use Rattle.numbers.specs.Lists.{puts-after}
 use Rattle.numbers.specs.Little.{u16Bytes}
 use Rattle.sheet_writer.specs.Bytes.{clipBytes}
-use native.Mathlib.Omega.{arith}
-use borrow.Author.Needs.{needs}
 use Rattle.sheet_writer.proofs.fields.put_clip.Statement.{statement}
 use Rattle.sheet_writer.proofs.fields.put_clip.Tie as tie
-use Rattle.sheet_writer.proofs.fields.put_clip.Reads as reads
-use Rattle.sheet_writer.proofs.fields.put_clip.Lts as lts
-use Rattle.numbers.proofs.put_u16.Reads as put-u16-reads
 
--- src/fields.rt:141:5
 put-u16-requires : tie.Need-put-u16-requires
 put-u16-requires c κs = search needs
 
--- src/fields.rt:142:27
 add-put-u16 : tie.Need-add-put-u16
 add-put-u16 c = search needs
 
--- src/fields.rt:142:5
 put-u16-requires-2 : tie.Need-put-u16-requires-2
 put-u16-requires-2 c κs = search needs
 
--- src/fields.rt:137:1
 same-length : tie.Need-same-length
 same-length c = search needs
 
--- src/fields.rt:137:1
 returns : tie.Need-returns
 unfolding clipBytes
 returns c =

@@ -1,57 +1,42 @@
+use mathlib.Core.List.{_++_}
 use denote.Ref.{now}
+use borrow.Author.Needs.{needs}
 use Rattle.numbers.specs.Lists.{puts-after}
 use Rattle.numbers.specs.Little.{u16Bytes}
-use mathlib.Core.List.{[], _∷_, _++_}
 use Rattle.sheet_writer.specs.Bytes.{dimensionBytes}
-use native.Mathlib.Omega.{arith}
-use borrow.Author.Needs.{needs}
 use Rattle.sheet_writer.proofs.fields.put_dimension.Statement.{statement}
 use Rattle.sheet_writer.proofs.fields.put_dimension.Tie as tie
-use Rattle.sheet_writer.proofs.fields.put_dimension.Reads as reads
-use Rattle.sheet_writer.proofs.fields.put_dimension.Lts as lts
-use Rattle.numbers.proofs.put_u16.Reads as put-u16-reads
 
--- src/fields.rt:55:5
 put-u16-requires : tie.Need-put-u16-requires
 put-u16-requires c κs = search needs
 
--- src/fields.rt:56:27
 add-put-u16 : tie.Need-add-put-u16
 add-put-u16 c = search needs
 
--- src/fields.rt:56:5
 put-u16-requires-2 : tie.Need-put-u16-requires-2
 put-u16-requires-2 c κs = search needs
 
--- src/fields.rt:57:27
 add-put-u16-2 : tie.Need-add-put-u16-2
 add-put-u16-2 c = search needs
 
--- src/fields.rt:57:5
 put-u16-requires-3 : tie.Need-put-u16-requires-3
 put-u16-requires-3 c κs = search needs
 
--- src/fields.rt:58:27
 add-put-u16-3 : tie.Need-add-put-u16-3
 add-put-u16-3 c = search needs
 
--- src/fields.rt:58:5
 put-u16-requires-4 : tie.Need-put-u16-requires-4
 put-u16-requires-4 c κs = search needs
 
--- src/fields.rt:59:27
 add-put-u16-4 : tie.Need-add-put-u16-4
 add-put-u16-4 c = search needs
 
--- src/fields.rt:59:5
 put-u16-requires-5 : tie.Need-put-u16-requires-5
 put-u16-requires-5 c κs = search needs
 
--- src/fields.rt:51:1
 same-length : tie.Need-same-length
 same-length c = search needs
 
--- src/fields.rt:51:1
 returns : tie.Need-returns
 unfolding dimensionBytes
 returns c =

@@ -1,15 +1,12 @@
+use Prim.Native.Nat.{ℕ, _-_, _≤_}
+use native.Mathlib.Omega.{arith}
+use borrow.Author.Needs.{needs}
 use Rattle.sheet.specs.Layouts.{theDimension}
 use Rattle.sheet_writer.specs.Bytes.{dimensionBytes}
 use Rattle.sheet_writer.proofs.Puts.{Turns, no-turns, one-turn, turn-fits, all-turns}
 use Rattle.sheet_writer.proofs.Counts.{length-dimension}
-use Prim.Native.Nat.{ℕ, _+_, _-_, _≤_}
-use borrow.Author.Needs.{needs}
-use native.Mathlib.Omega.{arith}
 use Rattle.sheet_writer.proofs.fields.put_dimensions.Statement.{statement}
 use Rattle.sheet_writer.proofs.fields.put_dimensions.Tie as tie
-use Rattle.sheet_writer.proofs.fields.put_dimensions.Reads as reads
-use Rattle.sheet_writer.proofs.fields.put_dimensions.Lts as lts
-use Rattle.sheet_writer.proofs.fields.put_dimension.Reads as put-dimension-reads
 
 abbrev Inv-loop : tie.InvT-loop
 Inv-loop out₀ at rank ds n p₀ k₀ out p k = (k ≤ rank) × Turns out₀ at (λ (j : ℕ). dimensionBytes (theDimension ds j)) out p k
@@ -17,51 +14,41 @@ Inv-loop out₀ at rank ds n p₀ k₀ out p k = (k ≤ rank) × Turns out₀ at
 abbrev μ-loop : tie.MeasureT-loop
 μ-loop out₀ at rank ds n p₀ k₀ out p k = rank - k
 
--- src/fields.rt:69:5
 loop-holds : tie.Need-loop-holds Inv-loop μ-loop
 loop-holds c = (search needs, no-turns _ _ _)
 
--- src/fields.rt:70:17
 mul-d : tie.Need-mul-d Inv-loop μ-loop
 mul-d c = search needs
 
--- src/fields.rt:70:17
 array-copy-out-d : tie.Need-array-copy-out-d Inv-loop μ-loop
 array-copy-out-d c = search needs
 
--- src/fields.rt:71:9
 put-dimension-requires : tie.Need-put-dimension-requires Inv-loop μ-loop
 put-dimension-requires c κs =
     let t = turn-fits _ _ _ _ (c .before .before .before .loop .inv .1) (c .before .before .before .before .before .pre .1) (c .before .before .loop-test .taken) in
     let e = length-dimension (theDimension (c .before .before .before .before .before .args .t4) (c .before .before .before .loop .k)) in
     omega arith
 
--- src/fields.rt:72:9
 add-p : tie.Need-add-p Inv-loop μ-loop
 add-p c =
     let t = turn-fits _ _ _ _ (c .before .before .before .before .before .before .loop .inv .1) (c .before .before .before .before .before .before .before .before .pre .1) (c .before .before .before .before .before .loop-test .taken) in
     let e = length-dimension (theDimension (c .before .before .before .before .before .before .before .before .args .t4) (c .before .before .before .before .before .before .loop .k)) in
     search needs
 
--- src/fields.rt:73:9
 add-k : tie.Need-add-k Inv-loop μ-loop
 add-k c = search needs
 
--- src/fields.rt:69:5
 loop-less : tie.Need-loop-less Inv-loop μ-loop
 loop-less c = search needs
 
--- src/fields.rt:69:5
 loop-again : tie.Need-loop-again Inv-loop μ-loop
 loop-again c =
     let e = length-dimension (theDimension (c .before .before .before .before .before .before .before .before .args .t4) (c .before .before .before .before .before .before .loop .k)) in
     (search needs, one-turn _ _ _ (c .before .before .before .before .before .before .loop .inv .1) (rw e) (c .before .before .put-dimension .ensures))
 
--- src/fields.rt:62:1
 same-length : tie.Need-same-length Inv-loop μ-loop
 same-length c = c .before .loop .inv .1 .kept
 
--- src/fields.rt:62:1
 returns : tie.Need-returns Inv-loop μ-loop
 returns c = all-turns _ _ _ _ (c .before .loop .inv .1) (c .before .loop .inv .0) (c .loop-test .left) .1
 

@@ -1,37 +1,28 @@
-use mathlib.Core.Path.{_∙_}
+use mathlib.Core.Path.{_∙_, refl}
+use mathlib.Core.List.{[], _∷_}
+use native.Mathlib.Omega.{arith}
 use denote.Ref.{now}
-use lib.ListN.{length, length-set}
+use borrow.Author.Needs.{needs}
+use lib.ListN.{length-set}
 use Rattle.numbers.specs.Lists.{puts-after}
 use Rattle.numbers.specs.Little.{u16Bytes}
-use mathlib.Core.List.{[], _∷_, _++_}
-use mathlib.Core.Path.{refl}
-use native.Mathlib.Omega.{arith}
-use borrow.Author.Needs.{needs}
 use Rattle.sheet_writer.proofs.fields.put_head.Statement.{statement}
 use Rattle.sheet_writer.proofs.fields.put_head.Tie as tie
-use Rattle.sheet_writer.proofs.fields.put_head.Reads as reads
-use Rattle.sheet_writer.proofs.fields.put_head.Lts as lts
-use Rattle.numbers.proofs.put_u16.Reads as put-u16-reads
 
--- src/fields.rt:39:5
 slice-write-out : tie.Need-slice-write-out
 slice-write-out c = search needs
 
--- src/fields.rt:40:27
 add-put-u16 : tie.Need-add-put-u16
 add-put-u16 c = search needs
 
--- src/fields.rt:40:5
 put-u16-requires : tie.Need-put-u16-requires
 put-u16-requires c κs = simp length-set (omega arith)
 
--- src/fields.rt:35:1
 same-length : tie.Need-same-length
 same-length c =
     let a = c .before .before .before .before .before .args in
     c .before .before .put-u16 .kept .0 ∙ length-set (now (a .out)) (a .at) (a .tag)
 
--- src/fields.rt:35:1
 returns : tie.Need-returns
 returns c =
     let a = c .before .before .before .before .before .args in

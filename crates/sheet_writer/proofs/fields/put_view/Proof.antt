@@ -1,53 +1,39 @@
+use native.Mathlib.Omega.{arith}
 use denote.Ref.{now}
+use borrow.Author.Needs.{needs}
+use Rattle.sheet_writer.specs.Bytes.{viewBytes}
 use Rattle.sheet_writer.proofs.Puts.{field-put}
 use Rattle.sheet_writer.proofs.Counts.{length-field}
-use Rattle.sheet_writer.specs.Bytes.{viewBytes}
-use native.Mathlib.Omega.{arith}
-use borrow.Author.Needs.{needs}
 use Rattle.sheet_writer.proofs.fields.put_view.Statement.{statement}
 use Rattle.sheet_writer.proofs.fields.put_view.Tie as tie
-use Rattle.sheet_writer.proofs.fields.put_view.Reads as reads
-use Rattle.sheet_writer.proofs.fields.put_view.Lts as lts
-use Rattle.sheet_writer.proofs.fields.put_head.Reads as put-head-reads
-use Rattle.sheet_writer.proofs.fields.put_view_content.Reads as put-view-content-reads
-use Rattle.sheet_writer.proofs.lengths.field_len.Reads as field-len-reads
-use Rattle.sheet_writer.proofs.lengths.view_len.Reads as view-len-reads
 
--- src/fields.rt:175:9
 view-len-requires : tie.Need-view-len-requires
 view-len-requires c κs = search needs
 
--- src/fields.rt:176:5
 put-head-requires : tie.Need-put-head-requires
 put-head-requires c κs =
     let x = c .before .before .before .args .v in
     let e = length-field 0x11 (viewBytes x) in
     omega arith
 
--- src/fields.rt:177:27
 add-put-view-content : tie.Need-add-put-view-content
 add-put-view-content c = search needs
 
--- src/fields.rt:177:5
 put-view-content-requires : tie.Need-put-view-content-requires
 put-view-content-requires c κs =
     let x = c .before .before .before .before .before .before .before .args .v in
     let e = length-field 0x11 (viewBytes x) in
     (c .before .before .before .before .before .before .before .pre .0, omega arith)
 
--- src/fields.rt:178:10
 field-len-requires : tie.Need-field-len-requires
 field-len-requires c κs = search needs
 
--- src/fields.rt:178:5
 add-result : tie.Need-add-result
 add-result c = search needs
 
--- src/fields.rt:171:1
 same-length : tie.Need-same-length
 same-length c = search needs
 
--- src/fields.rt:171:1
 returns : tie.Need-returns
 returns c =
     let a = c .before .before .before .before .before .before .before .before .before .before .before .args in

@@ -1,18 +1,12 @@
 use Rattle.numbers.specs.Choice.{calls}
 use Rattle.sheet_writer.specs.Bytes.{sizedCode}
-use borrow.Author.Needs.{needs}
-use native.Mathlib.Omega.{arith}
 use Rattle.sheet_writer.proofs.fields.sized_code.Statement.{statement}
 use Rattle.sheet_writer.proofs.fields.sized_code.Tie as tie
-use Rattle.sheet_writer.proofs.fields.sized_code.Reads as reads
-use Rattle.sheet_writer.proofs.fields.sized_code.Lts as lts
 
--- src/fields.rt:145:1
 returns : tie.Need-returns
 unfolding sizedCode
 returns c = search calls
 
--- src/fields.rt:145:1
 returns-2 : tie.Need-returns-2
 unfolding sizedCode
 returns-2 c = search calls

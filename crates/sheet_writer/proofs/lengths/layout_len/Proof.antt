@@ -1,25 +1,18 @@
-use Rattle.sheet_writer.proofs.Counts.{length-layout}
 use native.Mathlib.Omega.{arith}
 use borrow.Author.Needs.{needs}
+use Rattle.sheet_writer.proofs.Counts.{length-layout}
 use Rattle.sheet_writer.proofs.lengths.layout_len.Statement.{statement}
 use Rattle.sheet_writer.proofs.lengths.layout_len.Tie as tie
-use Rattle.sheet_writer.proofs.lengths.layout_len.Reads as reads
-use Rattle.sheet_writer.proofs.lengths.layout_len.Lts as lts
-use Rattle.numbers.proofs.wide.Reads as wide-reads
 
--- src/lengths.rt:22:9
 wide-requires : tie.Need-wide-requires
 wide-requires c κs = search needs
 
--- src/lengths.rt:22:9
 mul-result : tie.Need-mul-result
 mul-result c = search needs
 
--- src/lengths.rt:22:5
 add-result : tie.Need-add-result
 add-result c = search needs
 
--- src/lengths.rt:19:1
 returns : tie.Need-returns
 returns c = let e = length-layout (c .before .args .l) in omega arith
 

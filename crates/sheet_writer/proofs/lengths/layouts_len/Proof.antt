@@ -1,18 +1,14 @@
-use Prim.Native.Nat.{_+_, _-_, _*_, _≤_}
+use Prim.Native.Nat.{_-_, _*_, _≤_}
 use mathlib.Core.Path.{_≡_, refl}
+use native.Mathlib.Omega.{arith}
+use borrow.Author.Needs.{needs}
 use lib.ListN.{length}
 use Rattle.numbers.specs.Lists.{each, length-each-more}
-use Rattle.sheet_writer.proofs.Counts.{length-field}
 use Rattle.sheet.specs.Layouts.{theLayout}
 use Rattle.sheet_writer.specs.Bytes.{layoutBytes, layoutField}
-use borrow.Author.Needs.{needs}
-use native.Mathlib.Omega.{arith}
+use Rattle.sheet_writer.proofs.Counts.{length-field}
 use Rattle.sheet_writer.proofs.lengths.layouts_len.Statement.{statement}
 use Rattle.sheet_writer.proofs.lengths.layouts_len.Tie as tie
-use Rattle.sheet_writer.proofs.lengths.layouts_len.Reads as reads
-use Rattle.sheet_writer.proofs.lengths.layouts_len.Lts as lts
-use Rattle.sheet_writer.proofs.lengths.field_len.Reads as field-len-reads
-use Rattle.sheet_writer.proofs.lengths.layout_len.Reads as layout-len-reads
 
 abbrev Inv-loop : tie.InvT-loop
 Inv-loop count ls total₀ k₀ total k = (k ≤ count) × ((total ≡ length (each k (layoutField ls))) × (total ≤ k * 65538))
@@ -20,40 +16,31 @@ Inv-loop count ls total₀ k₀ total k = (k ≤ count) × ((total ≡ length (e
 abbrev μ-loop : tie.MeasureT-loop
 μ-loop count ls total₀ k₀ total k = count - k
 
--- src/lengths.rt:92:5
 loop-holds : tie.Need-loop-holds Inv-loop μ-loop
 unfolding each
 loop-holds c = (search needs, (refl, search needs))
 
--- src/lengths.rt:93:17
 mul-l : tie.Need-mul-l Inv-loop μ-loop
 mul-l c = search needs
 
--- src/lengths.rt:93:17
 array-copy-out-l : tie.Need-array-copy-out-l Inv-loop μ-loop
 array-copy-out-l c = search needs
 
--- src/lengths.rt:94:28
 layout-len-requires : tie.Need-layout-len-requires Inv-loop μ-loop
 layout-len-requires c κs = search needs
 
--- src/lengths.rt:94:18
 field-len-requires : tie.Need-field-len-requires Inv-loop μ-loop
 field-len-requires c κs = search needs
 
--- src/lengths.rt:94:9
 add-total : tie.Need-add-total Inv-loop μ-loop
 add-total c = search needs
 
--- src/lengths.rt:95:9
 add-k : tie.Need-add-k Inv-loop μ-loop
 add-k c = search needs
 
--- src/lengths.rt:92:5
 loop-less : tie.Need-loop-less Inv-loop μ-loop
 loop-less c = search needs
 
--- src/lengths.rt:92:5
 loop-again : tie.Need-loop-again Inv-loop μ-loop
 loop-again c =
     let i = c .before .before .before .before .loop in
@@ -62,7 +49,6 @@ loop-again c =
     let len = length-field 0x10 (layoutBytes (theLayout ls (i .k))) in
     search needs
 
--- src/lengths.rt:86:1
 returns : tie.Need-returns Inv-loop μ-loop
 returns c =
     let i = c .before .loop in

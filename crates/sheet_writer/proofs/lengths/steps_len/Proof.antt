@@ -1,18 +1,14 @@
-use Prim.Native.Nat.{_+_, _-_, _*_, _≤_}
+use Prim.Native.Nat.{_-_, _*_, _≤_}
 use mathlib.Core.Path.{_≡_, refl}
+use native.Mathlib.Omega.{arith}
+use borrow.Author.Needs.{needs}
 use lib.ListN.{length}
 use Rattle.numbers.specs.Lists.{each, length-each-more}
-use Rattle.sheet_writer.proofs.Counts.{length-field}
 use Rattle.sheet.specs.Steps.{theStep}
 use Rattle.sheet_writer.specs.Bytes.{stepTag, stepBytes, stepField}
-use borrow.Author.Needs.{needs}
-use native.Mathlib.Omega.{arith}
+use Rattle.sheet_writer.proofs.Counts.{length-field}
 use Rattle.sheet_writer.proofs.lengths.steps_len.Statement.{statement}
 use Rattle.sheet_writer.proofs.lengths.steps_len.Tie as tie
-use Rattle.sheet_writer.proofs.lengths.steps_len.Reads as reads
-use Rattle.sheet_writer.proofs.lengths.steps_len.Lts as lts
-use Rattle.sheet_writer.proofs.lengths.field_len.Reads as field-len-reads
-use Rattle.sheet_writer.proofs.lengths.step_len.Reads as step-len-reads
 
 abbrev Inv-loop : tie.InvT-loop
 Inv-loop count cs total₀ k₀ total k = (k ≤ count) × ((total ≡ length (each k (stepField cs))) × (total ≤ k * 65538))
@@ -20,40 +16,31 @@ Inv-loop count cs total₀ k₀ total k = (k ≤ count) × ((total ≡ length (e
 abbrev μ-loop : tie.MeasureT-loop
 μ-loop count cs total₀ k₀ total k = count - k
 
--- src/lengths.rt:120:5
 loop-holds : tie.Need-loop-holds Inv-loop μ-loop
 unfolding each
 loop-holds c = (search needs, (refl, search needs))
 
--- src/lengths.rt:121:17
 mul-c : tie.Need-mul-c Inv-loop μ-loop
 mul-c c = search needs
 
--- src/lengths.rt:121:17
 array-copy-out-c : tie.Need-array-copy-out-c Inv-loop μ-loop
 array-copy-out-c c = search needs
 
--- src/lengths.rt:123:28
 step-len-requires : tie.Need-step-len-requires Inv-loop μ-loop
 step-len-requires c κs = search needs
 
--- src/lengths.rt:123:18
 field-len-requires : tie.Need-field-len-requires Inv-loop μ-loop
 field-len-requires c κs = search needs
 
--- src/lengths.rt:123:9
 add-total : tie.Need-add-total Inv-loop μ-loop
 add-total c = search needs
 
--- src/lengths.rt:124:9
 add-k : tie.Need-add-k Inv-loop μ-loop
 add-k c = search needs
 
--- src/lengths.rt:120:5
 loop-less : tie.Need-loop-less Inv-loop μ-loop
 loop-less c = search needs
 
--- src/lengths.rt:120:5
 loop-again : tie.Need-loop-again Inv-loop μ-loop
 loop-again c =
     let i = c .before .before .before .before .loop in
@@ -62,7 +49,6 @@ loop-again c =
     let len = length-field (stepTag (theStep ls (i .k))) (stepBytes (theStep ls (i .k))) in
     search needs
 
--- src/lengths.rt:114:1
 returns : tie.Need-returns Inv-loop μ-loop
 returns c =
     let i = c .before .loop in

@@ -1,38 +1,27 @@
-use Rattle.sheet_writer.proofs.Counts.{length-view}
 use native.Mathlib.Omega.{arith}
 use borrow.Author.Needs.{needs}
+use Rattle.sheet_writer.proofs.Counts.{length-view}
 use Rattle.sheet_writer.proofs.lengths.view_len.Statement.{statement}
 use Rattle.sheet_writer.proofs.lengths.view_len.Tie as tie
-use Rattle.sheet_writer.proofs.lengths.view_len.Reads as reads
-use Rattle.sheet_writer.proofs.lengths.view_len.Lts as lts
-use Rattle.numbers.proofs.wide.Reads as wide-reads
-use Rattle.sheet.proofs.views.sized_rank.Reads as sized-rank-reads
 
--- src/lengths.rt:29:9
 sized-rank-requires : tie.Need-sized-rank-requires
 sized-rank-requires c κs = search needs
 
--- src/lengths.rt:30:10
 wide-requires : tie.Need-wide-requires
 wide-requires c κs = search needs
 
--- src/lengths.rt:30:5
 add-result : tie.Need-add-result
 add-result c = search needs
 
--- src/lengths.rt:30:32
 wide-requires-2 : tie.Need-wide-requires-2
 wide-requires-2 c κs = search needs
 
--- src/lengths.rt:30:32
 mul-result : tie.Need-mul-result
 mul-result c = search needs
 
--- src/lengths.rt:30:5
 add-result-2 : tie.Need-add-result-2
 add-result-2 c = search needs
 
--- src/lengths.rt:25:1
 returns : tie.Need-returns
 returns c = let e = length-view (c .before .before .before .args .v) in omega arith
 

@@ -1,31 +1,22 @@
+use mathlib.Core.List.{[], _∷_}
 use denote.Ref.{now}
-use Rattle.numbers.specs.Lists.{puts-after}
-use mathlib.Core.List.{[], _∷_, _++_}
-use native.Mathlib.Omega.{arith}
 use borrow.Author.Needs.{needs}
+use Rattle.numbers.specs.Lists.{puts-after}
 use Rattle.sheet_writer.proofs.steps.put_four.Statement.{statement}
 use Rattle.sheet_writer.proofs.steps.put_four.Tie as tie
-use Rattle.sheet_writer.proofs.steps.put_four.Reads as reads
-use Rattle.sheet_writer.proofs.steps.put_four.Lts as lts
-use Rattle.sheet_writer.proofs.fields.put_pair.Reads as put-pair-reads
 
--- src/steps.rt:68:5
 put-pair-requires : tie.Need-put-pair-requires
 put-pair-requires c κs = search needs
 
--- src/steps.rt:69:27
 add-put-pair : tie.Need-add-put-pair
 add-put-pair c = search needs
 
--- src/steps.rt:69:5
 put-pair-requires-2 : tie.Need-put-pair-requires-2
 put-pair-requires-2 c κs = search needs
 
--- src/steps.rt:64:1
 same-length : tie.Need-same-length
 same-length c = search needs
 
--- src/steps.rt:64:1
 returns : tie.Need-returns
 returns c =
     let a = c .before .before .before .before .before .before .before .before .before .args in

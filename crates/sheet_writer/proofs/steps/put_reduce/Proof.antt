@@ -1,43 +1,29 @@
+use mathlib.Core.List.{[], _∷_}
 use denote.Ref.{now}
-use Rattle.numbers.specs.Lists.{puts-after}
-use mathlib.Core.List.{[], _∷_, _++_}
-use Rattle.sheet.specs.Codes.{reduceCode, combineCode}
-use native.Mathlib.Omega.{arith}
 use borrow.Author.Needs.{needs}
+use Rattle.numbers.specs.Lists.{puts-after}
+use Rattle.sheet.specs.Codes.{reduceCode, combineCode}
 use Rattle.sheet_writer.proofs.steps.put_reduce.Statement.{statement}
 use Rattle.sheet_writer.proofs.steps.put_reduce.Tie as tie
-use Rattle.sheet_writer.proofs.steps.put_reduce.Reads as reads
-use Rattle.sheet_writer.proofs.steps.put_reduce.Lts as lts
-use Rattle.sheet.proofs.codes.combine_code.Reads as combine-code-reads
-use Rattle.sheet.proofs.codes.reduce_code.Reads as reduce-code-reads
-use Rattle.sheet_writer.proofs.fields.put_pair.Reads as put-pair-reads
-use Rattle.sheet_writer.proofs.steps.put_four.Reads as put-four-reads
 
--- src/steps.rt:103:5
 put-four-requires : tie.Need-put-four-requires
 put-four-requires c κs = search needs
 
--- src/steps.rt:104:27
 add-put-pair : tie.Need-add-put-pair
 add-put-pair c = search needs
 
--- src/steps.rt:104:35
 reduce-code-requires : tie.Need-reduce-code-requires
 reduce-code-requires c κs = search needs
 
--- src/steps.rt:104:61
 combine-code-requires : tie.Need-combine-code-requires
 combine-code-requires c κs = search needs
 
--- src/steps.rt:104:5
 put-pair-requires : tie.Need-put-pair-requires
 put-pair-requires c κs = search needs
 
--- src/steps.rt:90:1
 same-length : tie.Need-same-length
 same-length c = search needs
 
--- src/steps.rt:90:1
 returns : tie.Need-returns
 returns c =
     let a = c .before .before .before .before .before .before .before .before .before .before .before .args in

@@ -1,58 +1,42 @@
+use native.Mathlib.Omega.{arith}
 use denote.Ref.{now}
+use borrow.Author.Needs.{needs}
+use Rattle.sheet_writer.specs.Bytes.{stepBytes, stepTag}
 use Rattle.sheet_writer.proofs.Puts.{field-put}
 use Rattle.sheet_writer.proofs.Counts.{length-field}
-use Rattle.sheet_writer.specs.Bytes.{stepBytes, stepTag}
-use native.Mathlib.Omega.{arith}
-use borrow.Author.Needs.{needs}
 use Rattle.sheet_writer.proofs.steps.put_step.Statement.{statement}
 use Rattle.sheet_writer.proofs.steps.put_step.Tie as tie
-use Rattle.sheet_writer.proofs.steps.put_step.Reads as reads
-use Rattle.sheet_writer.proofs.steps.put_step.Lts as lts
-use Rattle.sheet_writer.proofs.fields.put_head.Reads as put-head-reads
-use Rattle.sheet_writer.proofs.lengths.field_len.Reads as field-len-reads
-use Rattle.sheet_writer.proofs.lengths.step_len.Reads as step-len-reads
-use Rattle.sheet_writer.proofs.steps.put_step_content.Reads as put-step-content-reads
-use Rattle.sheet_writer.proofs.steps.step_tag.Reads as step-tag-reads
 
--- src/steps.rt:151:9
 step-len-requires : tie.Need-step-len-requires
 step-len-requires c κs = search needs
 
--- src/steps.rt:152:31
 step-tag-requires : tie.Need-step-tag-requires
 step-tag-requires c κs = search needs
 
--- src/steps.rt:152:5
 put-head-requires : tie.Need-put-head-requires
 put-head-requires c κs =
     let x = c .before .before .before .before .args .s in
     let e = length-field (stepTag x) (stepBytes x) in
     omega arith
 
--- src/steps.rt:153:27
 add-put-step-content : tie.Need-add-put-step-content
 add-put-step-content c = search needs
 
--- src/steps.rt:153:5
 put-step-content-requires : tie.Need-put-step-content-requires
 put-step-content-requires c κs =
     let x = c .before .before .before .before .before .before .before .before .args .s in
     let e = length-field (stepTag x) (stepBytes x) in
     omega arith
 
--- src/steps.rt:154:10
 field-len-requires : tie.Need-field-len-requires
 field-len-requires c κs = search needs
 
--- src/steps.rt:154:5
 add-result : tie.Need-add-result
 add-result c = search needs
 
--- src/steps.rt:147:1
 same-length : tie.Need-same-length
 same-length c = search needs
 
--- src/steps.rt:147:1
 returns : tie.Need-returns
 returns c =
     let a = c .before .before .before .before .before .before .before .before .before .before .before .before .args in
