@@ -14,7 +14,7 @@ use Rattle.numbers.specs.Choice.{pick, both, both-left, both-right}
 use Rattle.numbers.specs.All.{all}
 use Rattle.numbers.specs.Little.{u16At}
 use Rattle.numbers.specs.Lists.{each}
-use Rattle.numbers.specs.Places.{by-place, by-order, Held, held-none, held-more}
+use Rattle.numbers.specs.Places.{none-all, set-keeps, Held, held-none, held-more}
 use Rattle.sheet.specs.Sizes.{stepLimit}
 use Rattle.sheet.specs.Layouts.{noDimension, noLayout, theLayout, layoutOk, layoutUnused, dimensionAtOk, dimensionUnused}
 use Rattle.sheet.specs.Views.{noViewDimension, noClip, noView, theView, viewOk, viewUnused, entryOk, viewDimensionAtOk, viewDimensionUnused, clipUnused}
@@ -63,11 +63,6 @@ module _ (s : List ℕ) (at : ℕ) (sh sh′ : Sheet) (tag : ℕ) (content : Lis
       rw more
       (has-join s 0 (sheetBytes sh) (fieldBytes tag content) (g .stands b)
       (has-at s at (0 + length (sheetBytes sh)) (fieldBytes tag content) q (field-stands s at tag content b t e (h b))))
-
--- what holds of a place and of what was put there
-set-keeps : {A : Type 0} (P : A → Type 0) (d : A) (xs : List A) (n : ℕ) (x : A) → n < length xs → P x → (k : ℕ) → P (getD xs k d) → P (getD (set xs n x) k d)
-set-keeps P d xs n x h p k q =
-    by-place k n (λ e. rw (e, getD-set-same xs n x d h) p) (λ e. rw (getD-set-other xs n k x d e) q)
 
 -- steps that are not given stay so under other counts
 steps-none : (edition layouts views layouts′ views′ count : ℕ) (cs : List Cell) → count ≡ 0 → StepsHeld edition layouts views count cs → StepsHeld edition layouts′ views′ count cs
@@ -222,27 +217,19 @@ module _ (s : List ℕ) (at : ℕ) (sh : Sheet) (g : Grown s at sh) where
         stands = stands-more s at sh (withStep sh st .sheet) (stepTag st) (stepBytes st) g more long (sym (r .tagged)) (r .stands);
       }
 
--- what holds of none and of what stands past the end holds at every place of a list of none
-all-none : {A : Type 0} (P : A → Type 0) (N : ℕ) (none d : A) → P none → P d → (k : ℕ) → P (getD (replicate N none) k d)
-all-none P N none d p q k =
-    by-order k N (λ h. rw (getD-replicate N k none d h) p)
-    (λ h.
-    let l : length (replicate N none) ≤ k = rw (length-replicate N none) h in
-    rw (List·getD-eq-default (replicate N none) d l) q)
-
 empty-fits : Fits emptySheet
 unfolding emptySheet noLayout noView
 empty-fits =
     record {
       layouts =
-          all-none LayoutFits 4 noLayout (theLayout [] 0)
-          (record { clamp = omega arith; dimension = all-none DimensionFits 5 noDimension noDimension d d })
+          none-all LayoutFits 4 noLayout (theLayout [] 0)
+          (record { clamp = omega arith; dimension = none-all DimensionFits 5 noDimension noDimension d d })
           (record { clamp = omega arith; dimension = λ k. d });
       views =
-          all-none ViewFits 4 noView (theView [] 0)
-          (record { stride = all-none (λ (d : ViewDimension). d .stride < 65536) 5 noViewDimension noViewDimension (omega arith) (omega arith); rows = c; columns = c })
+          none-all ViewFits 4 noView (theView [] 0)
+          (record { stride = none-all (λ (d : ViewDimension). d .stride < 65536) 5 noViewDimension noViewDimension (omega arith) (omega arith); rows = c; columns = c })
           (record { stride = λ k. omega arith; rows = c; columns = c });
-      steps = all-none (λ (c : Cell). StepFits (c .step)) 32 noCell noCell tt tt;
+      steps = none-all (λ (c : Cell). StepFits (c .step)) 32 noCell noCell tt tt;
     }
   where
     d : DimensionFits noDimension

@@ -12,6 +12,7 @@ use Rattle.numbers.specs.Choice.{pick, both, between, both-left, both-right, bo
 use Rattle.numbers.specs.All.{all}
 use Rattle.numbers.specs.Little.{u16At, u32At, u16Bytes, u32Bytes}
 use Rattle.numbers.specs.Lists.{each, line}
+use Rattle.numbers.specs.Joins.{length-each}
 use Rattle.numbers.specs.Places.{by-order, places-given, places-past, places-count, places-are, places-all, Held, held}
 use Rattle.sheet.specs.Sizes.{rankOk}
 use Rattle.sheet.specs.Codes.{clampMode, clampCode, undefined}
@@ -22,7 +23,7 @@ use Rattle.sheet.specs.declared.Dimension.{Dimension}
 use Rattle.sheet.specs.declared.Layout.{Layout}
 use Rattle.sheet_reader.specs.Contents.{dimensionAt, dimensionsAt, layoutAt, layoutLength, layoutLengthOk, layoutHeadOk}
 use Rattle.sheet_writer.specs.Bytes.{dimensionBytes, layoutBytes}
-use Rattle.round_trip.specs.Stretches.{Bytes, Has, has-shift, has-back, has-left, has-right, has-join, has-rows-at, has-rows, length-each, u16-of, u32-of, low-at, high-at, u16-below, u32-below, has-u32}
+use Rattle.round_trip.specs.Stretches.{Bytes, Has, has-shift, has-back, has-left, has-right, has-join, has-rows-at, has-rows, u16-of, u32-of, low-at, high-at, u16-below, u32-below, has-u32}
 use Rattle.round_trip.specs.Codes.{clamp-mode-of, clamp-code-small, clamp-code-of}
 use Rattle.round_trip.specs.Typed.{DimensionFits, LayoutFits, LayoutSized}
 

@@ -11,7 +11,8 @@ use lib.Dec.{eqb, ltb, leb}
 use lib.ListN.{length, getD, set, replicate, length-append}
 use Rattle.numbers.specs.Choice.{pick, both, both-true}
 use Rattle.numbers.specs.Little.{u16At}
-use Rattle.numbers.specs.Lists.{line, each}
+use Rattle.numbers.specs.Lists.{line, each, line-next}
+use Rattle.numbers.specs.Joins.{each-long}
 use Rattle.numbers.specs.Places.{places-are}
 use Rattle.sheet.specs.Sizes.{editionOk, stepLimit}
 use Rattle.sheet.specs.Layouts.{noLayout, theLayout, layoutOk}
@@ -120,10 +121,6 @@ upTo sh i j k =
       step = line (replicate 32 noCell) 0 (λ (n : ℕ). getD (sh .step) n noCell) k;
     }
 
-line-next : {A : Type 0} (d : List A) (g : ℕ → A) (n : ℕ) → set (line d 0 g n) n (g n) ≡ line d 0 g (suc n)
-unfolding line
-line-next d g n = rw zero-add
-
 module _ (sh : Sheet) where
   up-none : withEdition emptySheet (sh .edition) .sheet ≡ upTo sh 0 0 0
   unfolding upTo emptySheet line
@@ -163,11 +160,6 @@ module _ (sh : Sheet) where
         steps = sh .steps;
         step = ss i;
       }
-
-each-long : (n : ℕ) (f : ℕ → List ℕ) → ((k : ℕ) → 1 ≤ length (f k)) → n ≤ length (each n f)
-unfolding each
-each-long zero f h = omega arith
-each-long (suc n) f h = omega (arith, length-append (each n f) (f n), each-long n f h, h n)
 
 module _ (sh : Sheet) (w : Within sh) (z : Sized sh) where
   s : List ℕ

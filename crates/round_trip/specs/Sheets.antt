@@ -12,6 +12,7 @@ use lib.Seq.{getD-set-same, getD-set-other}
 use Rattle.numbers.specs.Choice.{pick, both, both-left, both-right, both-true}
 use Rattle.numbers.specs.All.{all}
 use Rattle.numbers.specs.Lists.{each, each-none, each-more}
+use Rattle.numbers.specs.Joins.{each-set, each-short}
 use Rattle.numbers.specs.Places.{by-place, Held, held, held-all}
 use Rattle.sheet.specs.Sizes.{stepLimit}
 use Rattle.sheet.specs.Layouts.{theLayout, layoutOk, layoutUnused}
@@ -82,23 +83,6 @@ within-writable sh w =
     (both-true _ _ (held-all 4 layoutOk layoutUnused (theLayout [] 0) (sh .layouts) (sh .layout) (w .layout))
     (both-true _ _ (held-all 4 viewOk viewUnused (theView [] 0) (sh .views) (sh .view) (w .view))
     (held-all 32 (λ (c : Cell). stepOk (sh .edition) (sh .layouts) (sh .views) (c .step)) (λ (c : Cell). stepUnused (c .step)) noCell (sh .steps) (sh .step) (w .step))))
-
--- lists joined: alike, one more, and how long
-each-same : (n : ℕ) (f g : ℕ → List ℕ) → ((k : ℕ) → k < n → f k ≡ g k) → each n f ≡ each n g
-unfolding each
-each-same zero f g e = refl
-each-same (suc n) f g e = rw (each-same n f g (λ k l. e k (omega arith)), e n (omega arith))
-
-each-set : {A : Type 0} (field : A → List ℕ) (d : A) (xs : List A) (n : ℕ) (x : A) → n < length xs → each (n + 1) (λ (k : ℕ). field (getD (set xs n x) k d)) ≡ each n (λ (k : ℕ). field (getD xs k d)) ++ field x
-each-set field d xs n x h =
-    each-more n (λ (k : ℕ). field (getD (set xs n x) k d))
-    ∙ rw (each-same n (λ (k : ℕ). field (getD (set xs n x) k d)) (λ (k : ℕ). field (getD xs k d)) (λ k l. let q : k ≡ n → ⊥ = λ r. omega arith in rw (getD-set-other xs n k x d q)), getD-set-same xs n x d h)
-
-pub each-short : (w n : ℕ) (f : ℕ → List ℕ) → ((k : ℕ) → k < n → length (f k) ≤ w) → length (each n f) ≤ n * w
-unfolding each
-each-short w zero f h = omega arith
-each-short w (suc n) f h =
-    rw (length-append (each n f) (f n), suc-mul n w) (omega (arith, each-short w n f (λ k l. h k (omega arith)), h n (omega arith)))
 
 pub field-long : (tag : ℕ) (content : List ℕ) → length (fieldBytes tag content) ≡ 3 + length content
 unfolding fieldBytes

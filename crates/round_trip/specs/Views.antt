@@ -12,6 +12,7 @@ use Rattle.numbers.specs.Choice.{pick, both, between, both-left, both-right, bo
 use Rattle.numbers.specs.All.{all, all-at}
 use Rattle.numbers.specs.Little.{u16At, u16Bytes}
 use Rattle.numbers.specs.Lists.{each, line}
+use Rattle.numbers.specs.Joins.{length-each}
 use Rattle.numbers.specs.Places.{places-given, places-past, places-count, places-are, places-all, Held, held}
 use Rattle.sheet.specs.Sizes.{rankOk, sizeOk}
 use Rattle.sheet.specs.Views.{noViewDimension, noClip, noView, theViewDimension, entryOk, permutationOk, viewDimensionUnused, viewDimensionAtOk, viewDimensionsOk, sizedRank, viewOk, clipUnused, viewUnused}
@@ -20,7 +21,7 @@ use Rattle.sheet.specs.declared.Clip.{Clip}
 use Rattle.sheet.specs.declared.View.{View}
 use Rattle.sheet_reader.specs.Contents.{permutationAt, viewDimensionAt, viewDimensionsAt, clipAt, viewOf, hasDimensions, viewAt, viewLength, viewLengthOk, viewHeadOk}
 use Rattle.sheet_writer.specs.Bytes.{viewDimensionBytes, clipBytes, sizedCode, viewBytes}
-use Rattle.round_trip.specs.Stretches.{Bytes, Has, has-at, has-shift, has-back, has-left, has-right, has-join, has-rows-at, has-rows, length-each, u16-of, low-at, high-at, u16-below}
+use Rattle.round_trip.specs.Stretches.{Bytes, Has, has-at, has-shift, has-back, has-left, has-right, has-join, has-rows-at, has-rows, u16-of, low-at, high-at, u16-below}
 use Rattle.round_trip.specs.Codes.{one-of, sized-of, sized-code-small, sized-code-of}
 use Rattle.round_trip.specs.Typed.{ClipFits, ViewFits, ViewSized}
 
