@@ -1,42 +1,36 @@
 -- What holds of a reading at each byte: nothing has been read, or the sheet so far is within Sizes and its bytes are those before.
-use Prim.Native.Nat.{ℕ, zero, suc, _+_, _%_, _/_, _<_, _≤_}
-use mathlib.Core.Path.{_≡_, refl, sym, ap, _∙_}
-use mathlib.Core.Bool.{Bool, true, false, true≢false}
+use Prim.Native.Nat.{ℕ, _+_, _<_, _≤_}
+use mathlib.Core.Path.{_≡_, refl, sym, _∙_}
+use mathlib.Core.Bool.{true, true≢false}
 use mathlib.Core.Logic.{_⊎_, inl, inr, ⊎-elim}
 use mathlib.Core.List.{List, [], _∷_, _++_}
-use native.Mathlib.Nat.{add-zero, zero-add, not-suc-le-zero}
+use native.Mathlib.Nat.{add-zero}
 use native.Mathlib.Omega.{arith}
 use borrow.Author.Tests.{eqb-true, ltb-true, le-ltb}
-use lib.Dec.{eqb, ltb}
-use lib.ListN.{length, getD, set, replicate, length-append, length-set, length-replicate, getD-replicate, List·getD-eq-default}
-use lib.Seq.{getD-set-same, getD-set-other}
+use lib.ListN.{length, getD, length-append, length-set, getD-replicate}
 use Rattle.numbers.specs.Choice.{pick, both, both-left, both-right}
 use Rattle.numbers.specs.All.{all}
-use Rattle.numbers.specs.Little.{u16At}
 use Rattle.numbers.specs.Lists.{each}
-use Rattle.numbers.specs.Places.{none-all, set-keeps, Held, held-none, held-more}
+use Rattle.numbers.specs.Places.{none-all, set-keeps, held-none, held-more}
 use Rattle.sheet.specs.Sizes.{stepLimit}
 use Rattle.sheet.specs.Layouts.{noDimension, noLayout, theLayout, layoutOk, layoutUnused, dimensionAtOk, dimensionUnused}
 use Rattle.sheet.specs.Views.{noViewDimension, noClip, noView, theView, viewOk, viewUnused, entryOk, viewDimensionAtOk, viewDimensionUnused, clipUnused}
-use Rattle.sheet.specs.Steps.{noCell, theStep, stepOk, stepUnused}
+use Rattle.sheet.specs.Steps.{noCell, stepOk, stepUnused}
 use Rattle.sheet.specs.Sheets.{emptySheet}
-use Rattle.sheet.specs.declared.Layout.{Layout}
 use Rattle.sheet.specs.declared.ViewDimension.{ViewDimension}
-use Rattle.sheet.specs.declared.View.{View}
-use Rattle.sheet.specs.declared.Step.{Step}
 use Rattle.sheet.specs.declared.Cell.{Cell}
 use Rattle.sheet.specs.declared.Sheet.{Sheet}
 use Rattle.sheet_reader.specs.Contents.{layoutAt, layoutHeadOk, viewAt, viewHeadOk, stepAt, stepLength}
 use Rattle.sheet_reader.specs.Reading.{withEdition, withLayout, withView, withStep, layoutMayCome, viewMayCome, stepMayCome, refusedRead, acceptedRead, endRead, readSheet}
 use Rattle.sheet_reader.specs.declared.ReadAnswer.{ReadAnswer}
-use Rattle.sheet_writer.specs.Bytes.{fieldBytes, layoutBytes, viewBytes, stepTag, stepBytes, layoutField, viewField, stepField, sheetBytes}
+use Rattle.sheet_writer.specs.Bytes.{fieldBytes, layoutBytes, viewBytes, stepTag, stepBytes, sheetBytes}
 use Rattle.round_trip.specs.Stretches.{Bytes, Has, has-at, has-back, has-join, low-at, high-at}
 use Rattle.round_trip.specs.Typed.{DimensionFits, ClipFits, LayoutSized, LayoutFits, ViewSized, ViewFits, StepFits, Sized, Fits}
 use Rattle.round_trip.specs.Layouts.{layout-at-shaped, layout-at-long, has-layout, layout-at-fits}
 use Rattle.round_trip.specs.Views.{view-at-shaped, view-at-long, has-view, view-at-fits}
-use Rattle.round_trip.specs.Steps.{StepRead, step-read}
+use Rattle.round_trip.specs.Steps.{step-read}
 use Rattle.round_trip.specs.Turns.{lengthAt, nextAt, Ways, reads}
-use Rattle.round_trip.specs.Sheets.{LayoutsHeld, ViewsHeld, StepsHeld, Within, bytes-layout, bytes-view, bytes-step, longest, sheet-short, field-long}
+use Rattle.round_trip.specs.Sheets.{StepsHeld, Within, bytes-layout, bytes-view, bytes-step, longest, sheet-short, field-long}
 
 pub record Grown (s : List ℕ) (at : ℕ) (sh : Sheet) : Type 0 where
   pub within : Within sh

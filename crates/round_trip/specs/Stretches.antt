@@ -1,12 +1,12 @@
 -- Stretches of bytes in a list of bytes: where they stand, and the little-endian numbers in them.
-use Prim.Native.Nat.{ℕ, zero, suc, _+_, _*_, _/_, _%_, _<_, _≤_}
-use mathlib.Core.Path.{_≡_, refl, sym, ap, _∙_}
+use Prim.Native.Nat.{ℕ, zero, suc, _+_, _*_, _/_, _%_, _<_}
+use mathlib.Core.Path.{_≡_, sym, _∙_}
 use mathlib.Core.List.{List, [], _∷_, _++_}
-use native.Mathlib.Nat.{zero-add, add-zero, add-assoc, add-comm, suc-mul, not-suc-le-zero, div-add-mod'}
+use native.Mathlib.Nat.{zero-add, add-zero, add-assoc, add-comm, not-suc-le-zero, div-add-mod'}
 use native.Mathlib.Numerals.{add-one}
 use native.Mathlib.Omega.{arith}
-use lib.ListN.{length, getD, length-append, List·getD-eq-default, List·getD-append}
-use lib.Seq.{ext-getD, getD-append-add}
+use lib.ListN.{length, getD, List·getD-eq-default}
+use lib.Seq.{ext-getD}
 use Rattle.numbers.specs.Little.{u16At, u32At, u16Bytes, u32Bytes}
 use Rattle.numbers.specs.Lists.{each}
 use Rattle.numbers.specs.Joins.{length-each}
