@@ -20,7 +20,7 @@ module _ {B : Type 0} where
       each-more n (λ (k : ℕ). part (getD (set xs n x) k d))
       ∙ rw (
         each-same n (λ (k : ℕ). part (getD (set xs n x) k d)) (λ (k : ℕ). part (getD xs k d))
-        (λ k l. let q : k ≡ n → ⊥ = λ r. omega arith in rw (getD-set-other xs n k x d q)),
+            (λ k l. let q : k ≡ n → ⊥ = λ r. omega arith in rw (getD-set-other xs n k x d q)),
         getD-set-same xs n x d h,
       )
 

@@ -112,8 +112,15 @@ module _ (s t : List ℕ) (bs : Bytes s) (bt : Bytes t) (same : (i : ℕ) → i 
     turn-same at sh l =
         let n = u16-below t bt (at + 1) in
         let e : lengthAt s at ≡ lengthAt t at = length-same at l in
-        rw (lt-ltb at (length s) (omega arith), lt-ltb at (length t) (omega arith), head-whole s bs long-s at l, head-whole t bt long-t at l, e, same at (omega arith),
-          field-same (at + 3) (omega arith) (lengthAt t at) (omega arith) sh (getD t at 0))
+        rw (
+          lt-ltb at (length s) (omega arith),
+          lt-ltb at (length t) (omega arith),
+          head-whole s bs long-s at l,
+          head-whole t bt long-t at l,
+          e,
+          same at (omega arith),
+          field-same (at + 3) (omega arith) (lengthAt t at) (omega arith) sh (getD t at 0),
+        )
 
     at-small : (at : ℕ) (sh : Sheet) → SoFar s at sh → at ≤ longest
     at-small at sh p = ⊎-elim (λ q. omega (arith, q .0)) (λ g. rw (g .ends) (sheet-short sh (g .within))) p

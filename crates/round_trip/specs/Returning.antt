@@ -65,7 +65,7 @@ module _ (s : List ℕ) (at : ℕ) (tag : ℕ → ℕ) (content : ℕ → List �
       ap (λ (m : ℕ). readFrom m s at (part 0)) i
       ∙ run n (suc f) (has-left s at 0 a (fieldBytes (tag n) c) h) (omega arith) (λ k h. take k (omega arith))
       ∙ turn-on s f (at + length a) (at + length a + 3 + length c) (part n) (part (suc n))
-        (field-turn s (at + length a) (tag n) c (part n) (part (suc n)) b (omega arith) (take n (omega arith) (at + length a + 3) t))
+      (field-turn s (at + length a) (tag n) c (part n) (part (suc n)) b (omega arith) (take n (omega arith) (at + length a + 3) t))
       ∙ ap (λ (p : ℕ). readFrom f s p (part (suc n))) j
 
 -- each part is taken where it may come
@@ -138,14 +138,14 @@ module _ (sh : Sheet) where
   unfolding upTo
   up-all w z =
       let ls =
-          places-are 4 noLayout (theLayout [] 0) (theLayout (sh .layout)) (sh .layouts) (w .layouts) (sh .layout) (z .layout) (λ k h. refl)
-          (λ k h l. no-layout (theLayout (sh .layout) k) (z .layouts k l) (w .layout .past k h l)) in
+      places-are 4 noLayout (theLayout [] 0) (theLayout (sh .layout)) (sh .layouts) (w .layouts) (sh .layout) (z .layout) (λ k h. refl)
+      (λ k h l. no-layout (theLayout (sh .layout) k) (z .layouts k l) (w .layout .past k h l)) in
       let vs =
-          places-are 4 noView (theView [] 0) (theView (sh .view)) (sh .views) (w .views) (sh .view) (z .view) (λ k h. refl)
-          (λ k h l. no-view (theView (sh .view) k) (z .views k l) (w .view .past k h l)) in
+      places-are 4 noView (theView [] 0) (theView (sh .view)) (sh .views) (w .views) (sh .view) (z .view) (λ k h. refl)
+      (λ k h l. no-view (theView (sh .view) k) (z .views k l) (w .view .past k h l)) in
       let ss =
-          places-are 32 noCell noCell (λ (n : ℕ). getD (sh .step) n noCell) (sh .steps) (w .steps) (sh .step) (z .step) (λ k h. refl)
-          (λ k h l. let e = no-step (theStep (sh .step) k) (w .step .past k h l) in λ i. record { step = e i }) in
+      places-are 32 noCell noCell (λ (n : ℕ). getD (sh .step) n noCell) (sh .steps) (w .steps) (sh .step) (z .step) (λ k h. refl)
+      (λ k h l. let e = no-step (theStep (sh .step) k) (w .step .past k h l) in λ i. record { step = e i }) in
       λ i.
       record {
         edition = sh .edition;
@@ -243,10 +243,13 @@ module _ (sh : Sheet) (w : Within sh) (z : Sized sh) where
   fuel : sh .layouts + (sh .views + sh .steps) < length s
   unfolding ls vs ss
   fuel =
-      omega (arith, standing .long,
+      omega (
+        arith,
+        standing .long,
         each-long (sh .layouts) (layoutField (sh .layout)) (λ k. omega (arith, field-long 0x10 (layoutBytes (theLayout (sh .layout) k)))),
         each-long (sh .views) (viewField (sh .view)) (λ k. omega (arith, field-long 0x11 (viewBytes (theView (sh .view) k)))),
-        each-long (sh .steps) (stepField (sh .step)) (λ k. omega (arith, field-long (stepTag (theStep (sh .step) k)) (stepBytes (theStep (sh .step) k)))))
+        each-long (sh .steps) (stepField (sh .step)) (λ k. omega (arith, field-long (stepTag (theStep (sh .step) k)) (stepBytes (theStep (sh .step) k)))),
+      )
 
   all-runs : (f : ℕ) → readFrom (suc (sh .layouts + (sh .views + (sh .steps + suc f)))) s 0 emptySheet ≡ acceptedRead sh
   all-runs f =

@@ -156,9 +156,15 @@ module _ (sh : Sheet) (w : Within sh) where
   unfolding sheetBytes ofEdition ofLayouts ofViews ofSteps
   sheet-short =
       let e : length (ofEdition sh) ≡ 4 = field-long 0x01 (sh .edition ∷ []) in
-      omega (arith, w .layouts, w .views, w .steps,
-        length-append (ofEdition sh) (ofLayouts sh), length-append (ofEdition sh ++ ofLayouts sh) (ofViews sh),
+      omega (
+        arith,
+        w .layouts,
+        w .views,
+        w .steps,
+        length-append (ofEdition sh) (ofLayouts sh),
+        length-append (ofEdition sh ++ ofLayouts sh) (ofViews sh),
         length-append (ofEdition sh ++ ofLayouts sh ++ ofViews sh) (ofSteps sh),
         each-short 59 (sh .layouts) (layoutField (sh .layout)) layout-short,
         each-short 38 (sh .views) (viewField (sh .view)) view-short,
-        each-short 11 (sh .steps) (stepField (sh .step)) steps-short)
+        each-short 11 (sh .steps) (stepField (sh .step)) steps-short,
+      )

@@ -50,9 +50,10 @@ read-writes-back s sh b e =
 
 -- A model is writable exactly when some sheet reads as it.
 pub writable-exactly : (sh : Sheet) → Typed sh → (writable sh ≡ true) ↔ ((s : List ℕ) × Bytes s × (readSheet s ≡ acceptedRead sh))
-writable-exactly sh t =
-    (λ e. (sheetBytes sh, sheet-bytes sh (within sh e) (t .fits), written-reads-back sh t e),
-     λ w. read-writes-back (w .0) sh (w .1) (w .2) .allowed)
+writable-exactly sh t = (
+  λ e. (sheetBytes sh, sheet-bytes sh (within sh e) (t .fits), written-reads-back sh t e),
+  λ w. read-writes-back (w .0) sh (w .1) (w .2) .allowed,
+)
 
 -- Everything read is within Sizes: the edition, the counts, each layout, view and step that is given, and each place that is not; and each
 -- array has its places.

@@ -39,21 +39,21 @@ pub record Ways (s : List ℕ) (P : ℕ → Sheet → Type 0) (R : ReadAnswer �
   pub refused : (n : ℕ) → 1 ≤ n → n ≤ 6 → R (refusedRead n at)
   pub ended : length s ≤ at → R (endRead sh (length s))
   pub edition :
-    nextAt s at ≤ length s → getD s at 0 ≡ 0x01 → lengthAt s at ≡ 1 → sh .edition ≤ 0 → getD s (at + 3) 0 ≡ 1
-    → P (nextAt s at) (withEdition sh (getD s (at + 3) 0) .sheet)
+      nextAt s at ≤ length s → getD s at 0 ≡ 0x01 → lengthAt s at ≡ 1 → sh .edition ≤ 0 → getD s (at + 3) 0 ≡ 1
+      → P (nextAt s at) (withEdition sh (getD s (at + 3) 0) .sheet)
   pub layout :
-    nextAt s at ≤ length s → getD s at 0 ≡ 0x10 → layoutMayCome (sh .edition) (sh .layouts) (sh .views) (sh .steps) ≡ true
-    → layoutHeadOk s (at + 3) (lengthAt s at) ≡ true → layoutOk (layoutAt s (at + 3)) ≡ true
-    → P (nextAt s at) (withLayout sh (layoutAt s (at + 3)) .sheet)
+      nextAt s at ≤ length s → getD s at 0 ≡ 0x10 → layoutMayCome (sh .edition) (sh .layouts) (sh .views) (sh .steps) ≡ true
+      → layoutHeadOk s (at + 3) (lengthAt s at) ≡ true → layoutOk (layoutAt s (at + 3)) ≡ true
+      → P (nextAt s at) (withLayout sh (layoutAt s (at + 3)) .sheet)
   pub view :
-    nextAt s at ≤ length s → getD s at 0 ≡ 0x11 → viewMayCome (sh .edition) (sh .views) (sh .steps) ≡ true
-    → viewHeadOk s (at + 3) (lengthAt s at) ≡ true → viewOk (viewAt s (at + 3)) ≡ true
-    → P (nextAt s at) (withView sh (viewAt s (at + 3)) .sheet)
+      nextAt s at ≤ length s → getD s at 0 ≡ 0x11 → viewMayCome (sh .edition) (sh .views) (sh .steps) ≡ true
+      → viewHeadOk s (at + 3) (lengthAt s at) ≡ true → viewOk (viewAt s (at + 3)) ≡ true
+      → P (nextAt s at) (withView sh (viewAt s (at + 3)) .sheet)
   pub step :
-    nextAt s at ≤ length s → 0x20 ≤ getD s at 0 → getD s at 0 < 0x26 → stepMayCome (sh .edition) (sh .steps) ≡ true
-    → lengthAt s at ≡ stepLength (sh .edition) (getD s at 0)
-    → stepOk (sh .edition) (sh .layouts) (sh .views) (stepAt s (getD s at 0) (at + 3)) ≡ true
-    → P (nextAt s at) (withStep sh (stepAt s (getD s at 0) (at + 3)) .sheet)
+      nextAt s at ≤ length s → 0x20 ≤ getD s at 0 → getD s at 0 < 0x26 → stepMayCome (sh .edition) (sh .steps) ≡ true
+      → lengthAt s at ≡ stepLength (sh .edition) (getD s at 0)
+      → stepOk (sh .edition) (sh .layouts) (sh .views) (stepAt s (getD s at 0) (at + 3)) ≡ true
+      → P (nextAt s at) (withStep sh (stepAt s (getD s at 0) (at + 3)) .sheet)
 
 module _ (s : List ℕ) (P : ℕ → Sheet → Type 0) (R : ReadAnswer → Type 0) where
   module _ (at : ℕ) (sh : Sheet) (w : Ways s P R at sh) where

@@ -217,9 +217,9 @@ module _ (s : List ℕ) (p : ℕ) (v : View) where
       let t2 = has-join s (p + 2) b c (w .entries) (has-at s (p + 2 + v .rank) (p + 2 + length b) c (omega arith) (w .dimensions)) in
       let t3 = has-join s (p + 2) (b ++ c) d t2 (has-at s (p + 2 + v .rank + own v * 4) (p + 2 + length (b ++ c)) d (omega (arith, length-append b c)) (w .rows)) in
       let t4 =
-          has-join s (p + 2) (b ++ c ++ d) e t3
-          (has-at s (p + 6 + v .rank + own v * 4) (p + 2 + length (b ++ c ++ d)) e
-          (omega (arith, length-append b c, length-append (b ++ c) d)) (w .columns)) in
+      has-join s (p + 2) (b ++ c ++ d) e t3
+      (has-at s (p + 6 + v .rank + own v * 4) (p + 2 + length (b ++ c ++ d)) e
+      (omega (arith, length-append b c, length-append (b ++ c) d)) (w .columns)) in
       (rw add-zero (w .count), (w .has, has-back s p 2 0 (b ++ c ++ d ++ e) t4))
 
 pub view-long : (v : View) → length (viewBytes v) ≡ viewLength (v .rank) (sizedRank (v .sized) (v .rank))
