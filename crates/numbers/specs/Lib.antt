@@ -4,3 +4,4 @@ pub mod Little
 pub mod Lists
 pub mod Lines
 pub mod Places
+pub mod Joins

@@ -1,17 +1,18 @@
 -- What stands at each place of a list: one that a loop wrote, and one whose first places are given and whose others are unused.
-use Prim.Native.Nat.{ℕ, zero, suc, _+_, _<_, _≤_}
-use mathlib.Core.Path.{_≡_, refl, sym, ap, _∙_}
-use mathlib.Core.List.{List, [], _∷_, _++_}
+use Prim.Native.Nat.{ℕ, _+_, _<_, _≤_}
+use mathlib.Core.Path.{_≡_, refl, sym, _∙_}
+use mathlib.Core.List.{List}
 use mathlib.Core.Bool.{Bool, true, false}
 use native.Mathlib.Nat.{zero-add, not-suc-le-zero}
 use native.Mathlib.Omega.{arith}
 use borrow.Author.Tests.{eqb-true, eqb-false, ltb-true, ltb-false, lt-ltb, le-ltb}
 use lib.Dec.{eqb, ltb}
-use lib.ListN.{length, getD, set, replicate, length-set, length-append, length-replicate, getD-replicate, List·getD-eq-default}
+use lib.ListN.{length, getD, set, replicate, length-replicate, getD-replicate, List·getD-eq-default}
 use lib.Seq.{ext-getD, getD-set-same, getD-set-other}
 use Rattle.numbers.specs.Choice.{pick, pick-case}
 use Rattle.numbers.specs.All.{all, all-at, all-true}
-use Rattle.numbers.specs.Lists.{line, length-line, each}
+use Rattle.numbers.specs.Lists.{line, length-line}
+use Rattle.numbers.specs.Lines.{line-inside, line-outside}
 
 pub by-test : {P : Type 0} (b : Bool) → (b ≡ true → P) → (b ≡ false → P) → P
 by-test true f g = f refl
@@ -24,29 +25,18 @@ by-place k n f g = by-test (eqb k n) (λ q. f (eqb-true k n q)) (λ q. g (eqb-fa
 pub by-order : {P : Type 0} (k n : ℕ) → (k < n → P) → (n ≤ k → P) → P
 by-order k n f g = by-test (ltb k n) (λ q. f (ltb-true k n q)) (λ q. g (ltb-false k n q))
 
-module _ {A : Type 0} (d : List A) (g : ℕ → A) (e : A) where
-  -- a place that was written, and one past those
-  pub line-at : (n : ℕ) → n ≤ length d → (k : ℕ) → k < n → getD (line d 0 g n) k e ≡ g k
-  unfolding line
-  line-at zero h k l = absurd (not-suc-le-zero l)
-  line-at (suc n) h k l =
-      by-place k n
-      (λ q. rw (zero-add, q) (getD-set-same (line d 0 g n) n (g n) e (rw (length-line d 0 g n) h)))
-      (λ q. rw zero-add (getD-set-other (line d 0 g n) n k (g n) e q ∙ line-at n (omega arith) k (omega arith)))
-
-  pub line-past : (n k : ℕ) → n ≤ k → getD (line d 0 g n) k e ≡ getD d k e
-  unfolding line
-  line-past zero k h = refl
-  line-past (suc n) k h =
-      rw zero-add (getD-set-other (line d 0 g n) n k (g n) e (λ q. omega arith) ∙ line-past n k (omega arith))
+-- a place past those written from the first on
+past-line : {A : Type 0} (d : List A) (g : ℕ → A) (n k : ℕ) (z : A) → n ≤ k → getD (line d 0 g n) k z ≡ getD d k z
+past-line d g n k z h = line-outside d 0 g n k z (λ i l. omega arith)
 
 -- a list of N places of which the first n are g 0 .. g (n - 1) and the others none
 module _ {A : Type 0} (N : ℕ) (none d : A) (g : ℕ → A) (n : ℕ) (h : n ≤ N) where
   pub places-given : (k : ℕ) → k < n → getD (line (replicate N none) 0 g n) k d ≡ g k
-  places-given k l = line-at (replicate N none) g d n (rw (length-replicate N none) h) k l
+  places-given k l =
+      rw zero-add at (line-inside (replicate N none) 0 g n k d l (rw (zero-add n, length-replicate N none) h))
 
   pub places-past : (k : ℕ) → n ≤ k → k < N → getD (line (replicate N none) 0 g n) k d ≡ none
-  places-past k l m = line-past (replicate N none) g d n k l ∙ getD-replicate N k none d m
+  places-past k l m = past-line (replicate N none) g n k d l ∙ getD-replicate N k none d m
 
   pub places-count : length (line (replicate N none) 0 g n) ≡ N
   places-count = length-line (replicate N none) 0 g n ∙ length-replicate N none
@@ -58,15 +48,24 @@ module _ {A : Type 0} (N : ℕ) (none d : A) (g : ℕ → A) (n : ℕ) (h : n �
       let m : k < N = omega (arith, places-count) in
       by-order k n (λ q. places-given k q ∙ f k q) (λ q. places-past k q m ∙ sym (u k q m)))
 
+-- what holds of none and of what stands past the end holds at every place of a list of none
+pub none-all : {A : Type 0} (P : A → Type 0) (N : ℕ) (none d : A) → P none → P d → (k : ℕ) → P (getD (replicate N none) k d)
+none-all P N none d p q k =
+    by-order k N (λ h. rw (getD-replicate N k none d h) p)
+    (λ h.
+    let l : length (replicate N none) ≤ k = rw (length-replicate N none) h in
+    rw (List·getD-eq-default (replicate N none) d l) q)
+
 -- what holds of none and of each one given holds at every place
 pub places-all : {A : Type 0} (P : A → Type 0) (N : ℕ) (none : A) (g : ℕ → A) (n : ℕ) → n ≤ N → P none → ((k : ℕ) → k < n → P (g k)) → (k : ℕ) → P (getD (line (replicate N none) 0 g n) k none)
 places-all P N none g n h p f k =
     by-order k n (λ q. rw (places-given N none none g n h k q) (f k q))
-    (λ q.
-    rw (line-past (replicate N none) g none n k q)
-    (by-order k N (λ m. rw (getD-replicate N k none none m) p) (λ m.
-    let l : length (replicate N none) ≤ k = rw (length-replicate N none) m in
-    rw (List·getD-eq-default (replicate N none) none l) p)))
+    (λ q. rw (past-line (replicate N none) g n k none q) (none-all P N none none p p k))
+
+-- what holds at a place and of what was put at one holds at that place afterwards
+pub set-keeps : {A : Type 0} (P : A → Type 0) (d : A) (xs : List A) (n : ℕ) (x : A) → n < length xs → P x → (k : ℕ) → P (getD xs k d) → P (getD (set xs n x) k d)
+set-keeps P d xs n x h p k q =
+    by-place k n (λ e. rw (e, getD-set-same xs n x d h) p) (λ e. rw (getD-set-other xs n k x d e) q)
 
 -- of N places the first count hold what is ok, the others what is unused
 pub record Held {A : Type 0} (N : ℕ) (ok unused : A → Bool) (d : A) (count : ℕ) (xs : List A) : Type 0 where

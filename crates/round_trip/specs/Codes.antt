@@ -1,9 +1,8 @@
 -- The numbers by which a sheet names a clamp mode, a reduce mode, a combine and has-dimensions: from the name and back, and from the number
 -- and back.
 use Prim.Native.Nat.{ℕ, zero, suc, _+_, _<_, _≤_}
-use mathlib.Core.Path.{_≡_, refl, sym}
+use mathlib.Core.Path.{_≡_, refl}
 use mathlib.Core.Bool.{Bool, true, false}
-use native.Mathlib.Nat.{add-zero}
 use native.Mathlib.Omega.{arith}
 use lib.Dec.{eqb}
 use Rattle.numbers.specs.Choice.{pick}

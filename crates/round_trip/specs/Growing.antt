@@ -1,42 +1,36 @@
 -- What holds of a reading at each byte: nothing has been read, or the sheet so far is within Sizes and its bytes are those before.
-use Prim.Native.Nat.{ℕ, zero, suc, _+_, _%_, _/_, _<_, _≤_}
-use mathlib.Core.Path.{_≡_, refl, sym, ap, _∙_}
-use mathlib.Core.Bool.{Bool, true, false, true≢false}
+use Prim.Native.Nat.{ℕ, _+_, _<_, _≤_}
+use mathlib.Core.Path.{_≡_, refl, sym, _∙_}
+use mathlib.Core.Bool.{true, true≢false}
 use mathlib.Core.Logic.{_⊎_, inl, inr, ⊎-elim}
 use mathlib.Core.List.{List, [], _∷_, _++_}
-use native.Mathlib.Nat.{add-zero, zero-add, not-suc-le-zero}
+use native.Mathlib.Nat.{add-zero}
 use native.Mathlib.Omega.{arith}
 use borrow.Author.Tests.{eqb-true, ltb-true, le-ltb}
-use lib.Dec.{eqb, ltb}
-use lib.ListN.{length, getD, set, replicate, length-append, length-set, length-replicate, getD-replicate, List·getD-eq-default}
-use lib.Seq.{getD-set-same, getD-set-other}
+use lib.ListN.{length, getD, length-append, length-set, getD-replicate}
 use Rattle.numbers.specs.Choice.{pick, both, both-left, both-right}
 use Rattle.numbers.specs.All.{all}
-use Rattle.numbers.specs.Little.{u16At}
 use Rattle.numbers.specs.Lists.{each}
-use Rattle.numbers.specs.Places.{by-place, by-order, Held, held-none, held-more}
+use Rattle.numbers.specs.Places.{none-all, set-keeps, held-none, held-more}
 use Rattle.sheet.specs.Sizes.{stepLimit}
 use Rattle.sheet.specs.Layouts.{noDimension, noLayout, theLayout, layoutOk, layoutUnused, dimensionAtOk, dimensionUnused}
 use Rattle.sheet.specs.Views.{noViewDimension, noClip, noView, theView, viewOk, viewUnused, entryOk, viewDimensionAtOk, viewDimensionUnused, clipUnused}
-use Rattle.sheet.specs.Steps.{noCell, theStep, stepOk, stepUnused}
+use Rattle.sheet.specs.Steps.{noCell, stepOk, stepUnused}
 use Rattle.sheet.specs.Sheets.{emptySheet}
-use Rattle.sheet.specs.declared.Layout.{Layout}
 use Rattle.sheet.specs.declared.ViewDimension.{ViewDimension}
-use Rattle.sheet.specs.declared.View.{View}
-use Rattle.sheet.specs.declared.Step.{Step}
 use Rattle.sheet.specs.declared.Cell.{Cell}
 use Rattle.sheet.specs.declared.Sheet.{Sheet}
 use Rattle.sheet_reader.specs.Contents.{layoutAt, layoutHeadOk, viewAt, viewHeadOk, stepAt, stepLength}
 use Rattle.sheet_reader.specs.Reading.{withEdition, withLayout, withView, withStep, layoutMayCome, viewMayCome, stepMayCome, refusedRead, acceptedRead, endRead, readSheet}
 use Rattle.sheet_reader.specs.declared.ReadAnswer.{ReadAnswer}
-use Rattle.sheet_writer.specs.Bytes.{fieldBytes, layoutBytes, viewBytes, stepTag, stepBytes, layoutField, viewField, stepField, sheetBytes}
+use Rattle.sheet_writer.specs.Bytes.{fieldBytes, layoutBytes, viewBytes, stepTag, stepBytes, sheetBytes}
 use Rattle.round_trip.specs.Stretches.{Bytes, Has, has-at, has-back, has-join, low-at, high-at}
 use Rattle.round_trip.specs.Typed.{DimensionFits, ClipFits, LayoutSized, LayoutFits, ViewSized, ViewFits, StepFits, Sized, Fits}
 use Rattle.round_trip.specs.Layouts.{layout-at-shaped, layout-at-long, has-layout, layout-at-fits}
 use Rattle.round_trip.specs.Views.{view-at-shaped, view-at-long, has-view, view-at-fits}
-use Rattle.round_trip.specs.Steps.{StepRead, step-read}
+use Rattle.round_trip.specs.Steps.{step-read}
 use Rattle.round_trip.specs.Turns.{lengthAt, nextAt, Ways, reads}
-use Rattle.round_trip.specs.Sheets.{LayoutsHeld, ViewsHeld, StepsHeld, Within, bytes-layout, bytes-view, bytes-step, longest, sheet-short, field-long}
+use Rattle.round_trip.specs.Sheets.{StepsHeld, Within, bytes-layout, bytes-view, bytes-step, longest, sheet-short, field-long}
 
 pub record Grown (s : List ℕ) (at : ℕ) (sh : Sheet) : Type 0 where
   pub within : Within sh
@@ -63,11 +57,6 @@ module _ (s : List ℕ) (at : ℕ) (sh sh′ : Sheet) (tag : ℕ) (content : Lis
       rw more
       (has-join s 0 (sheetBytes sh) (fieldBytes tag content) (g .stands b)
       (has-at s at (0 + length (sheetBytes sh)) (fieldBytes tag content) q (field-stands s at tag content b t e (h b))))
-
--- what holds of a place and of what was put there
-set-keeps : {A : Type 0} (P : A → Type 0) (d : A) (xs : List A) (n : ℕ) (x : A) → n < length xs → P x → (k : ℕ) → P (getD xs k d) → P (getD (set xs n x) k d)
-set-keeps P d xs n x h p k q =
-    by-place k n (λ e. rw (e, getD-set-same xs n x d h) p) (λ e. rw (getD-set-other xs n k x d e) q)
 
 -- steps that are not given stay so under other counts
 steps-none : (edition layouts views layouts′ views′ count : ℕ) (cs : List Cell) → count ≡ 0 → StepsHeld edition layouts views count cs → StepsHeld edition layouts′ views′ count cs
@@ -222,27 +211,19 @@ module _ (s : List ℕ) (at : ℕ) (sh : Sheet) (g : Grown s at sh) where
         stands = stands-more s at sh (withStep sh st .sheet) (stepTag st) (stepBytes st) g more long (sym (r .tagged)) (r .stands);
       }
 
--- what holds of none and of what stands past the end holds at every place of a list of none
-all-none : {A : Type 0} (P : A → Type 0) (N : ℕ) (none d : A) → P none → P d → (k : ℕ) → P (getD (replicate N none) k d)
-all-none P N none d p q k =
-    by-order k N (λ h. rw (getD-replicate N k none d h) p)
-    (λ h.
-    let l : length (replicate N none) ≤ k = rw (length-replicate N none) h in
-    rw (List·getD-eq-default (replicate N none) d l) q)
-
 empty-fits : Fits emptySheet
 unfolding emptySheet noLayout noView
 empty-fits =
     record {
       layouts =
-          all-none LayoutFits 4 noLayout (theLayout [] 0)
-          (record { clamp = omega arith; dimension = all-none DimensionFits 5 noDimension noDimension d d })
+          none-all LayoutFits 4 noLayout (theLayout [] 0)
+          (record { clamp = omega arith; dimension = none-all DimensionFits 5 noDimension noDimension d d })
           (record { clamp = omega arith; dimension = λ k. d });
       views =
-          all-none ViewFits 4 noView (theView [] 0)
-          (record { stride = all-none (λ (d : ViewDimension). d .stride < 65536) 5 noViewDimension noViewDimension (omega arith) (omega arith); rows = c; columns = c })
+          none-all ViewFits 4 noView (theView [] 0)
+          (record { stride = none-all (λ (d : ViewDimension). d .stride < 65536) 5 noViewDimension noViewDimension (omega arith) (omega arith); rows = c; columns = c })
           (record { stride = λ k. omega arith; rows = c; columns = c });
-      steps = all-none (λ (c : Cell). StepFits (c .step)) 32 noCell noCell tt tt;
+      steps = none-all (λ (c : Cell). StepFits (c .step)) 32 noCell noCell tt tt;
     }
   where
     d : DimensionFits noDimension

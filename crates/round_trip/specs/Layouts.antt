@@ -1,28 +1,28 @@
 -- A layout's content, both ways: its bytes read as that layout, and what was read has those bytes.
-use Prim.Native.Nat.{ℕ, zero, suc, _+_, _*_, _%_, _<_, _≤_}
+use Prim.Native.Nat.{ℕ, _+_, _*_, _%_, _<_, _≤_}
 use mathlib.Core.Path.{_≡_, refl, sym, ap, _∙_}
-use mathlib.Core.Bool.{Bool, true, false, true≢false}
-use mathlib.Core.List.{List, [], _∷_, _++_}
+use mathlib.Core.Bool.{true, true≢false}
+use mathlib.Core.List.{List}
 use native.Mathlib.Nat.{add-zero}
 use native.Mathlib.Omega.{arith}
 use borrow.Author.Tests.{eqb-true, leb-true, le-leb, eq-eqb}
-use lib.Dec.{eqb, leb, ltb}
-use lib.ListN.{length, getD, replicate, length-append}
-use Rattle.numbers.specs.Choice.{pick, both, between, both-left, both-right, both-true, between-low, between-high, between-true}
-use Rattle.numbers.specs.All.{all}
-use Rattle.numbers.specs.Little.{u16At, u32At, u16Bytes, u32Bytes}
+use lib.ListN.{length, getD, replicate}
+use Rattle.numbers.specs.Choice.{both-left, both-right, both-true, between-low, between-high, between-true}
+use Rattle.numbers.specs.Little.{u16At, u32At}
 use Rattle.numbers.specs.Lists.{each, line}
-use Rattle.numbers.specs.Places.{by-order, places-given, places-past, places-count, places-are, places-all, Held, held}
+use Rattle.numbers.specs.Joins.{length-each}
+use Rattle.numbers.specs.Places.{places-given, places-past, places-count, places-are, places-all, Held, held}
 use Rattle.sheet.specs.Sizes.{rankOk}
 use Rattle.sheet.specs.Codes.{clampMode, clampCode, undefined}
 use Rattle.sheet.specs.Layouts.{noDimension, noLayout, theDimension, dimensionOk, dimensionUnused, dimensionAtOk, dimensionsOk, layoutOk, layoutUnused}
+use Rattle.sheet.specs.Facts.{layout-some, layout-most}
 use Rattle.sheet.specs.declared.ClampMode.{ClampMode}
 use Rattle.sheet.specs.declared.ClampMode.the-variants.{Undefined, Constant, ClampToEdge, Repeat, MirrorRepeat}
 use Rattle.sheet.specs.declared.Dimension.{Dimension}
 use Rattle.sheet.specs.declared.Layout.{Layout}
 use Rattle.sheet_reader.specs.Contents.{dimensionAt, dimensionsAt, layoutAt, layoutLength, layoutLengthOk, layoutHeadOk}
 use Rattle.sheet_writer.specs.Bytes.{dimensionBytes, layoutBytes}
-use Rattle.round_trip.specs.Stretches.{Bytes, Has, has-shift, has-back, has-left, has-right, has-join, has-rows-at, has-rows, length-each, u16-of, u32-of, low-at, high-at, u16-below, u32-below, has-u32}
+use Rattle.round_trip.specs.Stretches.{Bytes, Has, has-shift, has-back, has-rows-at, has-rows, u16-of, u32-of, low-at, high-at, u16-below, u32-below, has-u32}
 use Rattle.round_trip.specs.Codes.{clamp-mode-of, clamp-code-small, clamp-code-of}
 use Rattle.round_trip.specs.Typed.{DimensionFits, LayoutFits, LayoutSized}
 
@@ -86,19 +86,15 @@ dimensions-held : (rank : ℕ) (ds : List Dimension) → rank ≤ 5 → dimensio
 unfolding dimensionAtOk
 dimensions-held rank ds h e = held 5 dimensionOk dimensionUnused noDimension rank ds h e
 
-pub layout-rank : (l : Layout) → layoutOk l ≡ true → (1 ≤ l .rank) × (l .rank ≤ 5)
-unfolding layoutOk
-layout-rank l e = (between-low 1 5 (l .rank) (both-left _ _ e), between-high 1 5 (l .rank) (both-left _ _ e))
-
 pub layout-held : (l : Layout) → layoutOk l ≡ true → DimensionsHeld (l .rank) (l .dimensions)
 unfolding layoutOk
-layout-held l e = dimensions-held (l .rank) (l .dimensions) (layout-rank l e .1) (both-right _ _ e)
+layout-held l e = dimensions-held (l .rank) (l .dimensions) (layout-most l e) (both-right _ _ e)
 
 pub layout-shaped : (l : Layout) → layoutOk l ≡ true → LayoutSized l → LayoutShaped l
 layout-shaped l e z =
     record {
-      some = layout-rank l e .0;
-      few = layout-rank l e .1;
+      some = layout-some l e;
+      few = layout-most l e;
       five = z;
       past = λ k h m. no-dimension (theDimension (l .dimensions) k) (layout-held l e .past k h m);
     }

@@ -4,10 +4,10 @@ pub mod Typed
 pub mod Layouts
 pub mod Views
 pub mod Steps
-pub mod Turns
 pub mod Sheets
+pub mod Turns
 pub mod Growing
 pub mod Returning
 pub mod Written
-pub mod Theorems
 pub mod Prefixes
+pub mod Theorems

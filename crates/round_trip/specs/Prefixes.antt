@@ -6,30 +6,23 @@ use mathlib.Core.Logic.{inl, ⊎-elim}
 use mathlib.Core.List.{List}
 use native.Mathlib.Omega.{arith}
 use borrow.Author.Tests.{lt-ltb, le-ltb, le-leb}
-use lib.Dec.{eqb, ltb, leb}
 use lib.ListN.{length, getD}
-use Rattle.numbers.specs.Choice.{pick, between}
+use Rattle.numbers.specs.Choice.{pick}
 use Rattle.numbers.specs.Little.{u16At, u32At}
-use Rattle.sheet.specs.Sizes.{editionOk}
-use Rattle.sheet.specs.Layouts.{layoutOk}
-use Rattle.sheet.specs.Views.{viewOk}
-use Rattle.sheet.specs.Steps.{stepOk}
 use Rattle.sheet.specs.Sheets.{emptySheet}
 use Rattle.sheet.specs.declared.Sheet.{Sheet}
 use Rattle.sheet_reader.specs.Fields.{fieldAt}
-use Rattle.sheet_reader.specs.Contents.{layoutAt, layoutLengthOk, layoutHeadOk, viewAt, viewLengthOk, viewHeadOk, fillAt, loadAt, storeAt, reduceAt, transposeAt, multiplyAt, stepAt, stepLength}
-use Rattle.sheet_reader.specs.Reading.{withEdition, withLayout, withView, withStep, takeEdition, takeLayout, takeView, takeStep, takeField, Turn, over, on, turnTaken, turnField, turn, afterTurn, readFrom, readSheet}
-use Rattle.sheet_reader.specs.declared.Taken.{Taken}
+use Rattle.sheet_reader.specs.Contents.{layoutAt, layoutHeadOk, viewAt, viewHeadOk, fillAt, loadAt, storeAt, reduceAt, transposeAt, multiplyAt, stepAt}
+use Rattle.sheet_reader.specs.Reading.{takeEdition, takeLayout, takeView, takeStep, takeField, Turn, over, on, turnField, turn, afterTurn, readFrom, readSheet}
 use Rattle.sheet_reader.specs.declared.ReadAnswer.{ReadAnswer}
-use Rattle.sheet_reader.specs.declared.fields.Field.{Field}
 use Rattle.sheet_reader.specs.declared.fields.Field.the-variants.{Whole}
 use Rattle.sheet_writer.specs.Bytes.{layoutBytes, viewBytes}
-use Rattle.round_trip.specs.Stretches.{Bytes, Has, has-same, u16-below}
+use Rattle.round_trip.specs.Stretches.{Bytes, has-same, u16-below}
 use Rattle.round_trip.specs.Layouts.{layout-at-shaped, layout-at-long, layout-of, has-layout}
 use Rattle.round_trip.specs.Views.{view-at-shaped, view-at-long, view-of, has-view}
-use Rattle.round_trip.specs.Turns.{Goes, Ways, ways-on, turn-goes, lengthAt, nextAt}
+use Rattle.round_trip.specs.Turns.{Goes, ways-on, turn-goes, lengthAt, nextAt}
 use Rattle.round_trip.specs.Sheets.{longest, sheet-short}
-use Rattle.round_trip.specs.Growing.{SoFar, Grown, ways}
+use Rattle.round_trip.specs.Growing.{SoFar, ways}
 
 -- choices that go the same way give the same
 pick-same : {A : Type 0} (a b : Bool) (x y x′ y′ : A) → a ≡ b → (a ≡ true → x ≡ x′) → (a ≡ false → y ≡ y′) → pick a x y ≡ pick b x′ y′

@@ -1,33 +1,30 @@
 -- The bytes of a writable model, read field by field: each turn adds the next part, and the last leaves the model.
 use Prim.Native.Nat.{ℕ, zero, suc, _+_, _-_, _<_, _≤_}
 use mathlib.Core.Path.{_≡_, refl, sym, ap, _∙_}
-use mathlib.Core.Bool.{Bool, true, false}
+use mathlib.Core.Bool.{true}
 use mathlib.Core.List.{List, [], _∷_, _++_}
-use native.Mathlib.Nat.{add-zero, zero-add, add-suc, suc-add}
+use native.Mathlib.Nat.{add-zero, zero-add}
 use native.Mathlib.Numerals.{add-one}
 use native.Mathlib.Omega.{arith}
 use borrow.Author.Tests.{lt-ltb, le-ltb, le-leb, eq-eqb}
-use lib.Dec.{eqb, ltb, leb}
-use lib.ListN.{length, getD, set, replicate, length-append}
-use Rattle.numbers.specs.Choice.{pick, both, both-true}
+use lib.ListN.{length, getD, replicate, length-append}
+use Rattle.numbers.specs.Choice.{pick, both}
 use Rattle.numbers.specs.Little.{u16At}
-use Rattle.numbers.specs.Lists.{line, each}
+use Rattle.numbers.specs.Lists.{line, each, line-next}
+use Rattle.numbers.specs.Joins.{each-long}
 use Rattle.numbers.specs.Places.{places-are}
-use Rattle.sheet.specs.Sizes.{editionOk, stepLimit}
+use Rattle.sheet.specs.Sizes.{stepLimit}
 use Rattle.sheet.specs.Layouts.{noLayout, theLayout, layoutOk}
-use Rattle.sheet.specs.Views.{noView, theView, viewOk, sizedRank}
+use Rattle.sheet.specs.Views.{noView, theView, viewOk}
 use Rattle.sheet.specs.Steps.{noCell, theStep, stepOk}
 use Rattle.sheet.specs.Sheets.{emptySheet}
 use Rattle.sheet.specs.declared.Layout.{Layout}
 use Rattle.sheet.specs.declared.View.{View}
 use Rattle.sheet.specs.declared.Step.{Step}
-use Rattle.sheet.specs.declared.Cell.{Cell}
 use Rattle.sheet.specs.declared.Sheet.{Sheet}
 use Rattle.sheet_reader.specs.Fields.{fieldAt}
-use Rattle.sheet_reader.specs.Contents.{layoutAt, layoutLengthOk, layoutHeadOk, viewAt, viewLengthOk, viewHeadOk, stepAt, stepLength}
-use Rattle.sheet_reader.specs.Reading.{withEdition, withLayout, withView, withStep, layoutMayCome, viewMayCome, stepMayCome, takeEdition, takeLayout, takeView, takeStep, takeField, acceptedRead, endRead, Turn, over, on, turnTaken, turnField, turn, afterTurn, readFrom, readSheet}
-use Rattle.sheet_reader.specs.declared.Taken.{Taken}
-use Rattle.sheet_reader.specs.declared.ReadAnswer.{ReadAnswer}
+use Rattle.sheet_reader.specs.Contents.{layoutLengthOk, viewLengthOk, stepLength}
+use Rattle.sheet_reader.specs.Reading.{withEdition, withLayout, withView, withStep, layoutMayCome, viewMayCome, stepMayCome, takeEdition, takeLayout, takeView, takeStep, takeField, acceptedRead, endRead, on, turnTaken, turnField, turn, afterTurn, readFrom, readSheet}
 use Rattle.sheet_writer.specs.Bytes.{fieldBytes, layoutBytes, viewBytes, stepTag, stepBytes, layoutField, viewField, stepField, sheetBytes}
 use Rattle.round_trip.specs.Stretches.{Has, has-at, has-shift, has-left, has-right, has-self, u16-of}
 use Rattle.round_trip.specs.Typed.{LayoutSized, ViewSized, Sized}
@@ -120,10 +117,6 @@ upTo sh i j k =
       step = line (replicate 32 noCell) 0 (λ (n : ℕ). getD (sh .step) n noCell) k;
     }
 
-line-next : {A : Type 0} (d : List A) (g : ℕ → A) (n : ℕ) → set (line d 0 g n) n (g n) ≡ line d 0 g (suc n)
-unfolding line
-line-next d g n = rw zero-add
-
 module _ (sh : Sheet) where
   up-none : withEdition emptySheet (sh .edition) .sheet ≡ upTo sh 0 0 0
   unfolding upTo emptySheet line
@@ -163,11 +156,6 @@ module _ (sh : Sheet) where
         steps = sh .steps;
         step = ss i;
       }
-
-each-long : (n : ℕ) (f : ℕ → List ℕ) → ((k : ℕ) → 1 ≤ length (f k)) → n ≤ length (each n f)
-unfolding each
-each-long zero f h = omega arith
-each-long (suc n) f h = omega (arith, length-append (each n f) (f n), each-long n f h, h n)
 
 module _ (sh : Sheet) (w : Within sh) (z : Sized sh) where
   s : List ℕ

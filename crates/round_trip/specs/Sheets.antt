@@ -1,32 +1,30 @@
 -- A whole sheet: what a writable model keeps to, place by place, and its bytes with one part more.
-use Prim.Native.Nat.{ℕ, zero, suc, _+_, _*_, _<_, _≤_}
-use mathlib.Core.Path.{_≡_, refl, sym, ap, _∙_}
-use mathlib.Core.Bool.{Bool, true, false}
+use Prim.Native.Nat.{ℕ, _+_, _*_, _<_, _≤_}
+use mathlib.Core.Path.{_≡_, sym, ap, _∙_}
+use mathlib.Core.Bool.{true}
 use mathlib.Core.List.{List, [], _∷_, _++_, append-assoc, append-nil}
-use native.Mathlib.Nat.{add-zero, not-suc-le-zero, suc-mul}
 use native.Mathlib.Omega.{arith}
 use borrow.Author.Tests.{eqb-true, leb-true, le-leb, eq-eqb}
-use lib.Dec.{eqb, leb}
-use lib.ListN.{length, getD, set, replicate, length-append, length-set, length-replicate}
-use lib.Seq.{getD-set-same, getD-set-other}
-use Rattle.numbers.specs.Choice.{pick, both, both-left, both-right, both-true}
-use Rattle.numbers.specs.All.{all}
-use Rattle.numbers.specs.Lists.{each, each-none, each-more}
-use Rattle.numbers.specs.Places.{by-place, Held, held, held-all}
+use lib.ListN.{length, length-append}
+use Rattle.numbers.specs.Choice.{both-left, both-right, both-true}
+use Rattle.numbers.specs.Lists.{each, each-none}
+use Rattle.numbers.specs.Joins.{each-set, each-short}
+use Rattle.numbers.specs.Places.{Held, held, held-all}
 use Rattle.sheet.specs.Sizes.{stepLimit}
 use Rattle.sheet.specs.Layouts.{theLayout, layoutOk, layoutUnused}
-use Rattle.sheet.specs.Views.{theView, viewOk, viewUnused, sizedRank}
+use Rattle.sheet.specs.Views.{theView, viewOk, viewUnused}
 use Rattle.sheet.specs.Steps.{noCell, theStep, stepOk, stepUnused}
 use Rattle.sheet.specs.Sheets.{layoutAtOk, viewAtOk, stepAtOk, countsOk, writable}
+use Rattle.sheet.specs.Facts.{layout-most, view-most}
 use Rattle.sheet.specs.declared.Layout.{Layout}
 use Rattle.sheet.specs.declared.View.{View}
 use Rattle.sheet.specs.declared.Step.{Step}
 use Rattle.sheet.specs.declared.Cell.{Cell}
 use Rattle.sheet.specs.declared.Sheet.{Sheet}
-use Rattle.sheet_reader.specs.Reading.{withEdition, withLayout, withView, withStep}
+use Rattle.sheet_reader.specs.Reading.{withLayout, withView, withStep}
 use Rattle.sheet_writer.specs.Bytes.{fieldBytes, layoutBytes, viewBytes, stepTag, stepBytes, layoutField, viewField, stepField, sheetBytes}
-use Rattle.round_trip.specs.Layouts.{layout-rank, layout-long}
-use Rattle.round_trip.specs.Views.{view-rank, view-long, sized-few}
+use Rattle.round_trip.specs.Layouts.{layout-long}
+use Rattle.round_trip.specs.Views.{view-long, sized-few}
 use Rattle.round_trip.specs.Steps.{step-short}
 
 -- of the places for layouts, views and steps the first hold what is within Sizes, the others are unused
@@ -82,23 +80,6 @@ within-writable sh w =
     (both-true _ _ (held-all 4 layoutOk layoutUnused (theLayout [] 0) (sh .layouts) (sh .layout) (w .layout))
     (both-true _ _ (held-all 4 viewOk viewUnused (theView [] 0) (sh .views) (sh .view) (w .view))
     (held-all 32 (λ (c : Cell). stepOk (sh .edition) (sh .layouts) (sh .views) (c .step)) (λ (c : Cell). stepUnused (c .step)) noCell (sh .steps) (sh .step) (w .step))))
-
--- lists joined: alike, one more, and how long
-each-same : (n : ℕ) (f g : ℕ → List ℕ) → ((k : ℕ) → k < n → f k ≡ g k) → each n f ≡ each n g
-unfolding each
-each-same zero f g e = refl
-each-same (suc n) f g e = rw (each-same n f g (λ k l. e k (omega arith)), e n (omega arith))
-
-each-set : {A : Type 0} (field : A → List ℕ) (d : A) (xs : List A) (n : ℕ) (x : A) → n < length xs → each (n + 1) (λ (k : ℕ). field (getD (set xs n x) k d)) ≡ each n (λ (k : ℕ). field (getD xs k d)) ++ field x
-each-set field d xs n x h =
-    each-more n (λ (k : ℕ). field (getD (set xs n x) k d))
-    ∙ rw (each-same n (λ (k : ℕ). field (getD (set xs n x) k d)) (λ (k : ℕ). field (getD xs k d)) (λ k l. let q : k ≡ n → ⊥ = λ r. omega arith in rw (getD-set-other xs n k x d q)), getD-set-same xs n x d h)
-
-pub each-short : (w n : ℕ) (f : ℕ → List ℕ) → ((k : ℕ) → k < n → length (f k) ≤ w) → length (each n f) ≤ n * w
-unfolding each
-each-short w zero f h = omega arith
-each-short w (suc n) f h =
-    rw (length-append (each n f) (f n), suc-mul n w) (omega (arith, each-short w n f (λ k l. h k (omega arith)), h n (omega arith)))
 
 pub field-long : (tag : ℕ) (content : List ℕ) → length (fieldBytes tag content) ≡ 3 + length content
 unfolding fieldBytes
@@ -159,12 +140,12 @@ module _ (sh : Sheet) (w : Within sh) where
   layout-short : (k : ℕ) → k < sh .layouts → length (layoutField (sh .layout) k) ≤ 59
   layout-short k h =
       let l = theLayout (sh .layout) k in
-      omega (arith, field-long 0x10 (layoutBytes l), layout-long l, layout-rank l (w .layout .given k h))
+      omega (arith, field-long 0x10 (layoutBytes l), layout-long l, layout-most l (w .layout .given k h))
 
   view-short : (k : ℕ) → k < sh .views → length (viewField (sh .view) k) ≤ 38
   view-short k h =
       let v = theView (sh .view) k in
-      omega (arith, field-long 0x11 (viewBytes v), view-long v, view-rank v (w .view .given k h), sized-few (v .sized) (v .rank))
+      omega (arith, field-long 0x11 (viewBytes v), view-long v, view-most v (w .view .given k h), sized-few (v .sized) (v .rank))
 
   steps-short : (k : ℕ) → k < sh .steps → length (stepField (sh .step) k) ≤ 11
   steps-short k h =

@@ -1,15 +1,14 @@
 -- A step's content, both ways: its bytes read as that step, and what was read has those bytes.
-use Prim.Native.Nat.{ℕ, zero, suc, _+_, _<_, _≤_}
-use mathlib.Core.Path.{_≡_, refl, sym, ap, _∙_}
-use mathlib.Core.Bool.{Bool, true, false, true≢false}
-use mathlib.Core.List.{List, [], _∷_, _++_}
+use Prim.Native.Nat.{ℕ, _+_, _<_, _≤_}
+use mathlib.Core.Path.{_≡_, refl, sym}
+use mathlib.Core.Bool.{true, true≢false}
+use mathlib.Core.List.{List, []}
 use native.Mathlib.Nat.{add-zero}
 use native.Mathlib.Omega.{arith}
 use borrow.Author.Tests.{leb-true, le-leb}
-use lib.Dec.{eqb, leb, ltb}
+use lib.Dec.{leb}
 use lib.ListN.{length, getD}
 use Rattle.numbers.specs.Choice.{pick, pick-case, between, between-low, between-high, between-true}
-use Rattle.numbers.specs.Little.{u32At, u32Bytes}
 use Rattle.sheet.specs.Codes.{reduceMode, reduceCode, combineOf, combineCode}
 use Rattle.sheet.specs.Steps.{stepOk, stepUnused}
 use Rattle.sheet.specs.declared.Step.{Step}

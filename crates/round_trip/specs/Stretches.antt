@@ -1,14 +1,15 @@
 -- Stretches of bytes in a list of bytes: where they stand, and the little-endian numbers in them.
-use Prim.Native.Nat.{ℕ, zero, suc, _+_, _*_, _/_, _%_, _<_, _≤_}
-use mathlib.Core.Path.{_≡_, refl, sym, ap, _∙_}
+use Prim.Native.Nat.{ℕ, zero, suc, _+_, _*_, _/_, _%_, _<_}
+use mathlib.Core.Path.{_≡_, sym, _∙_}
 use mathlib.Core.List.{List, [], _∷_, _++_}
-use native.Mathlib.Nat.{zero-add, add-zero, add-assoc, add-comm, suc-mul, not-suc-le-zero, div-add-mod'}
+use native.Mathlib.Nat.{zero-add, add-zero, add-assoc, add-comm, not-suc-le-zero, div-add-mod'}
 use native.Mathlib.Numerals.{add-one}
 use native.Mathlib.Omega.{arith}
-use lib.ListN.{length, getD, length-append, List·getD-eq-default, List·getD-append}
-use lib.Seq.{ext-getD, getD-append-add}
+use lib.ListN.{length, getD, List·getD-eq-default}
+use lib.Seq.{ext-getD}
 use Rattle.numbers.specs.Little.{u16At, u32At, u16Bytes, u32Bytes}
 use Rattle.numbers.specs.Lists.{each}
+use Rattle.numbers.specs.Joins.{length-each}
 use Rattle.numbers.specs.Places.{by-place, by-order}
 
 -- each number of s is a byte
@@ -67,13 +68,6 @@ module _ (s : List ℕ) (p : ℕ) where
 
 pub has-at : (s : List ℕ) (p q : ℕ) (bs : List ℕ) → p ≡ q → Has s p 0 bs → Has s q 0 bs
 has-at s p q bs e h = rw e at h
-
--- lists of one length, joined
-pub length-each : (w n : ℕ) (f : ℕ → List ℕ) → ((k : ℕ) → k < n → length (f k) ≡ w) → length (each n f) ≡ n * w
-unfolding each
-length-each w zero f h = omega arith
-length-each w (suc n) f h =
-    rw (length-append (each n f) (f n), length-each w n f (λ k l. h k (omega arith)), h n (omega arith)) (sym (suc-mul n w))
 
 -- stretches of one length: the k-th stands k lengths further on
 module _ (s : List ℕ) (p w n : ℕ) (f : ℕ → List ℕ) (e : (k : ℕ) → k < n → length (f k) ≡ w) where

@@ -1,11 +1,13 @@
 -- The theorems about reading and writing, each for every model and every list of bytes.
 use Prim.Native.Nat.{ℕ, _<_, _≤_}
-use mathlib.Core.Path.{_≡_, refl, sym, ap, _∙_}
+use mathlib.Core.Path.{_≡_, refl, ap}
 use mathlib.Core.Bool.{true}
 use mathlib.Core.Logic.{_↔_}
 use mathlib.Core.List.{List}
 use native.Mathlib.Omega.{arith}
-use lib.ListN.{length}
+use lib.ListN.{length, getD, take}
+use lib.Seq.{take-all, length-take-le, getD-take}
+use Rattle.numbers.specs.Places.{by-order}
 use Rattle.sheet.specs.Sheets.{writable}
 use Rattle.sheet.specs.declared.Sheet.{Sheet}
 use Rattle.sheet_reader.specs.Reading.{refusedRead, acceptedRead, readSheet}
@@ -17,6 +19,7 @@ use Rattle.round_trip.specs.Sheets.{Within, within, within-writable, lon
 use Rattle.round_trip.specs.Growing.{Grown, reading}
 use Rattle.round_trip.specs.Returning.{reads-back}
 use Rattle.round_trip.specs.Written.{sheet-bytes}
+use Rattle.round_trip.specs.Prefixes.{enough, same-answer}
 
 -- What is written reads back: the bytes of a writable model read as that model.
 pub written-reads-back : (sh : Sheet) → Typed sh → writable sh ≡ true → readSheet (sheetBytes sh) ≡ acceptedRead sh
@@ -60,17 +63,43 @@ read-within s sh e = grown s sh e .within
 pub read-sized : (s : List ℕ) (sh : Sheet) → readSheet s ≡ acceptedRead sh → Sized sh
 read-sized s sh e = grown s sh e .sized
 
--- A reading that is not refused accepts the sheet that it gives.
+-- A reading that is not refused accepts the sheet that it gives; a refusal gives a number from 1 to 6 and an empty sheet.
 pub not-refused : (s : List ℕ) → readSheet s .refusal .number ≡ 0 → readSheet s ≡ acceptedRead (readSheet s .sheet)
 unfolding refusedRead acceptedRead
 not-refused s e =
     reading s (λ (r : ReadAnswer). r .refusal .number ≡ 0 → r ≡ acceptedRead (r .sheet))
     (λ n at h m l q. absurd (omega arith)) (λ sh g q. refl) e
 
--- An accepted sheet is short, and the place of a refusal is one of the first bytes.
+pub refused : (s : List ℕ) → 1 ≤ readSheet s .refusal .number → readSheet s ≡ refusedRead (readSheet s .refusal .number) (readSheet s .refusal .place)
+unfolding refusedRead acceptedRead
+refused s e =
+    reading s (λ (r : ReadAnswer). 1 ≤ r .refusal .number → r ≡ refusedRead (r .refusal .number) (r .refusal .place))
+    (λ n at h m l q. refl) (λ sh g q. absurd (omega arith)) e
+
+pub number-small : (s : List ℕ) → readSheet s .refusal .number ≤ 6
+unfolding refusedRead acceptedRead
+number-small s = reading s (λ (r : ReadAnswer). r .refusal .number ≤ 6) (λ n at h m l. m) (λ sh g. omega arith)
+
+-- Places are small: an accepted sheet is no longer than the longest, and the place of a refusal is no further.
 pub accepted-short : (s : List ℕ) (sh : Sheet) → readSheet s ≡ acceptedRead sh → length s ≤ longest
 accepted-short s sh e = let g = grown s sh e in rw (g .ends) (sheet-short sh (g .within))
 
 pub place-small : (s : List ℕ) → readSheet s .refusal .place ≤ longest
 unfolding refusedRead acceptedRead
 place-small s = reading s (λ (r : ReadAnswer). r .refusal .place ≤ longest) (λ n at h m l. l) (λ sh g. omega arith)
+
+-- What is past a prefix cannot change the answer: two sheets of `enough` bytes or more that agree in so many read alike, and so a prefix of
+-- so many bytes reads as the whole.
+pub prefix-decides : (s t : List ℕ) → Bytes s → Bytes t → enough ≤ length s → enough ≤ length t → ((i : ℕ) → i < enough → getD s i 0 ≡ getD t i 0) → readSheet s ≡ readSheet t
+prefix-decides s t bs bt ls lt e = same-answer s t bs bt e ls lt
+
+pub prefix-reads : (s : List ℕ) (n : ℕ) → Bytes s → enough ≤ n → readSheet (take n s) ≡ readSheet s
+prefix-reads s n b h =
+    by-order n (length s)
+    (λ l.
+    let k : length (take n s) ≡ n = length-take-le n s (omega arith) in
+    prefix-decides (take n s) s
+    (λ i m. let j : i < n = omega arith in rw (getD-take n s i 0 j) (b i (omega arith)))
+    b (omega arith) (omega arith)
+    (λ i m. let j : i < n = omega arith in getD-take n s i 0 j))
+    (λ l. rw (take-all n s l))

@@ -1,7 +1,7 @@
 -- The ways that a turn of the reader can go, and what follows for a whole reading.
 use Prim.Native.Nat.{ℕ, zero, suc, _+_, _-_, _<_, _≤_}
-use mathlib.Core.Path.{_≡_, refl, sym, ap, _∙_}
-use mathlib.Core.Bool.{Bool, true, false}
+use mathlib.Core.Path.{_≡_, refl}
+use mathlib.Core.Bool.{true}
 use mathlib.Core.List.{List}
 use native.Mathlib.Omega.{arith}
 use borrow.Author.Tests.{eqb-true, ltb-true, ltb-false, leb-true, lt-ltb}
@@ -21,7 +21,6 @@ use Rattle.sheet_reader.specs.Reading.{refuse, withEdition, withLayout, withVie
 use Rattle.sheet_reader.specs.declared.Taken.{Taken}
 use Rattle.sheet_reader.specs.declared.ReadAnswer.{ReadAnswer}
 use Rattle.sheet_reader.specs.declared.fields.Field.{Field}
-use Rattle.sheet_reader.specs.declared.fields.Field.the-variants.{Whole, Short}
 
 -- the length of the content of the field at a byte, and the byte past it
 abbrev pub lengthAt : List ℕ → ℕ → ℕ

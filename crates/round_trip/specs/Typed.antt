@@ -1,6 +1,6 @@
 -- What the language itself guarantees of a model and a record of lists and numbers does not show: each array has its number of places, and
 -- each number fits its type. Of the numbers only those are named whose range no judge of the model tests.
-use Prim.Native.Nat.{ℕ, _<_, _^_}
+use Prim.Native.Nat.{ℕ, _<_}
 use mathlib.Core.Path.{_≡_}
 use lib.ListN.{length}
 use Rattle.sheet.specs.Layouts.{theDimension, theLayout}

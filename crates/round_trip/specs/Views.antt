@@ -1,26 +1,27 @@
 -- A view's content, both ways: its bytes read as that view, and what was read has those bytes.
-use Prim.Native.Nat.{ℕ, zero, suc, _+_, _*_, _%_, _<_, _≤_}
-use mathlib.Core.Path.{_≡_, refl, sym, ap, _∙_}
-use mathlib.Core.Bool.{Bool, true, false, not}
+use Prim.Native.Nat.{ℕ, _+_, _*_, _<_, _≤_}
+use mathlib.Core.Path.{_≡_, refl, sym, _∙_}
+use mathlib.Core.Bool.{Bool, true, false}
 use mathlib.Core.List.{List, [], _∷_, _++_}
 use native.Mathlib.Nat.{add-zero}
 use native.Mathlib.Omega.{arith}
 use borrow.Author.Tests.{eqb-true, leb-true, le-leb, le-ltb, eq-eqb, not-true}
-use lib.Dec.{eqb, leb, ltb}
-use lib.ListN.{length, getD, replicate, length-append}
+use lib.ListN.{length, getD, length-append}
 use Rattle.numbers.specs.Choice.{pick, both, between, both-left, both-right, both-true, between-low, between-high, between-true}
-use Rattle.numbers.specs.All.{all, all-at}
+use Rattle.numbers.specs.All.{all-at}
 use Rattle.numbers.specs.Little.{u16At, u16Bytes}
 use Rattle.numbers.specs.Lists.{each, line}
+use Rattle.numbers.specs.Joins.{length-each}
 use Rattle.numbers.specs.Places.{places-given, places-past, places-count, places-are, places-all, Held, held}
 use Rattle.sheet.specs.Sizes.{rankOk, sizeOk}
 use Rattle.sheet.specs.Views.{noViewDimension, noClip, noView, theViewDimension, entryOk, permutationOk, viewDimensionUnused, viewDimensionAtOk, viewDimensionsOk, sizedRank, viewOk, clipUnused, viewUnused}
+use Rattle.sheet.specs.Facts.{view-some, view-most}
 use Rattle.sheet.specs.declared.ViewDimension.{ViewDimension}
 use Rattle.sheet.specs.declared.Clip.{Clip}
 use Rattle.sheet.specs.declared.View.{View}
 use Rattle.sheet_reader.specs.Contents.{permutationAt, viewDimensionAt, viewDimensionsAt, clipAt, viewOf, hasDimensions, viewAt, viewLength, viewLengthOk, viewHeadOk}
 use Rattle.sheet_writer.specs.Bytes.{viewDimensionBytes, clipBytes, sizedCode, viewBytes}
-use Rattle.round_trip.specs.Stretches.{Bytes, Has, has-at, has-shift, has-back, has-left, has-right, has-join, has-rows-at, has-rows, length-each, u16-of, low-at, high-at, u16-below}
+use Rattle.round_trip.specs.Stretches.{Bytes, Has, has-at, has-shift, has-back, has-left, has-right, has-join, has-rows-at, has-rows, u16-of, low-at, high-at, u16-below}
 use Rattle.round_trip.specs.Codes.{one-of, sized-of, sized-code-small, sized-code-of}
 use Rattle.round_trip.specs.Typed.{ClipFits, ViewFits, ViewSized}
 
@@ -116,24 +117,19 @@ entry-unused : (rank : ℕ) (ps : List ℕ) → permutationOk rank ps ≡ true �
 unfolding entryOk pick
 entry-unused rank ps e k h l = eqb-true (getD ps k 0) 0 (rw (le-ltb k rank h) at (all-at 5 (entryOk rank ps) e k l))
 
-pub view-rank : (v : View) → viewOk v ≡ true → (1 ≤ v .rank) × (v .rank ≤ 5)
-unfolding viewOk
-view-rank v e = (between-low 1 5 (v .rank) (both-left _ _ e), between-high 1 5 (v .rank) (both-left _ _ e))
-
 pub view-held : (v : View) → viewOk v ≡ true → Held 5 (λ (d : ViewDimension). sizeOk (d .size)) viewDimensionUnused noViewDimension (sizedRank (v .sized) (v .rank)) (v .dimensions)
 unfolding viewOk
 view-held v e =
-    let few : own v ≤ 5 = omega (arith, sized-few (v .sized) (v .rank), view-rank v e) in
+    let few : own v ≤ 5 = omega (arith, sized-few (v .sized) (v .rank), view-most v e) in
     view-dimensions-held (own v) (v .dimensions) few (both-right _ _ (both-right _ _ e))
 
 pub view-shaped : (v : View) → viewOk v ≡ true → ViewSized v → ViewShaped v
 unfolding viewOk
 view-shaped v e z =
-    let r = view-rank v e in
     let w = view-held v e in
     record {
-      some = r .0;
-      few = r .1;
+      some = view-some v e;
+      few = view-most v e;
       entries = z .permutation;
       five = z .dimensions;
       entry-past = entry-unused (v .rank) (v .permutation) (both-left _ _ (both-right _ _ e));

@@ -1,23 +1,22 @@
 -- The bytes of a model that is writable and whose numbers fit their types are bytes.
-use Prim.Native.Nat.{ℕ, zero, suc, _+_, _*_, _/_, _%_, _^_, _<_, _≤_}
-use mathlib.Core.Path.{_≡_, refl, sym, ap, _∙_}
-use mathlib.Core.Bool.{Bool, true, false, true≢false}
+use Prim.Native.Nat.{ℕ, zero, suc, _^_, _<_, _≤_}
+use mathlib.Core.Path.{_≡_, sym}
+use mathlib.Core.Bool.{Bool, true, true≢false}
 use mathlib.Core.List.{List, [], _∷_, _++_}
 use native.Mathlib.Omega.{arith}
-use borrow.Author.Tests.{eqb-true, ltb-true, leb-true, lt-ltb}
-use lib.Dec.{eqb, ltb, leb}
+use borrow.Author.Tests.{eqb-true, ltb-true, leb-true}
+use lib.Dec.{eqb, ltb}
 use lib.ListN.{length, getD}
-use Rattle.numbers.specs.Choice.{pick, pick-case, both, both-left, both-right, between, between-high}
-use Rattle.numbers.specs.All.{all-at}
+use Rattle.numbers.specs.Choice.{pick, pick-case, both-left, both-right, between, between-high}
 use Rattle.numbers.specs.Little.{u16Bytes, u32Bytes}
 use Rattle.numbers.specs.Lists.{each}
-use Rattle.numbers.specs.Places.{Held}
-use Rattle.kinds.specs.Widths.{kindOk, width, fits}
+use Rattle.kinds.specs.Widths.{width, fits}
 use Rattle.sheet.specs.Sizes.{sideLimit, sizeOk, optionOk}
-use Rattle.sheet.specs.Codes.{clampCode, reduceCode, combineCode}
+use Rattle.sheet.specs.Codes.{clampCode}
 use Rattle.sheet.specs.Layouts.{theDimension, theLayout, dimensionOk, layoutOk}
-use Rattle.sheet.specs.Views.{theViewDimension, theView, entryOk, permutationOk, sizedRank, viewOk}
+use Rattle.sheet.specs.Views.{theViewDimension, theView, sizedRank, viewOk}
 use Rattle.sheet.specs.Steps.{theStep, fillOk, loadOk, storeOk, reduceOk, transposeOk, multiplyOk, stepOk}
+use Rattle.sheet.specs.Facts.{layout-most, view-most, view-entry}
 use Rattle.sheet.specs.declared.Dimension.{Dimension}
 use Rattle.sheet.specs.declared.Layout.{Layout}
 use Rattle.sheet.specs.declared.ViewDimension.{ViewDimension}
@@ -30,8 +29,8 @@ use Rattle.sheet_writer.specs.Bytes.{fieldBytes, dimensionBytes, layoutBytes, v
 use Rattle.round_trip.specs.Stretches.{Bytes}
 use Rattle.round_trip.specs.Codes.{clamp-code-small, reduce-code-between, combine-code-small, sized-code-small}
 use Rattle.round_trip.specs.Typed.{DimensionFits, LayoutFits, ClipFits, ViewFits, StepFits, Fits}
-use Rattle.round_trip.specs.Layouts.{layout-rank, layout-held, layout-long}
-use Rattle.round_trip.specs.Views.{view-rank, view-held, view-long, sized-few}
+use Rattle.round_trip.specs.Layouts.{layout-held, layout-long}
+use Rattle.round_trip.specs.Views.{view-held, view-long, sized-few}
 use Rattle.round_trip.specs.Steps.{step-short}
 use Rattle.round_trip.specs.Sheets.{Within}
 
@@ -83,18 +82,12 @@ below-dimension d e f =
 below-layout : (l : Layout) → layoutOk l ≡ true → LayoutFits l → Below (layoutBytes l)
 unfolding layoutBytes
 below-layout l e f =
-    let r = layout-rank l e in
+    let r = layout-most l e in
     below-append ((l .rank ∷ clampCode (l .mode) ∷ []) ++ u32Bytes (l .clamp)) (each (l .rank) (λ (k : ℕ). dimensionBytes (theDimension (l .dimensions) k)))
     (omega arith, (omega (arith, clamp-code-small (l .mode)), below-u32 (l .clamp) (f .clamp)))
     (below-each (l .rank) (λ (k : ℕ). dimensionBytes (theDimension (l .dimensions) k)) (λ k h. below-dimension (theDimension (l .dimensions) k) (layout-held l e .given k h) (f .dimension k)))
 
 -- views
-entry-below : (rank : ℕ) (ps : List ℕ) → rank ≤ 5 → permutationOk rank ps ≡ true → (k : ℕ) → k < rank → getD ps k 0 < 256
-unfolding entryOk pick
-entry-below rank ps few e k h =
-    let o = rw (lt-ltb k rank h) at (all-at 5 (entryOk rank ps) e k (omega arith)) in
-    omega (arith, ltb-true (getD ps k 0) rank (both-left _ _ o))
-
 below-clip : (c : Clip) → ClipFits c → Below (clipBytes c)
 unfolding clipBytes
 below-clip c f = let o = f .offset in let n = f .span in omega arith
@@ -104,16 +97,15 @@ unfolding viewDimensionBytes
 below-view-dimension d e f = let z = size-below (d .size) e in omega arith
 
 below-view : (v : View) → viewOk v ≡ true → ViewFits v → Below (viewBytes v)
-unfolding viewBytes viewOk
+unfolding viewBytes
 below-view v e f =
-    let r = view-rank v e in
-    let e1 = both-right _ _ e in
+    let r = view-most v e in
     let w = view-held v e in
     let n = sizedRank (v .sized) (v .rank) in
     let a = v .rank ∷ sizedCode (v .sized) ∷ [] in
     let b = each (v .rank) (λ (k : ℕ). getD (v .permutation) k 0 ∷ []) in
     let c = each n (λ (k : ℕ). viewDimensionBytes (theViewDimension (v .dimensions) k)) in
-    let entries = below-each (v .rank) (λ (k : ℕ). getD (v .permutation) k 0 ∷ []) (λ k h. (entry-below (v .rank) (v .permutation) (r .1) (both-left _ _ e1) k h, tt)) in
+    let entries = below-each (v .rank) (λ (k : ℕ). getD (v .permutation) k 0 ∷ []) (λ k h. (omega (arith, view-entry v e k h), tt)) in
     let dims = below-each n (λ (k : ℕ). viewDimensionBytes (theViewDimension (v .dimensions) k)) (λ k h. below-view-dimension (theViewDimension (v .dimensions) k) (w .given k h) (f .stride k)) in
     below-append (a ++ b ++ c ++ clipBytes (v .rows)) (clipBytes (v .columns))
     (below-append (a ++ b ++ c) (clipBytes (v .rows))
@@ -189,13 +181,13 @@ module _ (sh : Sheet) (w : Within sh) (f : Fits sh) where
   layout-field k h =
       let l = theLayout (sh .layout) k in
       let e = w .layout .given k h in
-      below-field 0x10 (layoutBytes l) (omega arith) (omega (arith, layout-long l, layout-rank l e)) (below-layout l e (f .layouts k))
+      below-field 0x10 (layoutBytes l) (omega arith) (omega (arith, layout-long l, layout-most l e)) (below-layout l e (f .layouts k))
 
   view-field : (k : ℕ) → k < sh .views → Below (viewField (sh .view) k)
   view-field k h =
       let v = theView (sh .view) k in
       let e = w .view .given k h in
-      below-field 0x11 (viewBytes v) (omega arith) (omega (arith, view-long v, view-rank v e, sized-few (v .sized) (v .rank))) (below-view v e (f .views k))
+      below-field 0x11 (viewBytes v) (omega arith) (omega (arith, view-long v, view-most v e, sized-few (v .sized) (v .rank))) (below-view v e (f .views k))
 
   step-field : (k : ℕ) → k < sh .steps → Below (stepField (sh .step) k)
   step-field k h =
