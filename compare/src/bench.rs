@@ -1,0 +1,270 @@
+//! Timings of the archive beside the reference: the same inputs, in turn, in one run.
+
+use std::hint::black_box;
+use std::time::{Duration, Instant};
+
+use crate::jobs::{Jobs, State};
+use crate::reference::{
+    sheet_bytes, ClampMode, Clip, Combine, Dimension, Kind, Layout, ReduceMode, Sheet, Step, View,
+    ViewDimension, MEMORY_MAX, RECORDS_MAX, RECORD_NUMBERS,
+};
+
+/// A sample lasts at least so long, so that the clock's grain does not matter.
+const SAMPLE: Duration = Duration::from_micros(500);
+const STEPS: usize = 32;
+
+/// Prints the medians and their ratios.
+pub fn bench(archive: &dyn Jobs, reference: &dyn Jobs, samples: usize) {
+    println!(
+        "medians of {samples} samples in turn; memory and rooms are not cleared between calls"
+    );
+    println!(
+        "{:<24}{:<12}{:>12}{:>14}{:>8}",
+        "sheet", "job", "archive us", "reference us", "ratio"
+    );
+    for (name, sheet) in named_sheets() {
+        bench_sheet(name, &sheet, archive, reference, samples);
+    }
+    println!("\ncarry_out of {STEPS} steps, a fill and loads, by the side of the matrix");
+    println!(
+        "{:<8}{:>10}{:>16}{:>18}{:>8}",
+        "side", "elements", "archive ns/el", "reference ns/el", "ratio"
+    );
+    for side in [1, 2, 4, 8, 12, 16] {
+        bench_side(side, archive, reference, samples);
+    }
+}
+
+fn bench_sheet(name: &str, sheet: &[u8], archive: &dyn Jobs, reference: &dyn Jobs, samples: usize) {
+    let mut bench = Bench::new(sheet, reference);
+    for (job, call) in [
+        ("carry_out", Bench::carry_out as fn(&mut Bench, &dyn Jobs)),
+        ("translate", Bench::translate),
+        ("run_tape", Bench::run),
+    ] {
+        let [one, other] = bench.medians([archive, reference], call, samples);
+        let ratio = one / other;
+        println!("{name:<24}{job:<12}{:>12.2}{:>14.2}{ratio:>8.2}", one * 1e6, other * 1e6);
+    }
+}
+
+fn bench_side(side: usize, archive: &dyn Jobs, reference: &dyn Jobs, samples: usize) {
+    let sheet = sheet_bytes(&plain_loads(side));
+    let elements = (STEPS - 1) * side * side;
+    let mut bench = Bench::new(&sheet, reference);
+    let medians = bench.medians([archive, reference], Bench::carry_out, samples);
+    let [one, other] = medians.map(|seconds| seconds * 1e9 / elements as f64);
+    println!("{side:<8}{elements:>10}{one:>16.2}{other:>18.2}{:>8.2}", one / other);
+}
+
+/// The lent arrays of one sheet's calls.
+struct Bench {
+    sheet: Vec<u8>,
+    memory: Vec<u8>,
+    room: Vec<i32>,
+    tape: Vec<i32>,
+    state: State,
+    answer: [u32; 4],
+}
+
+impl Bench {
+    fn new(sheet: &[u8], reference: &dyn Jobs) -> Bench {
+        let mut room = vec![0; RECORDS_MAX * RECORD_NUMBERS];
+        let (mut records, mut answer) = ([0], [0; 4]);
+        reference.translate(sheet, MEMORY_MAX, &mut room, &mut records, &mut answer);
+        assert_eq!(answer[0], 0, "a sheet of the timings is refused");
+        let tape = room[..records[0] as usize * RECORD_NUMBERS].to_vec();
+        let memory = (0..MEMORY_MAX).map(|i| (i * 7 + i / 251) as u8).collect();
+        Bench { sheet: sheet.to_vec(), memory, room, tape, state: State::EMPTY, answer }
+    }
+
+    fn carry_out(&mut self, jobs: &dyn Jobs) {
+        jobs.carry_out(&self.sheet, &mut self.memory, &mut self.state, &mut self.answer);
+    }
+
+    fn translate(&mut self, jobs: &dyn Jobs) {
+        let mut records = [0];
+        jobs.translate(&self.sheet, MEMORY_MAX, &mut self.room, &mut records, &mut self.answer);
+    }
+
+    fn run(&mut self, jobs: &dyn Jobs) {
+        let records = self.tape.len() / RECORD_NUMBERS;
+        let memory = &mut self.memory;
+        jobs.run(&self.sheet, &self.tape, records, memory, &mut self.state, &mut self.answer);
+    }
+
+    /// The median time of a call of each side, in seconds; the sides take turns.
+    fn medians(
+        &mut self,
+        sides: [&dyn Jobs; 2],
+        call: fn(&mut Bench, &dyn Jobs),
+        samples: usize,
+    ) -> [f64; 2] {
+        let calls = sides.map(|jobs| self.calls_a_sample(jobs, call));
+        let mut times = [Vec::new(), Vec::new()];
+        for _ in 0..samples {
+            for side in 0..2 {
+                let start = Instant::now();
+                for _ in 0..calls[side] {
+                    call(black_box(self), sides[side]);
+                }
+                times[side].push(start.elapsed().as_secs_f64() / f64::from(calls[side]));
+            }
+        }
+        assert_eq!(self.answer[0], 0, "a sheet of the timings is refused");
+        times.map(median)
+    }
+
+    fn calls_a_sample(&mut self, jobs: &dyn Jobs, call: fn(&mut Bench, &dyn Jobs)) -> u32 {
+        let mut calls = 1;
+        loop {
+            let start = Instant::now();
+            for _ in 0..calls {
+                call(black_box(self), jobs);
+            }
+            if start.elapsed() >= SAMPLE {
+                return calls;
+            }
+            calls *= 2;
+        }
+    }
+}
+
+fn median(mut times: Vec<f64>) -> f64 {
+    times.sort_by(f64::total_cmp);
+    times[times.len() / 2]
+}
+
+/// The sheets of the timings, each of 32 steps.
+fn named_sheets() -> Vec<(&'static str, Vec<u8>)> {
+    [
+        ("plain 16 by 16 loads", plain_loads(16)),
+        ("padded loads", padded_loads()),
+        ("5-dimensional views", five_dimensional_views()),
+        ("stores", stores()),
+        ("multiply-adds", multiply_adds()),
+        ("mixed", mixed()),
+    ]
+    .map(|(name, sheet)| {
+        assert_eq!(sheet.steps.len(), STEPS);
+        (name, sheet_bytes(&sheet))
+    })
+    .into()
+}
+
+fn dimension(size: u16, stride: u16) -> Dimension {
+    Dimension { block_size: 1, size, stride, offset: 0, span: size }
+}
+
+fn layout(clamp_mode: ClampMode, dimensions: Vec<Dimension>) -> Layout {
+    Layout { clamp_mode, clamp_value: 0, dimensions }
+}
+
+/// Rows and columns one after the other.
+fn square_layout(side: usize) -> Layout {
+    let side = side as u16;
+    layout(ClampMode::Undefined, vec![dimension(side, side), dimension(side, 1)])
+}
+
+fn fill(register: usize, side: usize, kind: u8) -> Step {
+    Step::Fill { register, rows: side, columns: side, kind: Kind(kind), value: 3 }
+}
+
+fn load(register: usize, view: Option<usize>, base: u32) -> Step {
+    Step::Load { register, object: None, layout: 0, view, base }
+}
+
+fn store(register: usize, base: u32) -> Step {
+    Step::Store { register, layout: 0, view: None, base }
+}
+
+/// The base of a step: another kilobyte for each.
+fn base(step: usize) -> u32 {
+    1_024 * step as u32
+}
+
+fn plain_loads(side: usize) -> Sheet {
+    let mut steps = vec![fill(0, side, 0)];
+    steps.extend((1..STEPS).map(|step| load(0, None, base(step))));
+    Sheet { layouts: vec![square_layout(side)], views: vec![], steps }
+}
+
+/// A quarter of the rows lies outside and is mirrored.
+fn padded_loads() -> Sheet {
+    let rows = Dimension { offset: -2, span: 16, ..dimension(12, 16) };
+    let layout = layout(ClampMode::MirrorRepeat, vec![rows, dimension(16, 1)]);
+    Sheet { layouts: vec![layout], ..plain_loads(16) }
+}
+
+fn five_dimensional_views() -> Sheet {
+    let sizes = [2, 2, 2, 4, 8];
+    let strides = [128, 64, 32, 8, 1];
+    let dimensions = sizes.iter().zip(strides).map(|(&size, stride)| dimension(size, stride));
+    let view = View {
+        permutation: vec![2, 0, 1, 3, 4],
+        dimensions: Some(
+            sizes
+                .iter()
+                .zip(strides)
+                .map(|(&size, stride)| ViewDimension { size, stride })
+                .collect(),
+        ),
+        clip: Clip { row_offset: 0, row_span: 65_535, column_offset: 0, column_span: 65_535 },
+    };
+    let mut steps = vec![fill(0, 16, 2)];
+    steps.extend((1..STEPS).map(|step| load(0, Some(0), base(step))));
+    let layouts = vec![layout(ClampMode::Undefined, dimensions.collect())];
+    Sheet { layouts, views: vec![view], steps }
+}
+
+fn stores() -> Sheet {
+    let mut steps = vec![fill(0, 16, 4)];
+    steps.extend((1..STEPS).map(|step| store(0, base(step))));
+    Sheet { layouts: vec![square_layout(16)], views: vec![], steps }
+}
+
+fn multiply_adds() -> Sheet {
+    let mut steps = vec![fill(0, 16, 1), fill(1, 16, 0), fill(2, 16, 5)];
+    steps.resize(STEPS, Step::MultiplyAdd { result: 2, a: 0, b: 1, c: 2 });
+    Sheet { steps, ..Sheet::default() }
+}
+
+/// Loads of both operands, a multiply-add, a reduction, a transposition and a store, in turn.
+fn mixed() -> Sheet {
+    let mut steps = vec![fill(0, 16, 1), fill(1, 16, 0), fill(2, 16, 5)];
+    for step in 0.. {
+        if steps.len() >= STEPS {
+            break;
+        }
+        steps.extend([
+            load(0, None, base(2 * step)),
+            load(1, None, base(2 * step + 1)),
+            Step::MultiplyAdd { result: 2, a: 0, b: 1, c: 2 },
+            Step::Reduce {
+                result: 3,
+                source: 2,
+                rows: 16,
+                columns: 16,
+                mode: ReduceMode::Row,
+                combine: Combine::Add,
+            },
+            Step::Transpose { result: 3, source: 3 },
+            store(3, base(32 + step)),
+        ]);
+    }
+    steps.truncate(STEPS);
+    Sheet { layouts: vec![square_layout(16)], views: vec![], steps }
+}
+
+#[cfg(test)]
+mod tests {
+    use super::*;
+    use crate::jobs::Reference;
+
+    #[test]
+    fn the_sheets_of_the_timings_are_accepted() {
+        for (_, sheet) in named_sheets() {
+            Bench::new(&sheet, &Reference::default()).run(&Reference::default());
+        }
+    }
+}

@@ -1,0 +1,297 @@
+//! One case: a sheet, a memory, rooms and tapes; and the comparison of every job on it.
+
+use std::hint::black_box;
+
+use crate::coverage::Coverage;
+use crate::damage::{damage, noise};
+use crate::generate::{generate, many_records};
+use crate::jobs::{Answer, Jobs, Reference, State};
+use crate::random::Random;
+use crate::reference::{read_sheet, translate, MEMORY_MAX, RECORDS_MAX, RECORD_NUMBERS};
+use crate::tapes::{damage_tape, random_tape, Tape};
+
+/// The room that holds every tape, in numbers.
+const TAPE_ROOM: usize = RECORDS_MAX * RECORD_NUMBERS;
+/// Bytes before and after a lent slice that must stay as they are.
+const GUARD: usize = 32;
+const GARBAGE: u8 = 0xA5;
+const GARBAGE_WORD: u32 = 0xA5A5_A5A5;
+
+/// The inputs of every job.
+#[derive(Clone)]
+pub struct Case {
+    pub sheet: Vec<u8>,
+    pub memory: Vec<u8>,
+    /// What checking and translating are told: the memory's length, or one that no memory has.
+    pub told_len: usize,
+    /// The room for a written sheet, in bytes.
+    pub sheet_room: usize,
+    /// The room for a tape, in numbers.
+    pub tape_room: usize,
+    pub tapes: Vec<Tape>,
+}
+
+impl Case {
+    /// The case of a number under a seed.
+    pub fn of_seed(seed: u64, number: u64) -> Case {
+        let random = &mut Random::of_case(seed, number);
+        let (sheet, memory_len) = match random.below(100) {
+            0..=57 => {
+                let generated = generate(random);
+                (generated.sheet, generated.memory_len)
+            }
+            58..=59 => (many_records(random), MEMORY_MAX),
+            60..=94 => {
+                let generated = generate(random);
+                (damage(random, &generated.sheet), generated.memory_len)
+            }
+            _ => (noise(random), random.below(100)),
+        };
+        let mut memory = vec![0; memory_len];
+        random.fill(&mut memory);
+        let told_len = match random.below(100) {
+            0 => random.pick(&[usize::MAX, 1 << 32, MEMORY_MAX + 1]),
+            _ => memory_len,
+        };
+        let records = translate(&sheet, told_len, TAPE_ROOM).map(|translated| translated.records);
+        let tape = Tape::of(&records.unwrap_or_default());
+        Case {
+            sheet_room: sheet_room(random, sheet.len()),
+            tape_room: tape_room(random, tape.numbers.len()),
+            tapes: tapes(random, &sheet, &tape, memory_len),
+            sheet,
+            memory,
+            told_len,
+        }
+    }
+}
+
+fn sheet_room(random: &mut Random, length: usize) -> usize {
+    match random.below(5) {
+        0 => length.saturating_sub(1),
+        1 => random.below(length + 1),
+        2 => length + random.below(9),
+        _ => length,
+    }
+}
+
+fn tape_room(random: &mut Random, needed: usize) -> usize {
+    match random.below(8) {
+        0 => needed.saturating_sub(1),
+        1 => needed,
+        2 => needed + random.below(2 * RECORD_NUMBERS),
+        3 => random.below(needed + 1),
+        4 => TAPE_ROOM + random.below(2 * RECORD_NUMBERS),
+        _ => TAPE_ROOM,
+    }
+}
+
+/// Tapes beside the translated one, which every accepted sheet is run with: that one damaged,
+/// and a random one.
+fn tapes(random: &mut Random, sheet: &[u8], translated: &Tape, memory_len: usize) -> Vec<Tape> {
+    let model = read_sheet(sheet).unwrap_or_default();
+    let random_tape = random_tape(random, &model, memory_len);
+    vec![damage_tape(random, translated), random_tape]
+}
+
+/// The public jobs.
+#[derive(Clone, Copy, PartialEq, Eq, PartialOrd, Ord, Debug)]
+pub enum Job {
+    Read,
+    Rewrite,
+    Check,
+    CarryOut,
+    Translate,
+    Run,
+}
+
+/// Everything that a call was lent and may have changed, as it is afterwards, and its result.
+#[derive(PartialEq)]
+struct Exit {
+    returned: u32,
+    answer: Answer,
+    counts: [u32; 3],
+    records: [u32; 1],
+    state: State,
+    /// A memory or the room of a written sheet, between guards.
+    bytes: Vec<u8>,
+    /// The room of a tape, between guards.
+    tape: Vec<i32>,
+}
+
+impl Exit {
+    /// What is lent before the call: garbage, but for a memory.
+    fn lent(bytes: &[u8], tape_room: usize) -> Exit {
+        let guard = [GARBAGE; GUARD];
+        Exit {
+            returned: GARBAGE_WORD,
+            answer: [GARBAGE_WORD; 4],
+            counts: [GARBAGE_WORD; 3],
+            records: [GARBAGE_WORD],
+            state: State { types: [GARBAGE; 16], elements: [GARBAGE_WORD; 1024] },
+            bytes: [&guard, bytes, &guard].concat(),
+            tape: vec![GARBAGE_WORD as i32; tape_room + 2 * GUARD],
+        }
+    }
+
+    fn bytes(&self) -> &[u8] {
+        &self.bytes[GUARD..self.bytes.len() - GUARD]
+    }
+
+    fn tape(&self) -> &[i32] {
+        &self.tape[GUARD..self.tape.len() - GUARD]
+    }
+
+    /// The first thing in which two exits differ.
+    fn difference(&self, other: &Exit) -> Option<String> {
+        let numbers = |exit: &Exit| {
+            let row = [exit.returned, exit.records[0]];
+            [&row[..], &exit.answer, &exit.counts].concat()
+        };
+        differing("returned, records, answer, counts", &numbers(self), &numbers(other))
+            .or_else(|| differing("types", &self.state.types, &other.state.types))
+            .or_else(|| differing("elements", &self.state.elements, &other.state.elements))
+            .or_else(|| differing("lent bytes", &self.bytes, &other.bytes))
+            .or_else(|| differing("lent tape", &self.tape, &other.tape))
+    }
+}
+
+/// Says where two arrays differ; short ones are shown whole.
+fn differing<T: PartialEq + std::fmt::Debug>(name: &str, one: &[T], other: &[T]) -> Option<String> {
+    let at = one.iter().zip(other).position(|(one, other)| one != other)?;
+    Some(if one.len() <= 16 {
+        format!("{name}: {one:?} and {other:?}")
+    } else {
+        // Lent slices stand behind a guard, so the place may be below 0.
+        let guard = if name.starts_with("lent") { GUARD as i64 } else { 0 };
+        format!("{name} at {}: {:?} and {:?}", at as i64 - guard, one[at], other[at])
+    })
+}
+
+/// Does one job of a case; a run takes a tape.
+fn exit_of(jobs: &dyn Jobs, job: Job, case: &Case, tape: &Tape) -> Exit {
+    let none: &[u8] = &[];
+    match job {
+        Job::Read => {
+            let mut exit = Exit::lent(none, 0);
+            exit.returned = jobs.read(&case.sheet, &mut exit.counts, &mut exit.answer);
+            exit
+        }
+        Job::Rewrite => rewrite_exit(jobs, &case.sheet, case.sheet_room),
+        Job::Check => {
+            let mut exit = Exit::lent(none, 0);
+            exit.returned = jobs.check(&case.sheet, case.told_len, &mut exit.answer);
+            exit
+        }
+        Job::CarryOut => {
+            let mut exit = Exit::lent(&case.memory, 0);
+            let end = exit.bytes.len() - GUARD;
+            let memory = &mut exit.bytes[GUARD..end];
+            exit.returned = jobs.carry_out(&case.sheet, memory, &mut exit.state, &mut exit.answer);
+            exit
+        }
+        Job::Translate => translate_exit(jobs, &case.sheet, case.told_len, case.tape_room),
+        Job::Run => {
+            let mut exit = Exit::lent(&case.memory, 0);
+            let end = exit.bytes.len() - GUARD;
+            let memory = &mut exit.bytes[GUARD..end];
+            let (numbers, records) = (&tape.numbers, tape.records);
+            exit.returned =
+                jobs.run(&case.sheet, numbers, records, memory, &mut exit.state, &mut exit.answer);
+            exit
+        }
+    }
+}
+
+fn rewrite_exit(jobs: &dyn Jobs, sheet: &[u8], room: usize) -> Exit {
+    let mut exit = Exit::lent(&vec![GARBAGE; room], 0);
+    let out = &mut exit.bytes[GUARD..GUARD + room];
+    exit.returned = jobs.rewrite(sheet, out, &mut exit.answer);
+    exit
+}
+
+fn translate_exit(jobs: &dyn Jobs, sheet: &[u8], memory_len: usize, room: usize) -> Exit {
+    let mut exit = Exit::lent(&[], room);
+    let tape = &mut exit.tape[GUARD..GUARD + room];
+    exit.returned = jobs.translate(sheet, memory_len, tape, &mut exit.records, &mut exit.answer);
+    exit
+}
+
+/// The two sides of a comparison and what it has met.
+pub struct Comparison<'a> {
+    pub archive: &'a dyn Jobs,
+    pub reference: &'a Reference,
+    pub coverage: Coverage,
+}
+
+impl Comparison<'_> {
+    /// Compares every job on a case, then the promises that tie the jobs together.
+    pub fn compare(&mut self, case: &Case) -> Result<(), String> {
+        let inputs = (case.sheet.clone(), case.tapes.clone());
+        let no_tape = Tape { numbers: Vec::new(), records: 0 };
+        for job in [Job::Read, Job::Rewrite, Job::Check, Job::Translate] {
+            self.same(job, case, &no_tape)?;
+        }
+        for tape in &case.tapes {
+            self.same(Job::Run, case, tape)?;
+        }
+        let carried = self.same(Job::CarryOut, case, &no_tape)?;
+        self.round_trip(case)?;
+        self.tape_agrees(case, &carried)?;
+        // The compiler may think that what is lent to be read stays as it is; look again.
+        if (&black_box(case).sheet, &case.tapes) != (&inputs.0, &inputs.1) {
+            return Err(String::from("a sheet or a tape that was lent to be read was changed"));
+        }
+        if carried.returned == 0 {
+            self.coverage.sheet(&case.sheet, case.memory.len());
+        }
+        Ok(())
+    }
+
+    /// One job on both sides: the same result and the same lent arrays at exit.
+    fn same(&mut self, job: Job, case: &Case, tape: &Tape) -> Result<Exit, String> {
+        let archive = exit_of(self.archive, job, case, tape);
+        let reference = exit_of(self.reference, job, case, tape);
+        if let Some(difference) = archive.difference(&reference) {
+            return Err(format!("{job:?}: archive and reference differ in {difference}"));
+        }
+        if archive.returned != archive.answer[0] {
+            return Err(format!("{job:?}: returned and answered numbers differ"));
+        }
+        self.coverage.answer(job, &archive.answer, self.reference.cause());
+        Ok(archive)
+    }
+
+    /// What was read is written back as the same bytes.
+    fn round_trip(&self, case: &Case) -> Result<(), String> {
+        let exit = rewrite_exit(self.archive, &case.sheet, case.sheet.len());
+        if exit.returned == 0 && exit.bytes() != case.sheet {
+            return Err(String::from("round trip: the bytes written differ from those read"));
+        }
+        Ok(())
+    }
+
+    /// Translating and then running leaves the memory, the registers and the count that carrying
+    /// out leaves, for every accepted sheet whose tape is short enough.
+    fn tape_agrees(&mut self, case: &Case, carried: &Exit) -> Result<(), String> {
+        let length = case.memory.len();
+        let archive = translate_exit(self.archive, &case.sheet, length, TAPE_ROOM);
+        let reference = translate_exit(self.reference, &case.sheet, length, TAPE_ROOM);
+        if let Some(difference) = archive.difference(&reference) {
+            return Err(format!("Translate: archive and reference differ in {difference}"));
+        }
+        self.coverage.answer(Job::Translate, &archive.answer, self.reference.cause());
+        if archive.returned != 0 {
+            return Ok(());
+        }
+        let records = archive.records[0] as usize;
+        let tape = Tape { numbers: archive.tape()[..records * RECORD_NUMBERS].to_vec(), records };
+        let mut ran = self.same(Job::Run, case, &tape)?;
+        ran.counts = carried.counts;
+        if let Some(difference) = ran.difference(carried) {
+            return Err(format!("the tape's run differs from carrying out in {difference}"));
+        }
+        self.coverage.tape(&tape);
+        Ok(())
+    }
+}

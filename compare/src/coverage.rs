@@ -1,0 +1,219 @@
+//! What the cases met: a comparison that never saw a refusal or an outcome says nothing of it.
+
+use std::collections::{BTreeMap, BTreeSet};
+
+use crate::case::Job;
+use crate::jobs::Answer;
+use crate::reference::{
+    check_step, read_sheet, Cause, Outcome, Sheet, Step, Type, Types, RECORD_NUMBERS,
+};
+use crate::tapes::Tape;
+
+/// How many different places a refusal is to be met at, where it has more than one.
+const PLACES: usize = 3;
+/// Places that are remembered of each refusal.
+const PLACES_KEPT: usize = 1_000;
+const JOBS: [Job; 6] =
+    [Job::Read, Job::Rewrite, Job::Check, Job::CarryOut, Job::Translate, Job::Run];
+
+/// Counts of answers, causes and outcomes.
+#[derive(Default)]
+pub struct Coverage {
+    answers: BTreeMap<(Job, u32), Answers>,
+    causes: BTreeMap<Cause, u64>,
+    sights: BTreeMap<String, u64>,
+}
+
+#[derive(Default)]
+struct Answers {
+    count: u64,
+    places: BTreeSet<[u32; 2]>,
+}
+
+/// The numbers that a job can give, 0 for an accepted input included.
+fn numbers(job: Job) -> Vec<u32> {
+    match job {
+        Job::Read => (0..=6).collect(),
+        Job::Rewrite => (0..=6).chain([19]).collect(),
+        Job::Check | Job::CarryOut => (0..=15).chain([18]).collect(),
+        Job::Translate => (0..=16).chain([18]).collect(),
+        Job::Run => (0..=6).chain([17, 18]).collect(),
+    }
+}
+
+/// Whether a number's place is always 0: an accepted input, the edition (the first field), and
+/// what concerns a whole room or memory.
+fn has_one_place(number: u32) -> bool {
+    matches!(number, 0 | 6 | 16 | 18 | 19)
+}
+
+impl Coverage {
+    /// Notes an answer of a job and the reference's cause for it.
+    pub fn answer(&mut self, job: Job, answer: &Answer, cause: Option<Cause>) {
+        let answers = self.answers.entry((job, answer[0])).or_default();
+        answers.count += 1;
+        if answers.places.len() < PLACES_KEPT {
+            answers.places.insert([answer[1], answer[2]]);
+        }
+        if let Some(cause) = cause {
+            *self.causes.entry(cause).or_default() += 1;
+        }
+    }
+
+    /// Notes what an accepted sheet does.
+    pub fn sheet(&mut self, sheet: &[u8], memory_len: usize) {
+        let sheet = read_sheet(sheet).expect("accepted");
+        let mut types = Types::default();
+        for step in &sheet.steps {
+            let before = types;
+            let outcomes = check_step(&sheet, step, &mut types, memory_len).expect("accepted");
+            self.step(&sheet, step, &outcomes, &before);
+        }
+    }
+
+    fn step(&mut self, sheet: &Sheet, step: &Step, outcomes: &[Outcome], types: &Types) {
+        let kind = |register: usize| types[register].map_or(0, |type_: Type| type_.kind.0);
+        match *step {
+            Step::Load { register, object, layout, view, .. } => {
+                self.sight(format!("load of kind {}", kind(object.unwrap_or(register))));
+                self.access("load", sheet, layout, view, outcomes);
+            }
+            Step::Store { register, layout, view, .. } => {
+                self.sight(format!("store of kind {}", kind(register)));
+                self.access("store", sheet, layout, view, outcomes);
+            }
+            Step::Reduce { mode, combine, source, .. } => {
+                self.sight(format!("reduce {mode:?} {combine:?}"));
+                self.sight(format!("reduce {combine:?} of kind {}", kind(source)));
+            }
+            Step::MultiplyAdd { a, b, c, .. } => {
+                self.sight(format!("multiply-add of kinds {} and {}", kind(a), kind(b)));
+                self.sight(format!("multiply-add to kind {}", kind(c)));
+            }
+            Step::Transpose { source, .. } => {
+                self.sight(format!("transpose of kind {}", kind(source)));
+            }
+            Step::Fill { kind, .. } => self.sight(format!("fill of kind {}", kind.0)),
+        }
+    }
+
+    fn access(
+        &mut self,
+        access: &str,
+        sheet: &Sheet,
+        layout: usize,
+        view: Option<usize>,
+        outcomes: &[Outcome],
+    ) {
+        let layout = &sheet.layouts[layout];
+        let dimensions = layout.dimensions.len();
+        self.sight(format!("{access} through {:?}, {dimensions}", layout.clamp_mode));
+        if let Some(view) = view.map(|view| &sheet.views[view]) {
+            let own = if view.dimensions.is_some() { "own" } else { "no" };
+            self.sight(format!("{access} with {} view dimensions, {own}", view.permutation.len()));
+        }
+        let mut sort = |sort: &str, is_it: fn(&Outcome) -> bool| {
+            if outcomes.iter().any(is_it) {
+                self.sight(format!("{access} {sort}"));
+            }
+        };
+        sort("skipped", |outcome| matches!(outcome, Outcome::Skipped));
+        sort("filled", |outcome| matches!(outcome, Outcome::Filled(_)));
+        sort("discarded", |outcome| matches!(outcome, Outcome::Discarded));
+        sort("placed", |outcome| matches!(outcome, Outcome::Placed(_)));
+    }
+
+    /// Notes the records of a translated tape.
+    pub fn tape(&mut self, tape: &Tape) {
+        for op in 0..5 {
+            if tape.numbers.chunks_exact(RECORD_NUMBERS).any(|record| record[0] == op) {
+                self.sight(format!("record of op {op}"));
+            }
+        }
+    }
+
+    fn sight(&mut self, sight: String) {
+        *self.sights.entry(sight).or_default() += 1;
+    }
+
+    /// What was to be met and was not.
+    pub fn missing(&self) -> Vec<String> {
+        let mut missing = Vec::new();
+        for job in JOBS {
+            for number in numbers(job) {
+                let places = self.answers.get(&(job, number)).map_or(0, |a| a.places.len());
+                let wanted = if has_one_place(number) { 1 } else { PLACES };
+                if places < wanted {
+                    missing.push(format!("{job:?}: {number} at {places} places, not {wanted}"));
+                }
+            }
+        }
+        for cause in Cause::ALL {
+            // The C interface writes only what it has read, so it hands no such model over.
+            let reachable = *cause != Cause::UnreadableModel;
+            if reachable && !self.causes.contains_key(cause) {
+                missing.push(format!("cause {cause:?} of refusal {}", cause.number()));
+            }
+        }
+        for sight in sights() {
+            if !self.sights.contains_key(&sight) {
+                missing.push(sight);
+            }
+        }
+        missing
+    }
+
+    /// How often each job gave each number.
+    pub fn table(&self) -> String {
+        let mut table = format!("{:<8}", "number");
+        for job in JOBS {
+            table += &format!("{:>18}", format!("{job:?} (places)"));
+        }
+        for number in 0..=19 {
+            table += &format!("\n{number:<8}");
+            for job in JOBS {
+                let cell = match self.answers.get(&(job, number)) {
+                    Some(answers) => format!("{} ({})", answers.count, answers.places.len()),
+                    None => String::from("-"),
+                };
+                table += &format!("{cell:>18}");
+            }
+        }
+        table
+    }
+}
+
+/// Everything that accepted sheets are to be seen doing.
+fn sights() -> Vec<String> {
+    let mut sights = Vec::new();
+    for sort in ["load skipped", "load filled", "load placed"] {
+        sights.push(String::from(sort));
+    }
+    for sort in ["store skipped", "store discarded", "store placed"] {
+        sights.push(String::from(sort));
+    }
+    for access in ["load", "store"] {
+        for mode in ["Undefined", "Constant", "ClampToEdge", "Repeat", "MirrorRepeat"] {
+            sights.extend((1..=5).map(|count| format!("{access} through {mode}, {count}")));
+        }
+        for own in ["own", "no"] {
+            let with = |count| format!("{access} with {count} view dimensions, {own}");
+            sights.extend((1..=5).map(with));
+        }
+    }
+    for combine in ["Add", "Min", "Max", "And", "Or", "Xor"] {
+        for mode in ["Row", "Column", "Both", "TwoByTwo"] {
+            sights.push(format!("reduce {mode} {combine}"));
+        }
+        sights.extend((0..6).map(|kind| format!("reduce {combine} of kind {kind}")));
+    }
+    for step in ["fill", "load", "store", "transpose"] {
+        sights.extend((0..6).map(|kind| format!("{step} of kind {kind}")));
+    }
+    for a in 0..6 {
+        sights.extend((0..6).map(|b| format!("multiply-add of kinds {a} and {b}")));
+    }
+    sights.extend([4, 5].map(|c| format!("multiply-add to kind {c}")));
+    sights.extend((0..5).map(|op| format!("record of op {op}")));
+    sights
+}

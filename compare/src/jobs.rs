@@ -1,0 +1,170 @@
+//! The public jobs with the parameters of the C interface, and the reference behind them.
+
+use std::cell::Cell;
+
+use crate::reference::{self, Carried, Cause, Refusal, Registers, RECORD_NUMBERS};
+
+/// The row of four: number, place, second place, byte-elements (of a rewrite: bytes).
+pub type Answer = [u32; 4];
+
+/// The registers as the C interface hands them over: four bytes a register (kind, rows, columns,
+/// 0), and 256 places a register for elements. An empty register has zeros.
+#[derive(Clone, PartialEq, Eq)]
+pub struct State {
+    pub types: [u8; 16],
+    pub elements: [u32; 1024],
+}
+
+impl State {
+    /// Empty registers.
+    pub const EMPTY: State = State { types: [0; 16], elements: [0; 1024] };
+
+    fn of(registers: &Registers) -> State {
+        let mut state = State::EMPTY;
+        for (number, register) in registers.iter().enumerate() {
+            if let Some(matrix) = register {
+                let type_ = matrix.type_;
+                let bytes = [type_.kind.0, type_.rows as u8, type_.columns as u8, 0];
+                state.types[4 * number..][..4].copy_from_slice(&bytes);
+                state.elements[256 * number..][..matrix.elements.len()]
+                    .copy_from_slice(&matrix.elements);
+            }
+        }
+        state
+    }
+}
+
+/// The six functions of `include/moonbleat.h`: each returns the refusal's number.
+pub trait Jobs {
+    fn read(&self, sheet: &[u8], counts: &mut [u32; 3], answer: &mut Answer) -> u32;
+
+    fn rewrite(&self, sheet: &[u8], out: &mut [u8], answer: &mut Answer) -> u32;
+
+    fn check(&self, sheet: &[u8], memory_len: usize, answer: &mut Answer) -> u32;
+
+    fn carry_out(
+        &self,
+        sheet: &[u8],
+        memory: &mut [u8],
+        state: &mut State,
+        answer: &mut Answer,
+    ) -> u32;
+
+    fn translate(
+        &self,
+        sheet: &[u8],
+        memory_len: usize,
+        tape: &mut [i32],
+        records: &mut [u32; 1],
+        answer: &mut Answer,
+    ) -> u32;
+
+    fn run(
+        &self,
+        sheet: &[u8],
+        tape: &[i32],
+        records: usize,
+        memory: &mut [u8],
+        state: &mut State,
+        answer: &mut Answer,
+    ) -> u32;
+}
+
+/// The plain implementation. It remembers why it refused last, which the C interface does not
+/// tell.
+#[derive(Default)]
+pub struct Reference {
+    cause: Cell<Option<Cause>>,
+}
+
+impl Reference {
+    /// Why the last job was refused, if it was.
+    pub fn cause(&self) -> Option<Cause> {
+        self.cause.get()
+    }
+
+    /// Fills the row of four and gives its first number.
+    fn finish(&self, answer: &mut Answer, result: Result<u32, Refusal>) -> u32 {
+        self.cause.set(result.as_ref().err().map(|refusal| refusal.cause));
+        *answer = match result {
+            Ok(count) => [0, 0, 0, count],
+            Err(refusal) => [refusal.cause.number(), refusal.place[0], refusal.place[1], 0],
+        };
+        answer[0]
+    }
+
+    fn finish_carried(
+        &self,
+        state: &mut State,
+        answer: &mut Answer,
+        result: Result<Carried, Refusal>,
+    ) -> u32 {
+        *state = result.as_ref().map_or(State::EMPTY, |carried| State::of(&carried.registers));
+        self.finish(answer, result.map(|carried| carried.byte_elements))
+    }
+}
+
+impl Jobs for Reference {
+    fn read(&self, sheet: &[u8], counts: &mut [u32; 3], answer: &mut Answer) -> u32 {
+        let read = reference::read_sheet(sheet);
+        *counts = read.as_ref().map_or([0; 3], |sheet| {
+            [sheet.layouts.len(), sheet.views.len(), sheet.steps.len()].map(|count| count as u32)
+        });
+        self.finish(answer, read.map(|_| 0))
+    }
+
+    fn rewrite(&self, sheet: &[u8], out: &mut [u8], answer: &mut Answer) -> u32 {
+        let written = reference::read_sheet(sheet)
+            .and_then(|model| reference::write_sheet(&model, out.len()));
+        if let Ok(bytes) = &written {
+            out[..bytes.len()].copy_from_slice(bytes);
+        }
+        self.finish(answer, written.map(|bytes| bytes.len() as u32))
+    }
+
+    fn check(&self, sheet: &[u8], memory_len: usize, answer: &mut Answer) -> u32 {
+        let checked = reference::check(sheet, memory_len);
+        self.finish(answer, checked.map(|checked| checked.byte_elements()))
+    }
+
+    fn carry_out(
+        &self,
+        sheet: &[u8],
+        memory: &mut [u8],
+        state: &mut State,
+        answer: &mut Answer,
+    ) -> u32 {
+        self.finish_carried(state, answer, reference::carry_out(sheet, memory))
+    }
+
+    fn translate(
+        &self,
+        sheet: &[u8],
+        memory_len: usize,
+        tape: &mut [i32],
+        records: &mut [u32; 1],
+        answer: &mut Answer,
+    ) -> u32 {
+        let translated = reference::translate(sheet, memory_len, tape.len());
+        *records = [0];
+        if let Ok(translated) = &translated {
+            *records = [translated.records.len() as u32];
+            for (place, record) in tape.chunks_exact_mut(RECORD_NUMBERS).zip(&translated.records) {
+                place.copy_from_slice(record);
+            }
+        }
+        self.finish(answer, translated.map(|translated| translated.byte_elements))
+    }
+
+    fn run(
+        &self,
+        sheet: &[u8],
+        tape: &[i32],
+        records: usize,
+        memory: &mut [u8],
+        state: &mut State,
+        answer: &mut Answer,
+    ) -> u32 {
+        self.finish_carried(state, answer, reference::run_tape(sheet, tape, records, memory))
+    }
+}

@@ -1,0 +1,15 @@
+//! A second implementation of Moonbleat and its comparison with the proved archive.
+
+pub mod bench;
+pub mod case;
+pub mod coverage;
+pub mod damage;
+#[cfg(test)]
+mod faults;
+pub mod generate;
+pub mod jobs;
+pub mod random;
+pub mod reference;
+pub mod shrink;
+pub mod strips;
+pub mod tapes;

@@ -1,0 +1,133 @@
+//! `compare` holds the archive to the reference on many inputs; `compare bench` times both.
+
+mod archive;
+
+use std::process::ExitCode;
+use std::time::Instant;
+
+use archive::Archive;
+use compare::bench::bench;
+use compare::case::{Case, Comparison};
+use compare::coverage::Coverage;
+use compare::jobs::Reference;
+use compare::shrink::shrink;
+use compare::strips::check_strips;
+
+const HELP: &str = "\
+compare [--sheets N] [--seed S] [--case K] [--trace]
+    Compare every public job of the archive with the reference on N random sheets (20000).
+    The same seed gives the same sheets. --case K takes only sheet K of the seed, --trace
+    prints the number of each sheet before it is tried.
+compare bench [--samples N]
+    Time both sides on named sheets, N samples each (51).";
+
+/// From this many sheets on, every refusal and every outcome must have been met.
+const SHEETS_FOR_COVERAGE: u64 = 20_000;
+const SEED: u64 = 1;
+
+struct Options {
+    help: bool,
+    bench: bool,
+    sheets: u64,
+    samples: usize,
+    seed: u64,
+    case: Option<u64>,
+    trace: bool,
+}
+
+fn main() -> ExitCode {
+    let options = match parse(std::env::args().skip(1)) {
+        Ok(options) if options.help => {
+            println!("{HELP}");
+            return ExitCode::SUCCESS;
+        }
+        Ok(options) => options,
+        Err(what) => {
+            eprintln!("compare: {what}\n{HELP}");
+            return ExitCode::from(2);
+        }
+    };
+    if options.bench {
+        bench(&Archive, &Reference::default(), options.samples);
+        return ExitCode::SUCCESS;
+    }
+    match compare_all(&options) {
+        Ok(()) => ExitCode::SUCCESS,
+        Err(what) => {
+            println!("FAILED: {what}");
+            ExitCode::FAILURE
+        }
+    }
+}
+
+fn parse(arguments: impl Iterator<Item = String>) -> Result<Options, String> {
+    let mut options = Options {
+        help: false,
+        bench: false,
+        sheets: SHEETS_FOR_COVERAGE,
+        samples: 51,
+        seed: SEED,
+        case: None,
+        trace: false,
+    };
+    let mut arguments = arguments;
+    while let Some(argument) = arguments.next() {
+        let mut number = || {
+            let word = arguments.next().ok_or(format!("{argument} needs a number"))?;
+            word.parse::<u64>().map_err(|_| format!("{argument} {word}: not a number"))
+        };
+        match argument.as_str() {
+            "--help" => options.help = true,
+            "bench" => options.bench = true,
+            "--sheets" => options.sheets = number()?,
+            "--samples" => options.samples = number()?.max(1) as usize,
+            "--seed" => options.seed = number()?,
+            "--case" => options.case = Some(number()?),
+            "--trace" => options.trace = true,
+            _ => return Err(format!("unknown argument {argument}")),
+        }
+    }
+    Ok(options)
+}
+
+/// The strips, then the random cases, then what they met.
+fn compare_all(options: &Options) -> Result<(), String> {
+    let start = Instant::now();
+    let strips = check_strips(&Archive)?;
+    println!("{strips} strips agree with the scope");
+    let reference = Reference::default();
+    let mut comparison =
+        Comparison { archive: &Archive, reference: &reference, coverage: Coverage::default() };
+    let cases = match options.case {
+        Some(case) => case..case + 1,
+        None => 0..options.sheets,
+    };
+    println!("seed {}, sheets {} to {}", options.seed, cases.start, cases.end.saturating_sub(1));
+    let count = cases.end - cases.start;
+    for number in cases {
+        if options.trace {
+            println!("sheet {number}");
+        }
+        let case = Case::of_seed(options.seed, number);
+        if let Err(what) = comparison.compare(&case) {
+            return Err(report(&mut comparison, case, options.seed, number, &what));
+        }
+    }
+    println!("{}", comparison.coverage.table());
+    if count >= SHEETS_FOR_COVERAGE {
+        let missing = comparison.coverage.missing();
+        if !missing.is_empty() {
+            return Err(format!("the sheets never met:\n  {}", missing.join("\n  ")));
+        }
+        println!("every refusal of every job and every outcome was met");
+    }
+    println!("{count} sheets agree, {:.1} seconds", start.elapsed().as_secs_f64());
+    Ok(())
+}
+
+/// Shrinks a failing case and says all about it.
+fn report(comparison: &mut Comparison, case: Case, seed: u64, number: u64, what: &str) -> String {
+    let small = shrink(case, &mut |case| comparison.compare(case).is_err());
+    let of_small = comparison.compare(&small).expect_err("it fails still");
+    format!("seed {seed}, sheet {number}: {what}\nshrunk: {of_small}\n{small}")
+}

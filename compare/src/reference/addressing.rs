@@ -1,0 +1,214 @@
+//! Where an element goes: rules 1 to 5 for one element of a load or a store.
+
+use super::refusal::Cause;
+use super::registers::Type;
+use super::sheet::{ClampMode, Dimension, Layout, View};
+
+/// The most dimensions of a layout or a view.
+const DIMENSIONS_MAX: usize = 5;
+
+/// Which way the elements go.
+#[derive(Clone, Copy, PartialEq, Eq, Debug)]
+pub enum Access {
+    Load,
+    Store,
+}
+
+/// What becomes of an element.
+#[derive(Clone, Copy, PartialEq, Eq, Debug)]
+pub enum Outcome {
+    Skipped,
+    Filled(u32),
+    Discarded,
+    /// The element's first byte.
+    Placed(usize),
+}
+
+/// What a load or a store addresses with.
+pub struct Addressing<'a> {
+    pub access: Access,
+    pub layout: &'a Layout,
+    pub view: Option<&'a View>,
+    pub base: u32,
+    pub type_: Type,
+    pub memory_len: usize,
+}
+
+impl Addressing<'_> {
+    /// The outcome of an element, or 12, 13 or 14.
+    pub fn locate(&self, element: usize) -> Result<Outcome, Cause> {
+        let row = element / self.type_.columns;
+        let column = element % self.type_.columns;
+        let Some(index) = self.matrix_index(row, column) else {
+            return Ok(Outcome::Skipped);
+        };
+        let index = self.view_index(index);
+        if index >= 1 << 32 {
+            return Err(Cause::IndexTooLarge);
+        }
+        let span_coordinates = span_coordinates(&self.layout.dimensions, index);
+        match self.tensor_coordinates(&span_coordinates)? {
+            Clamped::Inside(coordinates) => self.byte(&coordinates),
+            Clamped::Filled => {
+                Ok(Outcome::Filled(self.type_.kind.low_bits(self.layout.clamp_value)))
+            }
+            Clamped::Discarded => Ok(Outcome::Discarded),
+        }
+    }
+
+    /// Rule 1: the element's number, with a view within its clip; none outside the clip.
+    fn matrix_index(&self, row: usize, column: usize) -> Option<u64> {
+        let (row, column, columns) = (row as u64, column as u64, self.type_.columns as u64);
+        let Some(view) = self.view else {
+            return Some(row * columns + column);
+        };
+        let row = within(row, view.clip.row_offset, view.clip.row_span)?;
+        let column = within(column, view.clip.column_offset, view.clip.column_span)?;
+        let width = columns.min(u64::from(view.clip.column_span));
+        Some(row * width + column)
+    }
+
+    /// Rule 2: the index through the view's dimensions and permutation.
+    fn view_index(&self, index: u64) -> u64 {
+        let Some(view) = self.view else {
+            return index;
+        };
+        let (sizes, strides) = match &view.dimensions {
+            Some(dimensions) => (
+                five(dimensions.iter().map(|d| u64::from(d.size))),
+                five(dimensions.iter().map(|d| u64::from(d.stride))),
+            ),
+            None => {
+                let spans = five(self.layout.dimensions.iter().map(|d| u64::from(d.span)));
+                (spans, row_major(&spans, self.layout.dimensions.len()))
+            }
+        };
+        let mut rest = index;
+        let mut sum = 0;
+        for &i in view.permutation.iter().rev() {
+            sum += rest % sizes[i] * strides[i];
+            rest /= sizes[i];
+        }
+        sum
+    }
+
+    /// Rule 4: each coordinate with its offset, clamped.
+    fn tensor_coordinates(&self, span_coordinates: &[u64; 5]) -> Result<Clamped, Cause> {
+        let mut coordinates = [0; DIMENSIONS_MAX];
+        for (i, dimension) in self.layout.dimensions.iter().enumerate() {
+            let c = span_coordinates[i] as i64 + i64::from(dimension.offset);
+            let n = i64::from(dimension.size);
+            coordinates[i] = if (0..n).contains(&c) {
+                c
+            } else {
+                match (self.layout.clamp_mode, self.access) {
+                    (ClampMode::Undefined, _) => return Err(Cause::Undefined),
+                    (_, Access::Store) => return Ok(Clamped::Discarded),
+                    (ClampMode::Constant, Access::Load) => return Ok(Clamped::Filled),
+                    (ClampMode::ClampToEdge, Access::Load) => c.clamp(0, n - 1),
+                    (ClampMode::Repeat, Access::Load) => c.rem_euclid(n),
+                    (ClampMode::MirrorRepeat, Access::Load) => mirrored(c, n),
+                }
+            };
+        }
+        Ok(Clamped::Inside(coordinates))
+    }
+
+    /// Rule 5: the tensor index and the byte; 14 where the bytes do not all lie in memory.
+    fn byte(&self, coordinates: &[i64; 5]) -> Result<Outcome, Cause> {
+        let tensor_index: u64 = self
+            .layout
+            .dimensions
+            .iter()
+            .zip(coordinates)
+            .map(|(d, &c)| c as u64 / u64::from(d.block_size) * u64::from(d.stride))
+            .sum();
+        let size = self.type_.kind.size() as u64;
+        let byte = u64::from(self.base) + tensor_index * size;
+        if byte + size > self.memory_len as u64 {
+            return Err(Cause::PastMemory);
+        }
+        Ok(Outcome::Placed(byte as usize))
+    }
+}
+
+/// What rule 4 gives.
+enum Clamped {
+    Inside([i64; DIMENSIONS_MAX]),
+    Filled,
+    Discarded,
+}
+
+/// A row or a column relative to its clip, if it is in it.
+fn within(position: u64, offset: u16, span: u16) -> Option<u64> {
+    let relative = position.checked_sub(u64::from(offset))?;
+    (relative < u64::from(span)).then_some(relative)
+}
+
+/// Rule 3: from the last dimension to the first, remainder and quotient by the span.
+fn span_coordinates(dimensions: &[Dimension], index: u64) -> [u64; 5] {
+    let mut coordinates = [0; DIMENSIONS_MAX];
+    let mut rest = index;
+    for (i, dimension) in dimensions.iter().enumerate().rev() {
+        coordinates[i] = rest % u64::from(dimension.span);
+        rest /= u64::from(dimension.span);
+    }
+    coordinates
+}
+
+/// MirrorRepeat; for a dimension of 1, where the source divides by zero, 0.
+fn mirrored(c: i64, n: i64) -> i64 {
+    if n == 1 {
+        return 0;
+    }
+    let m = 2 * n - 2;
+    let c = c.rem_euclid(m);
+    if c >= n {
+        m - c
+    } else {
+        c
+    }
+}
+
+/// The row-major strides over the first `count` spans.
+fn row_major(spans: &[u64; 5], count: usize) -> [u64; 5] {
+    let mut strides = [0; DIMENSIONS_MAX];
+    let mut stride = 1;
+    for i in (0..count).rev() {
+        strides[i] = stride;
+        stride *= spans[i];
+    }
+    strides
+}
+
+/// Up to five numbers in five places.
+fn five(numbers: impl Iterator<Item = u64>) -> [u64; 5] {
+    let mut places = [0; DIMENSIONS_MAX];
+    for (place, number) in places.iter_mut().zip(numbers) {
+        *place = number;
+    }
+    places
+}
+
+#[cfg(test)]
+mod tests {
+    use super::*;
+
+    #[test]
+    fn mirrors_at_both_ends() {
+        let around: Vec<i64> = (-7..9).map(|c| mirrored(c, 4)).collect();
+        assert_eq!(around, [1, 0, 1, 2, 3, 2, 1, 0, 1, 2, 3, 2, 1, 0, 1, 2]);
+        assert!((-5..6).all(|c| mirrored(c, 1) == 0));
+        assert_eq!((-3..4).map(|c| mirrored(c, 2)).collect::<Vec<_>>(), [1, 0, 1, 0, 1, 0, 1]);
+    }
+
+    #[test]
+    fn a_clip_ends_at_its_offset_plus_its_span() {
+        assert_eq!(within(1, 2, 3), None);
+        assert_eq!(within(2, 2, 3), Some(0));
+        assert_eq!(within(4, 2, 3), Some(2));
+        assert_eq!(within(5, 2, 3), None);
+        assert_eq!(within(0, 0, 0), None);
+        assert_eq!(within(15, 15, 65_535), Some(0));
+    }
+}

@@ -1,0 +1,627 @@
+//! The sheet: its model, reading and writing.
+
+use super::kind::Kind;
+use super::refusal::{Cause, Refusal};
+use super::{REGISTERS, SIDE_MAX};
+
+const EDITION: u8 = 0x01;
+const LAYOUT: u8 = 0x10;
+const VIEW: u8 = 0x11;
+const FILL: u8 = 0x20;
+const LOAD: u8 = 0x21;
+const STORE: u8 = 0x22;
+const REDUCE: u8 = 0x23;
+const TRANSPOSE: u8 = 0x24;
+const MULTIPLY_ADD: u8 = 0x25;
+
+const LAYOUTS_MAX: usize = 4;
+const VIEWS_MAX: usize = 4;
+const STEPS_MAX: usize = 32;
+const DIMENSIONS_MAX: usize = 5;
+/// In an object's or a view's place: none.
+const NONE: u8 = 255;
+
+/// What was read from a sheet.
+#[derive(Clone, PartialEq, Eq, Debug, Default)]
+pub struct Sheet {
+    pub layouts: Vec<Layout>,
+    pub views: Vec<View>,
+    pub steps: Vec<Step>,
+}
+
+#[derive(Clone, PartialEq, Eq, Debug)]
+pub struct Layout {
+    pub clamp_mode: ClampMode,
+    pub clamp_value: u32,
+    pub dimensions: Vec<Dimension>,
+}
+
+#[derive(Clone, Copy, PartialEq, Eq, Debug)]
+pub struct Dimension {
+    pub block_size: u16,
+    pub size: u16,
+    pub stride: u16,
+    pub offset: i16,
+    pub span: u16,
+}
+
+#[derive(Clone, Copy, PartialEq, Eq, Debug)]
+pub enum ClampMode {
+    Undefined,
+    Constant,
+    ClampToEdge,
+    Repeat,
+    MirrorRepeat,
+}
+
+#[derive(Clone, PartialEq, Eq, Debug)]
+pub struct View {
+    pub permutation: Vec<usize>,
+    /// None where the view has no dimensions of its own.
+    pub dimensions: Option<Vec<ViewDimension>>,
+    pub clip: Clip,
+}
+
+#[derive(Clone, Copy, PartialEq, Eq, Debug)]
+pub struct ViewDimension {
+    pub size: u16,
+    pub stride: u16,
+}
+
+#[derive(Clone, Copy, PartialEq, Eq, Debug)]
+pub struct Clip {
+    pub row_offset: u16,
+    pub row_span: u16,
+    pub column_offset: u16,
+    pub column_span: u16,
+}
+
+#[derive(Clone, PartialEq, Eq, Debug)]
+pub enum Step {
+    Fill {
+        register: usize,
+        rows: usize,
+        columns: usize,
+        kind: Kind,
+        value: u32,
+    },
+    Load {
+        register: usize,
+        object: Option<usize>,
+        layout: usize,
+        view: Option<usize>,
+        base: u32,
+    },
+    Store {
+        register: usize,
+        layout: usize,
+        view: Option<usize>,
+        base: u32,
+    },
+    Reduce {
+        result: usize,
+        source: usize,
+        rows: usize,
+        columns: usize,
+        mode: ReduceMode,
+        combine: Combine,
+    },
+    Transpose {
+        result: usize,
+        source: usize,
+    },
+    MultiplyAdd {
+        result: usize,
+        a: usize,
+        b: usize,
+        c: usize,
+    },
+}
+
+impl Step {
+    /// The register that the step's field names first: its result, or what a store reads.
+    pub fn register(&self) -> usize {
+        match *self {
+            Step::Fill { register, .. }
+            | Step::Load { register, .. }
+            | Step::Store { register, .. } => register,
+            Step::Reduce { result, .. }
+            | Step::Transpose { result, .. }
+            | Step::MultiplyAdd { result, .. } => result,
+        }
+    }
+}
+
+#[derive(Clone, Copy, PartialEq, Eq, Debug)]
+pub enum ReduceMode {
+    Row,
+    Column,
+    Both,
+    TwoByTwo,
+}
+
+#[derive(Clone, Copy, PartialEq, Eq, Debug)]
+pub enum Combine {
+    Add,
+    Min,
+    Max,
+    And,
+    Or,
+    Xor,
+}
+
+/// Reads a sheet, field by field; a refusal's place is the byte of the field's head.
+pub fn read_sheet(bytes: &[u8]) -> Result<Sheet, Refusal> {
+    let mut reader = Reader::default();
+    let mut at = 0;
+    while at < bytes.len() {
+        let length = reader.field(&bytes[at..]).map_err(|cause| Refusal::at(cause, at))?;
+        at += length;
+    }
+    if reader.last.is_none() {
+        return Err(Refusal::at(Cause::NoEdition, bytes.len()));
+    }
+    Ok(reader.sheet)
+}
+
+/// The parts of a sheet, in their order.
+#[derive(Clone, Copy, PartialEq, Eq, PartialOrd, Ord)]
+enum Part {
+    Edition,
+    Layouts,
+    Views,
+    Steps,
+}
+
+impl Part {
+    fn of_tag(tag: u8) -> Option<Part> {
+        match tag {
+            EDITION => Some(Part::Edition),
+            LAYOUT => Some(Part::Layouts),
+            VIEW => Some(Part::Views),
+            FILL..=MULTIPLY_ADD => Some(Part::Steps),
+            _ => None,
+        }
+    }
+}
+
+/// The lengths that a known tag's content may have.
+fn lengths(tag: u8) -> &'static [usize] {
+    match tag {
+        EDITION => &[1],
+        LAYOUT => &[16, 26, 36, 46, 56],
+        VIEW => &[11, 12, 13, 14, 15, 20, 25, 30, 35],
+        FILL | LOAD => &[8],
+        STORE => &[7],
+        REDUCE => &[6],
+        TRANSPOSE => &[2],
+        _ => &[4],
+    }
+}
+
+/// What was read so far, and the part that the last field belongs to.
+#[derive(Default)]
+struct Reader {
+    sheet: Sheet,
+    last: Option<Part>,
+}
+
+impl Reader {
+    /// Reads the field at the front of what is left and gives its length, head included.
+    /// The tests stand in the order in which they refuse: 1, 2, 3, 4, 6, 5.
+    fn field(&mut self, rest: &[u8]) -> Result<usize, Cause> {
+        if rest.len() < 3 {
+            return Err(Cause::HeadCut);
+        }
+        let tag = rest[0];
+        let length = usize::from(u16::from_le_bytes([rest[1], rest[2]]));
+        let content = rest.get(3..3 + length).ok_or(Cause::ContentCut)?;
+        let part = Part::of_tag(tag).ok_or(Cause::UnknownTag)?;
+        self.in_order(part)?;
+        if !lengths(tag).contains(&length) {
+            return Err(Cause::WrongLength);
+        }
+        self.content(tag, content)?;
+        self.last = Some(part);
+        Ok(3 + length)
+    }
+
+    /// Refusal 3: the edition first and once, no part before an earlier one, none too many.
+    fn in_order(&self, part: Part) -> Result<(), Cause> {
+        match self.last {
+            None if part != Part::Edition => return Err(Cause::OutOfOrder),
+            Some(_) if part == Part::Edition => return Err(Cause::RepeatedEdition),
+            Some(last) if part < last => return Err(Cause::OutOfOrder),
+            _ => {}
+        }
+        let full = match part {
+            Part::Edition => false,
+            Part::Layouts => self.sheet.layouts.len() == LAYOUTS_MAX,
+            Part::Views => self.sheet.views.len() == VIEWS_MAX,
+            Part::Steps => self.sheet.steps.len() == STEPS_MAX,
+        };
+        if full {
+            return Err(Cause::TooMany);
+        }
+        Ok(())
+    }
+
+    fn content(&mut self, tag: u8, content: &[u8]) -> Result<(), Cause> {
+        match tag {
+            EDITION if content[0] != 1 => return Err(Cause::WrongEdition),
+            EDITION => {}
+            LAYOUT => self.sheet.layouts.push(read_layout(content)?),
+            VIEW => self.sheet.views.push(read_view(content)?),
+            _ => {
+                let step = self.step(tag, &mut Numbers { rest: content })?;
+                self.sheet.steps.push(step);
+            }
+        }
+        Ok(())
+    }
+
+    fn step(&self, tag: u8, n: &mut Numbers) -> Result<Step, Cause> {
+        match tag {
+            FILL => read_fill(n),
+            LOAD => Ok(Step::Load {
+                register: register(n.one())?,
+                object: object(n.one())?,
+                layout: self.layout(n.one())?,
+                view: self.view(n.one())?,
+                base: n.four(),
+            }),
+            STORE => Ok(Step::Store {
+                register: register(n.one())?,
+                layout: self.layout(n.one())?,
+                view: self.view(n.one())?,
+                base: n.four(),
+            }),
+            REDUCE => Ok(Step::Reduce {
+                result: register(n.one())?,
+                source: register(n.one())?,
+                rows: side(n.one())?,
+                columns: side(n.one())?,
+                mode: reduce_mode(n.one())?,
+                combine: combine(n.one())?,
+            }),
+            TRANSPOSE => {
+                Ok(Step::Transpose { result: register(n.one())?, source: register(n.one())? })
+            }
+            _ => Ok(Step::MultiplyAdd {
+                result: register(n.one())?,
+                a: register(n.one())?,
+                b: register(n.one())?,
+                c: register(n.one())?,
+            }),
+        }
+    }
+
+    /// A layout among those given.
+    fn layout(&self, number: u8) -> Result<usize, Cause> {
+        below(usize::from(number), self.sheet.layouts.len(), Cause::NoSuchLayout)
+    }
+
+    /// A view among those given, or none.
+    fn view(&self, number: u8) -> Result<Option<usize>, Cause> {
+        if number == NONE {
+            return Ok(None);
+        }
+        below(usize::from(number), self.sheet.views.len(), Cause::NoSuchView).map(Some)
+    }
+}
+
+/// The numbers of a content, one after the other; its length is known to suffice.
+struct Numbers<'a> {
+    rest: &'a [u8],
+}
+
+impl Numbers<'_> {
+    fn one(&mut self) -> u8 {
+        let number = self.rest[0];
+        self.rest = &self.rest[1..];
+        number
+    }
+
+    fn two(&mut self) -> u16 {
+        u16::from_le_bytes([self.one(), self.one()])
+    }
+
+    fn four(&mut self) -> u32 {
+        u32::from_le_bytes([self.one(), self.one(), self.one(), self.one()])
+    }
+}
+
+fn read_layout(content: &[u8]) -> Result<Layout, Cause> {
+    let mut n = Numbers { rest: content };
+    let count = dimension_count(n.one())?;
+    if content.len() != 6 + 10 * count {
+        return Err(Cause::LengthDisagrees);
+    }
+    let clamp_mode = clamp_mode(n.one())?;
+    let clamp_value = n.four();
+    let dimensions = (0..count).map(|_| read_dimension(&mut n)).collect::<Result<_, _>>()?;
+    Ok(Layout { clamp_mode, clamp_value, dimensions })
+}
+
+fn read_dimension(n: &mut Numbers) -> Result<Dimension, Cause> {
+    let block_size = extent(n.two(), Cause::BlockSize)?;
+    let size = extent(n.two(), Cause::DimensionSize)?;
+    let stride = n.two();
+    let offset = n.two() as i16;
+    if !(-4_096..=4_095).contains(&offset) {
+        return Err(Cause::Offset);
+    }
+    let span = extent(n.two(), Cause::Span)?;
+    Ok(Dimension { block_size, size, stride, offset, span })
+}
+
+fn read_view(content: &[u8]) -> Result<View, Cause> {
+    let mut n = Numbers { rest: content };
+    let count = dimension_count(n.one())?;
+    let has_dimensions = match n.one() {
+        0 => false,
+        1 => true,
+        _ => return Err(Cause::HasDimensions),
+    };
+    let expected = 2 + count + if has_dimensions { 4 * count } else { 0 } + 8;
+    if content.len() != expected {
+        return Err(Cause::LengthDisagrees);
+    }
+    let permutation: Vec<usize> = (0..count).map(|_| usize::from(n.one())).collect();
+    if !(0..count).all(|i| permutation.contains(&i)) {
+        return Err(Cause::NotAPermutation);
+    }
+    let dimensions = if has_dimensions {
+        Some((0..count).map(|_| read_view_dimension(&mut n)).collect::<Result<_, _>>()?)
+    } else {
+        None
+    };
+    let clip = Clip {
+        row_offset: n.two(),
+        row_span: n.two(),
+        column_offset: n.two(),
+        column_span: n.two(),
+    };
+    Ok(View { permutation, dimensions, clip })
+}
+
+fn read_view_dimension(n: &mut Numbers) -> Result<ViewDimension, Cause> {
+    Ok(ViewDimension { size: extent(n.two(), Cause::ViewDimensionSize)?, stride: n.two() })
+}
+
+fn read_fill(n: &mut Numbers) -> Result<Step, Cause> {
+    let register = register(n.one())?;
+    let rows = side(n.one())?;
+    let columns = side(n.one())?;
+    let kind = kind(n.one())?;
+    let value = n.four();
+    if !kind.holds(value) {
+        return Err(Cause::FillValue);
+    }
+    Ok(Step::Fill { register, rows, columns, kind, value })
+}
+
+fn below(number: usize, count: usize, cause: Cause) -> Result<usize, Cause> {
+    if number < count {
+        Ok(number)
+    } else {
+        Err(cause)
+    }
+}
+
+fn dimension_count(number: u8) -> Result<usize, Cause> {
+    match usize::from(number) {
+        count @ 1..=DIMENSIONS_MAX => Ok(count),
+        _ => Err(Cause::DimensionCount),
+    }
+}
+
+/// Block size, dimension, span and view dimension: 1 to 4,096.
+fn extent(number: u16, cause: Cause) -> Result<u16, Cause> {
+    match number {
+        1..=4_096 => Ok(number),
+        _ => Err(cause),
+    }
+}
+
+fn register(number: u8) -> Result<usize, Cause> {
+    below(usize::from(number), REGISTERS, Cause::RegisterRange)
+}
+
+fn object(number: u8) -> Result<Option<usize>, Cause> {
+    if number == NONE {
+        return Ok(None);
+    }
+    register(number).map(Some)
+}
+
+fn side(number: u8) -> Result<usize, Cause> {
+    match usize::from(number) {
+        side @ 1..=SIDE_MAX => Ok(side),
+        _ => Err(Cause::Side),
+    }
+}
+
+fn kind(number: u8) -> Result<Kind, Cause> {
+    match number {
+        0..=5 => Ok(Kind(number)),
+        _ => Err(Cause::KindRange),
+    }
+}
+
+fn clamp_mode(number: u8) -> Result<ClampMode, Cause> {
+    match number {
+        0 => Ok(ClampMode::Undefined),
+        1 => Ok(ClampMode::Constant),
+        2 => Ok(ClampMode::ClampToEdge),
+        3 => Ok(ClampMode::Repeat),
+        4 => Ok(ClampMode::MirrorRepeat),
+        _ => Err(Cause::ClampModeRange),
+    }
+}
+
+fn reduce_mode(number: u8) -> Result<ReduceMode, Cause> {
+    match number {
+        1 => Ok(ReduceMode::Row),
+        2 => Ok(ReduceMode::Column),
+        3 => Ok(ReduceMode::Both),
+        4 => Ok(ReduceMode::TwoByTwo),
+        _ => Err(Cause::ReduceModeRange),
+    }
+}
+
+fn combine(number: u8) -> Result<Combine, Cause> {
+    match number {
+        0 => Ok(Combine::Add),
+        1 => Ok(Combine::Min),
+        2 => Ok(Combine::Max),
+        3 => Ok(Combine::And),
+        4 => Ok(Combine::Or),
+        5 => Ok(Combine::Xor),
+        _ => Err(Cause::CombineRange),
+    }
+}
+
+/// Writes a model into a room of some length. A model is written exactly when a sheet reads as
+/// it (otherwise 5), and the room must hold it (otherwise 19).
+pub fn write_sheet(sheet: &Sheet, room: usize) -> Result<Vec<u8>, Refusal> {
+    let bytes = sheet_bytes(sheet);
+    if read_sheet(&bytes).as_ref() != Ok(sheet) {
+        return Err(Refusal::nowhere(Cause::UnreadableModel));
+    }
+    if bytes.len() > room {
+        return Err(Refusal::nowhere(Cause::SheetRoom));
+    }
+    Ok(bytes)
+}
+
+/// The bytes of a sheet: the edition, then layouts, views and steps.
+pub fn sheet_bytes(sheet: &Sheet) -> Vec<u8> {
+    let mut bytes = Vec::new();
+    put_field(&mut bytes, EDITION, &[1]);
+    for layout in &sheet.layouts {
+        put_field(&mut bytes, LAYOUT, &layout_content(layout));
+    }
+    for view in &sheet.views {
+        put_field(&mut bytes, VIEW, &view_content(view));
+    }
+    for step in &sheet.steps {
+        put_step(&mut bytes, step);
+    }
+    bytes
+}
+
+fn put_field(bytes: &mut Vec<u8>, tag: u8, content: &[u8]) {
+    bytes.push(tag);
+    bytes.extend((content.len() as u16).to_le_bytes());
+    bytes.extend(content);
+}
+
+fn layout_content(layout: &Layout) -> Vec<u8> {
+    let mut content = vec![layout.dimensions.len() as u8, layout.clamp_mode as u8];
+    content.extend(layout.clamp_value.to_le_bytes());
+    for d in &layout.dimensions {
+        for number in [d.block_size, d.size, d.stride, d.offset as u16, d.span] {
+            content.extend(number.to_le_bytes());
+        }
+    }
+    content
+}
+
+fn view_content(view: &View) -> Vec<u8> {
+    let mut content = vec![view.permutation.len() as u8, u8::from(view.dimensions.is_some())];
+    content.extend(view.permutation.iter().map(|&entry| entry as u8));
+    for d in view.dimensions.iter().flatten() {
+        content.extend(d.size.to_le_bytes());
+        content.extend(d.stride.to_le_bytes());
+    }
+    let clip = view.clip;
+    for number in [clip.row_offset, clip.row_span, clip.column_offset, clip.column_span] {
+        content.extend(number.to_le_bytes());
+    }
+    content
+}
+
+fn put_step(bytes: &mut Vec<u8>, step: &Step) {
+    match *step {
+        Step::Fill { register, rows, columns, kind, value } => {
+            let head = [register as u8, rows as u8, columns as u8, kind.0];
+            put_field(bytes, FILL, &[head, value.to_le_bytes()].concat());
+        }
+        Step::Load { register, object, layout, view, base } => {
+            let head = [register as u8, number_or_none(object), layout as u8, number_or_none(view)];
+            put_field(bytes, LOAD, &[head, base.to_le_bytes()].concat());
+        }
+        Step::Store { register, layout, view, base } => {
+            let mut content = vec![register as u8, layout as u8, number_or_none(view)];
+            content.extend(base.to_le_bytes());
+            put_field(bytes, STORE, &content);
+        }
+        Step::Reduce { result, source, rows, columns, mode, combine } => {
+            // The modes are numbered from 1.
+            let mode = mode as u8 + 1;
+            let numbers = [result as u8, source as u8, rows as u8, columns as u8, mode];
+            put_field(bytes, REDUCE, &[&numbers[..], &[combine as u8]].concat());
+        }
+        Step::Transpose { result, source } => {
+            put_field(bytes, TRANSPOSE, &[result as u8, source as u8]);
+        }
+        Step::MultiplyAdd { result, a, b, c } => {
+            put_field(bytes, MULTIPLY_ADD, &[result as u8, a as u8, b as u8, c as u8]);
+        }
+    }
+}
+
+fn number_or_none(number: Option<usize>) -> u8 {
+    number.map_or(NONE, |number| number as u8)
+}
+
+#[cfg(test)]
+mod tests {
+    use super::*;
+
+    const EDITION_FIELD: [u8; 4] = [1, 1, 0, 1];
+
+    fn refused(bytes: &[u8]) -> (u32, [u32; 2]) {
+        let refusal = read_sheet(bytes).expect_err("refused");
+        (refusal.cause.number(), refusal.place)
+    }
+
+    #[test]
+    fn a_field_is_refused_in_the_tables_order() {
+        assert_eq!(refused(&[]), (3, [0, 0]));
+        assert_eq!(refused(&[1]), (1, [0, 0]));
+        assert_eq!(refused(&[1, 1]), (1, [0, 0]));
+        assert_eq!(refused(&[1, 1, 0]), (1, [0, 0]));
+        assert_eq!(refused(&[9, 1, 0, 1]), (2, [0, 0]));
+        assert_eq!(refused(&[0x24, 1, 0, 0]), (3, [0, 0]));
+        assert_eq!(refused(&[1, 2, 0, 1, 1]), (4, [0, 0]));
+        assert_eq!(refused(&[1, 1, 0, 2]), (6, [0, 0]));
+        assert_eq!(refused(&[&EDITION_FIELD[..], &[1]].concat()), (1, [4, 0]));
+        assert_eq!(refused(&[&EDITION_FIELD[..], &EDITION_FIELD].concat()), (3, [4, 0]));
+        assert_eq!(refused(&[&EDITION_FIELD[..], &[0x24, 2, 0, 4, 0]].concat()), (5, [4, 0]));
+        assert!(read_sheet(&EDITION_FIELD).is_ok());
+    }
+
+    #[test]
+    fn a_content_of_fifteen_bytes_is_two_sorts_of_view() {
+        let head = [&EDITION_FIELD[..], &[0x11, 15, 0]].concat();
+        let plain = [&head[..], &[5, 0, 4, 3, 2, 1, 0, 1, 0, 2, 0, 3, 0, 4, 0]].concat();
+        let sized = [&head[..], &[1, 1, 0, 7, 0, 9, 0, 1, 0, 2, 0, 3, 0, 4, 0]].concat();
+        let plain = read_sheet(&plain).expect("five dimensions, none of its own");
+        let sized = read_sheet(&sized).expect("one dimension of its own");
+        assert_eq!(plain.views[0].permutation, [4, 3, 2, 1, 0]);
+        assert_eq!(sized.views[0].dimensions, Some(vec![ViewDimension { size: 7, stride: 9 }]));
+        assert_eq!(plain.views[0].clip, sized.views[0].clip);
+    }
+
+    #[test]
+    fn a_model_that_no_sheet_reads_as_is_not_written() {
+        let fill = |value| Step::Fill { register: 0, rows: 1, columns: 1, kind: Kind(0), value };
+        let with = |step| Sheet { steps: vec![step], ..Sheet::default() };
+        assert_eq!(write_sheet(&with(fill(255)), 15).map(|bytes| bytes.len()), Ok(15));
+        let refused = |sheet, room| write_sheet(&sheet, room).expect_err("refused");
+        assert_eq!(refused(with(fill(256)), 15), Refusal::nowhere(Cause::UnreadableModel));
+        assert_eq!(refused(with(fill(255)), 14), Refusal::nowhere(Cause::SheetRoom));
+    }
+}

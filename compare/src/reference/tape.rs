@@ -1,0 +1,353 @@
+//! The tape: translating a sheet into records, and running records.
+
+use super::addressing::Outcome;
+use super::carry::{bits_at, check, put_bits, Carried, Types};
+use super::refusal::{Cause, Refusal};
+use super::registers::{Registers, Type};
+use super::sheet::{read_sheet, Sheet, Step};
+use super::whole::{do_whole, whole_type};
+use super::{check_memory, RECORDS_MAX, RECORD_NUMBERS, REGISTERS};
+
+const COPY: i32 = 0;
+const TAKE: i32 = 1;
+const PUT: i32 = 2;
+const FILL: i32 = 3;
+const WHOLE_STEP: i32 = 4;
+const BYTE_STEP_MAX: i32 = 65_535;
+
+/// A record: six signed numbers, the op first.
+pub type Record = [i32; RECORD_NUMBERS];
+
+/// A translated sheet.
+pub struct Translated {
+    pub records: Vec<Record>,
+    pub byte_elements: u32,
+}
+
+/// Translates a sheet for a memory length; `room` is the room's length in numbers.
+pub fn translate(sheet: &[u8], memory_len: usize, room: usize) -> Result<Translated, Refusal> {
+    let checked = check(sheet, memory_len)?;
+    let mut records = Vec::new();
+    for (number, step) in checked.sheet.steps.iter().enumerate() {
+        step_records(number, step, &checked.outcomes[number], &mut records);
+    }
+    if records.len() > RECORDS_MAX {
+        return Err(Refusal::nowhere(Cause::TooManyRecords));
+    }
+    if records.len() > room / RECORD_NUMBERS {
+        return Err(Refusal::nowhere(Cause::TapeRoom));
+    }
+    Ok(Translated { records, byte_elements: checked.byte_elements() })
+}
+
+fn step_records(number: usize, step: &Step, outcomes: &[Outcome], records: &mut Vec<Record>) {
+    match *step {
+        Step::Load { register, object, .. } => {
+            if let Some(object) = object {
+                records.push([COPY, register as i32, object as i32, 0, 0, 0]);
+            }
+            push_runs(TAKE, register, outcomes, records);
+        }
+        Step::Store { register, .. } => push_runs(PUT, register, outcomes, records),
+        _ => records.push([WHOLE_STEP, number as i32, 0, 0, 0, 0]),
+    }
+}
+
+/// The runs of a load or a store, greedily over the element numbers.
+fn push_runs(byte_op: i32, register: usize, outcomes: &[Outcome], records: &mut Vec<Record>) {
+    let register = register as i32;
+    let mut first = 0;
+    while first < outcomes.len() {
+        let rest = &outcomes[first..];
+        let at = first as i32;
+        first += match rest[0] {
+            Outcome::Skipped | Outcome::Discarded => 1,
+            Outcome::Filled(bits) => {
+                let count = run_length(rest, |_| Outcome::Filled(bits));
+                records.push([FILL, register, at, count as i32, bits as i32, 0]);
+                count
+            }
+            Outcome::Placed(byte) => {
+                let step = byte_step(rest);
+                let expected = |i| Outcome::Placed((byte as i64 + i as i64 * step) as usize);
+                let count = run_length(rest, expected);
+                records.push([byte_op, register, at, count as i32, byte as i32, step as i32]);
+                count
+            }
+        };
+    }
+}
+
+/// How many outcomes, from the first on, are the expected ones.
+fn run_length(outcomes: &[Outcome], expected: impl Fn(usize) -> Outcome) -> usize {
+    let alike = outcomes.iter().enumerate().take_while(|&(i, &outcome)| outcome == expected(i));
+    alike.count()
+}
+
+/// The step from the first element's byte to the second's; 0 for a run of one.
+fn byte_step(outcomes: &[Outcome]) -> i64 {
+    match *outcomes {
+        [Outcome::Placed(byte), Outcome::Placed(next), ..] => next as i64 - byte as i64,
+        _ => 0,
+    }
+}
+
+/// Runs the first records of a tape with its sheet on a memory, which is changed only if the
+/// tape is accepted. Of the sheet only its reading is checked.
+pub fn run_tape(
+    sheet: &[u8],
+    tape: &[i32],
+    records: usize,
+    memory: &mut [u8],
+) -> Result<Carried, Refusal> {
+    check_memory(memory.len())?;
+    let sheet = read_sheet(sheet)?;
+    let records = first_records(tape, records)?;
+    let mut types = Types::default();
+    for (number, record) in records.iter().enumerate() {
+        check_record(&sheet, record, &mut types, memory.len())
+            .map_err(|cause| Refusal::at(cause, number))?;
+    }
+    let mut carried = Carried { registers: Registers::default(), byte_elements: 0 };
+    for record in &records {
+        run_record(&sheet, record, &mut carried, memory);
+    }
+    Ok(carried)
+}
+
+fn first_records(tape: &[i32], records: usize) -> Result<Vec<Record>, Refusal> {
+    if records > RECORDS_MAX || records * RECORD_NUMBERS > tape.len() {
+        return Err(Refusal::nowhere(Cause::RecordCount));
+    }
+    let numbers = tape[..records * RECORD_NUMBERS].chunks_exact(RECORD_NUMBERS);
+    Ok(numbers.map(|record| record.try_into().expect("six numbers")).collect())
+}
+
+/// Refusal 17 of one record; updates the types.
+fn check_record(
+    sheet: &Sheet,
+    record: &Record,
+    types: &mut Types,
+    memory_len: usize,
+) -> Result<(), Cause> {
+    let [op, register, ..] = *record;
+    match op {
+        COPY => {
+            let register = register_number(register)?;
+            let object = register_number(record[2])?;
+            types[register] = Some(read(types, object)?);
+            unused(&record[3..])
+        }
+        TAKE | PUT => {
+            let type_ = read(types, register_number(register)?)?;
+            check_elements(record, type_)?;
+            check_bytes(record, type_, memory_len)
+        }
+        FILL => {
+            let type_ = read(types, register_number(register)?)?;
+            check_elements(record, type_)?;
+            if !type_.kind.holds(record[4] as u32) {
+                return Err(Cause::RecordValue);
+            }
+            unused(&record[5..])
+        }
+        WHOLE_STEP => {
+            unused(&record[2..])?;
+            check_whole_step(sheet, register, types)
+        }
+        _ => Err(Cause::UnknownOp),
+    }
+}
+
+fn register_number(number: i32) -> Result<usize, Cause> {
+    match usize::try_from(number) {
+        Ok(register) if register < REGISTERS => Ok(register),
+        _ => Err(Cause::RecordRegister),
+    }
+}
+
+fn read(types: &Types, register: usize) -> Result<Type, Cause> {
+    types[register].ok_or(Cause::RecordEmptyRegister)
+}
+
+fn unused(numbers: &[i32]) -> Result<(), Cause> {
+    if numbers.iter().any(|&number| number != 0) {
+        return Err(Cause::RecordUnused);
+    }
+    Ok(())
+}
+
+/// The elements of a take, a put or a fill lie in the matrix.
+fn check_elements(record: &Record, type_: Type) -> Result<(), Cause> {
+    let [_, _, first, count, ..] = *record;
+    if count < 1 {
+        return Err(Cause::RecordElementCount);
+    }
+    if first < 0 {
+        return Err(Cause::RecordFirst);
+    }
+    if i64::from(first) + i64::from(count) > type_.elements() as i64 {
+        return Err(Cause::RecordPastMatrix);
+    }
+    Ok(())
+}
+
+/// The bytes of a take or a put lie in memory: those of its first and of its last element, and
+/// so those between.
+fn check_bytes(record: &Record, type_: Type, memory_len: usize) -> Result<(), Cause> {
+    let [_, _, _, count, byte, step] = *record;
+    if !(-BYTE_STEP_MAX..=BYTE_STEP_MAX).contains(&step) {
+        return Err(Cause::RecordByteStep);
+    }
+    let first = i64::from(byte);
+    let last = first + i64::from(count - 1) * i64::from(step);
+    let inside = |byte: i64| byte >= 0 && byte + type_.kind.size() as i64 <= memory_len as i64;
+    if !inside(first) || !inside(last) {
+        return Err(Cause::RecordPastMemory);
+    }
+    Ok(())
+}
+
+/// Op 4 names a step of the sheet, no load and no store, that would not get 7 or 8 here.
+fn check_whole_step(sheet: &Sheet, number: i32, types: &mut Types) -> Result<(), Cause> {
+    let step = usize::try_from(number).ok().and_then(|number| sheet.steps.get(number));
+    let step = step.ok_or(Cause::RecordNoStep)?;
+    let type_ = match whole_type(step, types) {
+        None => return Err(Cause::RecordAccessStep),
+        Some(Err(Cause::EmptyRegister)) => return Err(Cause::RecordStepEmpty),
+        Some(Err(_)) => return Err(Cause::RecordStepShapes),
+        Some(Ok(type_)) => type_,
+    };
+    types[step.register()] = Some(type_);
+    Ok(())
+}
+
+/// Runs a record that is known to be accepted, its elements in order.
+fn run_record(sheet: &Sheet, record: &Record, carried: &mut Carried, memory: &mut [u8]) {
+    // The fourth number after the op is a byte for a take or a put, a value for a fill.
+    let [op, register, first, count, byte_or_value, step] = *record;
+    let registers = &mut carried.registers;
+    match op {
+        COPY => registers[register as usize] = registers[first as usize].clone(),
+        WHOLE_STEP => do_whole(&sheet.steps[register as usize], registers),
+        _ => {
+            let matrix = registers[register as usize].as_mut().expect("accepted");
+            let size = matrix.type_.kind.size();
+            let elements = &mut matrix.elements[first as usize..(first + count) as usize];
+            for (i, element) in elements.iter_mut().enumerate() {
+                let byte = || (i64::from(byte_or_value) + i as i64 * i64::from(step)) as usize;
+                match op {
+                    TAKE => *element = bits_at(memory, byte(), size),
+                    PUT => put_bits(memory, byte(), size, *element),
+                    _ => *element = byte_or_value as u32,
+                }
+            }
+            if op != FILL {
+                carried.byte_elements += count as u32;
+            }
+        }
+    }
+}
+
+#[cfg(test)]
+mod tests {
+    use super::super::sheet::{sheet_bytes, ClampMode, Combine, Dimension, Layout, ReduceMode};
+    use super::super::Kind;
+    use super::*;
+
+    /// A fill of register 0, 2 by 3, a load of it, and a reduction of all of register 1 to 2.
+    fn sheet(kind: u8) -> Vec<u8> {
+        let dimension = Dimension { block_size: 1, size: 6, stride: 1, offset: 0, span: 6 };
+        let layout = Layout {
+            clamp_mode: ClampMode::Undefined,
+            clamp_value: 0,
+            dimensions: vec![dimension],
+        };
+        let fill = Step::Fill { register: 0, rows: 2, columns: 3, kind: Kind(kind), value: 0 };
+        let load = Step::Load { register: 0, object: None, layout: 0, view: None, base: 0 };
+        let reduce = Step::Reduce {
+            result: 2,
+            source: 1,
+            rows: 1,
+            columns: 1,
+            mode: ReduceMode::Both,
+            combine: Combine::Add,
+        };
+        sheet_bytes(&Sheet {
+            layouts: vec![layout],
+            views: vec![],
+            steps: vec![fill, load, reduce],
+        })
+    }
+
+    const FILL_0: Record = [WHOLE_STEP, 0, 0, 0, 0, 0];
+
+    /// Runs records on a memory of 16 bytes; gives it and the count, or the refusal.
+    fn ran(kind: u8, records: &[Record]) -> Result<(Vec<u8>, u32), Refusal> {
+        let mut memory: Vec<u8> = (0..16).collect();
+        let carried = run_tape(&sheet(kind), &records.concat(), records.len(), &mut memory)?;
+        Ok((memory, carried.byte_elements))
+    }
+
+    fn refused(kind: u8, records: &[Record]) -> (Cause, [u32; 2]) {
+        let refusal = ran(kind, records).expect_err("refused");
+        (refusal.cause, refusal.place)
+    }
+
+    #[test]
+    fn a_run_goes_on_across_rows() {
+        let mut bytes = sheet(2);
+        // The reduction is of an empty register; the tape is that of the first two steps.
+        bytes.truncate(bytes.len() - 9);
+        let translated = translate(&bytes, 16, 12).expect("accepted");
+        assert_eq!(translated.records, [FILL_0, [TAKE, 0, 0, 6, 0, 2]]);
+        assert_eq!(translated.byte_elements, 6);
+        assert_eq!(translate(&bytes, 16, 11).err(), Some(Refusal::nowhere(Cause::TapeRoom)));
+    }
+
+    #[test]
+    fn the_step_of_a_lone_element_is_used() {
+        assert!(ran(0, &[FILL_0, [TAKE, 0, 5, 1, 15, 65_535]]).is_ok());
+        assert!(ran(0, &[FILL_0, [PUT, 0, 5, 1, 15, -65_535]]).is_ok());
+        let past = [TAKE, 0, 5, 1, 15, 65_536];
+        assert_eq!(refused(0, &[FILL_0, past]), (Cause::RecordByteStep, [1, 0]));
+    }
+
+    #[test]
+    fn a_whole_step_is_judged_where_it_stands() {
+        let reduce = [WHOLE_STEP, 2, 0, 0, 0, 0];
+        assert_eq!(refused(0, &[FILL_0, reduce]), (Cause::RecordStepEmpty, [1, 0]));
+        assert!(ran(0, &[FILL_0, [COPY, 1, 0, 0, 0, 0], reduce]).is_ok());
+        let load = [WHOLE_STEP, 1, 0, 0, 0, 0];
+        assert_eq!(refused(0, &[FILL_0, load]), (Cause::RecordAccessStep, [1, 0]));
+    }
+
+    #[test]
+    fn later_elements_of_a_put_win() {
+        let taken = [TAKE, 0, 0, 6, 0, 2];
+        let (memory, count) = ran(2, &[FILL_0, taken, [PUT, 0, 0, 3, 10, 1]]).expect("accepted");
+        assert_eq!(memory, [0, 1, 2, 3, 4, 5, 6, 7, 8, 9, 0, 2, 4, 5, 14, 15]);
+        assert_eq!(count, 9);
+    }
+
+    #[test]
+    fn a_value_is_raw_bits() {
+        let filled = |kind, value| ran(kind, &[FILL_0, [FILL, 0, 0, 6, value, 0]]).is_ok();
+        assert!(filled(1, 255) && !filled(1, 256) && !filled(1, -1));
+        assert!(filled(3, 65_535) && !filled(3, -1));
+        assert!(filled(4, -1) && filled(5, i32::MIN));
+    }
+
+    #[test]
+    fn records_are_counted_within_the_tape() {
+        let tape = vec![0; RECORD_NUMBERS * (RECORDS_MAX + 1)];
+        let refused = |tape: &[i32], records| {
+            run_tape(&sheet(0), tape, records, &mut []).err().map(|refusal| refusal.cause)
+        };
+        assert_eq!(refused(&tape[..11], 2), Some(Cause::RecordCount));
+        assert_eq!(refused(&tape, RECORDS_MAX + 1), Some(Cause::RecordCount));
+        assert_eq!(refused(&tape, usize::MAX), Some(Cause::RecordCount));
+        assert_eq!(refused(&tape, RECORDS_MAX), Some(Cause::RecordEmptyRegister));
+        assert_eq!(refused(&tape, 0), None);
+    }
+}

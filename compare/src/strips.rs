@@ -1,0 +1,146 @@
+//! The strips of the scope: sheets and memories from the files under `strips/`, and what the
+//! scope says that they give.
+
+use crate::jobs::{Jobs, State};
+use crate::reference::RECORD_NUMBERS;
+
+/// A strip: a sheet, the memory that it is carried out on, and what that gives.
+pub struct Strip {
+    pub name: &'static str,
+    pub sheet: Vec<u8>,
+    pub memory: Vec<u8>,
+    pub expected: Expected,
+}
+
+/// What the scope says of a strip.
+pub enum Expected {
+    /// The sides of a register's u8 matrix and its elements.
+    Register(usize, [u8; 2], &'static [u32]),
+    /// The first bytes of memory; the others keep what they held.
+    Memory(&'static [u8]),
+    /// Number and place of a refusal.
+    Refusal([u32; 3]),
+}
+
+macro_rules! strip {
+    ($name:literal, $expected:expr) => {
+        Strip {
+            name: $name,
+            sheet: bytes_of_hex(include_str!(concat!("../../strips/", $name, "/sheet.hex"))),
+            memory: bytes_of_hex(include_str!(concat!("../../strips/", $name, "/memory.hex"))),
+            expected: $expected,
+        }
+    };
+}
+
+/// Every strip, in the scope's order.
+pub fn strips() -> Vec<Strip> {
+    use Expected::*;
+    vec![
+        strip!("01-constant", Register(1, [1, 8], &[9, 9, 0, 1, 2, 3, 9, 9])),
+        strip!("02-clamp-to-edge", Register(1, [1, 8], &[0, 0, 0, 1, 2, 3, 3, 3])),
+        strip!("03-repeat", Register(1, [1, 8], &[2, 3, 0, 1, 2, 3, 0, 1])),
+        strip!("04-mirror-repeat", Register(1, [1, 8], &[2, 1, 0, 1, 2, 3, 2, 1])),
+        strip!("04-mirror-repeat-of-one", Register(1, [1, 8], &[0; 8])),
+        strip!("05-undefined", Refusal([13, 1, 0])),
+        strip!("06-clamped-store", Memory(&[16, 17, 18, 19])),
+        strip!("07-permuted-view", Register(0, [3, 2], &[0, 3, 1, 4, 2, 5])),
+        strip!("08-clip", Register(0, [2, 4], &[99, 99, 0, 1, 99, 99, 4, 5])),
+        strip!("09-large-index", Refusal([12, 1, 1])),
+        strip!("10-stride-zero-single", Memory(&[5])),
+        strip!("10-stride-zero-pair", Refusal([15, 1, 1])),
+        strip!("11-two-by-two-add", Register(1, [1, 1], &[47])),
+    ]
+}
+
+/// The tape of strip 4's sheet as the scope prints it.
+pub const STRIP_4_TAPE: [[i32; RECORD_NUMBERS]; 5] = [
+    [4, 0, 0, 0, 0, 0],
+    [0, 1, 0, 0, 0, 0],
+    [1, 1, 0, 3, 2, -1],
+    [1, 1, 3, 3, 1, 1],
+    [1, 1, 6, 2, 2, -1],
+];
+
+/// Reads hex digits, two a byte, with blanks between them and comments from `#` to the line's end.
+pub fn bytes_of_hex(text: &str) -> Vec<u8> {
+    let digits: Vec<u32> = text
+        .lines()
+        .flat_map(|line| line.split('#').next().unwrap_or("").chars())
+        .filter(|digit| !digit.is_whitespace())
+        .map(|digit| digit.to_digit(16).expect("a hex digit"))
+        .collect();
+    assert!(digits.len().is_multiple_of(2), "two digits a byte");
+    digits.chunks(2).map(|pair| (pair[0] * 16 + pair[1]) as u8).collect()
+}
+
+/// Sets an implementation beside every strip; gives how many there are, or what differs.
+pub fn check_strips(jobs: &dyn Jobs) -> Result<usize, String> {
+    let strips = strips();
+    for strip in &strips {
+        check_strip(jobs, strip).map_err(|what| format!("strip {}: {what}", strip.name))?;
+    }
+    check_strip_4_tape(jobs)?;
+    Ok(strips.len())
+}
+
+fn check_strip(jobs: &dyn Jobs, strip: &Strip) -> Result<(), String> {
+    let mut memory = strip.memory.clone();
+    let mut state = State::EMPTY;
+    let mut answer = [0; 4];
+    jobs.carry_out(&strip.sheet, &mut memory, &mut state, &mut answer);
+    let mut expected_memory = strip.memory.clone();
+    let mut expected_answer = [0; 3];
+    match strip.expected {
+        Expected::Register(register, [rows, columns], elements) => {
+            let at = 256 * register;
+            equal("type", &state.types[4 * register..][..4], &[0, rows, columns, 0])?;
+            equal("elements", &state.elements[at..at + elements.len()], elements)?;
+        }
+        Expected::Memory(bytes) => expected_memory[..bytes.len()].copy_from_slice(bytes),
+        Expected::Refusal(refusal) => expected_answer = refusal,
+    }
+    equal("number and place", &answer[..3], &expected_answer)?;
+    equal("memory", &memory, &expected_memory)
+}
+
+fn equal<T: PartialEq + std::fmt::Debug>(
+    name: &str,
+    got: &[T],
+    wanted: &[T],
+) -> Result<(), String> {
+    if got == wanted {
+        return Ok(());
+    }
+    Err(format!("{name} {got:?}, not {wanted:?}"))
+}
+
+fn check_strip_4_tape(jobs: &dyn Jobs) -> Result<(), String> {
+    let strip = strip!("04-mirror-repeat", Expected::Refusal([0; 3]));
+    let (mut tape, mut records, mut answer) = ([0; 60], [0], [0; 4]);
+    jobs.translate(&strip.sheet, 65_536, &mut tape, &mut records, &mut answer);
+    let expected = STRIP_4_TAPE.concat();
+    if answer != [0, 0, 0, 8] || records != [5] || tape[..30] != expected[..] {
+        return Err(format!("strip 4's tape: {answer:?} {records:?} {tape:?}"));
+    }
+    Ok(())
+}
+
+#[cfg(test)]
+mod tests {
+    use super::*;
+    use crate::jobs::Reference;
+
+    #[test]
+    fn strip_4_is_the_sheet_of_45_bytes() {
+        let printed = "01 01 00 01 10 10 00 01 04 00 00 00 00 01 00 04 00 01 00 FE FF 08 00 20 08 \
+                       00 00 01 08 00 00 00 00 00 21 08 00 01 00 00 FF 00 00 00 00";
+        assert_eq!(strips()[3].sheet, bytes_of_hex(printed));
+        assert_eq!(strips()[3].sheet.len(), 45);
+    }
+
+    #[test]
+    fn the_reference_gives_what_the_scope_says() {
+        assert_eq!(check_strips(&Reference::default()), Ok(13));
+    }
+}

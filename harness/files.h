@@ -1,0 +1,35 @@
+/* Files, read and written whole. Each function says on standard error what went wrong. */
+#ifndef FILES_H
+#define FILES_H
+
+#include <stdbool.h>
+#include <stddef.h>
+#include <stdint.h>
+#include <stdio.h>
+
+/* Bytes of a file; `at` is to be freed and never NULL after a successful read. */
+struct bytes {
+    uint8_t *at;
+    size_t len;
+};
+
+/* The name that stands for standard input. */
+#define STANDARD_INPUT "-"
+
+/* Opens a file to read, or standard input; NULL if that fails. */
+FILE *open_input(const char *name);
+
+/* Closes what open_input opened. */
+void close_input(FILE *file);
+
+/* Says that reading or writing a file failed, for the reason in errno. */
+void complain(const char *name);
+
+/* Reads the first `limit` bytes of a file, or all of it if it is shorter. */
+bool read_file(const char *name, size_t limit, struct bytes *bytes);
+
+/* Writes a file whole: under another name first, so that a file that exists is replaced by all of
+ * the new one or not at all. */
+bool write_file(const char *name, const uint8_t *bytes, size_t len);
+
+#endif

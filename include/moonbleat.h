@@ -1,0 +1,185 @@
+/*
+ * Moonbleat: reference software for tensor shaders.
+ *
+ * A sheet is a short program: layouts and views that say where the elements of a matrix lie in
+ * memory, and steps that fill, load, store, reduce, transpose and multiply-add matrices in four
+ * registers. The library reads sheets, carries them out, translates them into tapes (flat lists
+ * of copies) and runs tapes. It answers what a correct device must answer, byte for byte.
+ *
+ * Link with libmoonbleat.a. The functions keep no state, allocate nothing and may be called from
+ * any number of threads, each with arrays of its own.
+ *
+ * Answers
+ * -------
+ * Every function returns the refusal's number, 0 if the input is accepted, and fills a row of
+ * four numbers:
+ *
+ *   answer[0]  the same number
+ *   answer[1]  its place (a byte of the sheet, a step or a record, by the table below; else 0)
+ *   answer[2]  the second number of its place (an element, by the table below; else 0)
+ *   answer[3]  byte-elements: how many elements of loads and stores had a byte in memory; for a
+ *              running tape those of takes and puts, for a rewritten sheet its length in bytes,
+ *              for a read sheet 0
+ *
+ * A refused input changes nothing: memory, the room of a tape and the room of a sheet are as
+ * before, counts, records, types and elements are all 0, and so is answer[3]. Of an accepted
+ * input, what lies past the bytes or numbers written is as before.
+ *
+ * Refusals
+ * --------
+ *   no.  given when                                                          place
+ *    1   fewer than 3 bytes are left for a field's head, or its content
+ *        runs past the end of the sheet                                      byte of the head
+ *    2   the tag is not a known one                                          byte of the head
+ *    3   a field is out of order, the edition is repeated, there are too
+ *        many layouts, views or steps; or the sheet has no edition           byte of the head,
+ *                                                                            or sheet length
+ *    4   the length is not one that the tag has                              byte of the head
+ *    5   a number is out of its range, names a layout or a view that is not
+ *        given, or the permutation is none                                   byte of the head
+ *    6   the edition is not 1                                                byte of the head
+ *    7   a register that is read is empty                                    step
+ *    8   shapes or kinds do not fit each other                               step
+ *    9   the base is not a multiple of 16                                    step
+ *   10   a view without dimensions has another count than the layout         step
+ *   11   a store goes through a block size above 1                           step
+ *   12   the index after the view is 2^32 or more                            step, element
+ *   13   the element lies outside and the clamp mode is Undefined            step, element
+ *   14   the element's bytes do not all lie in memory                        step, element
+ *   15   a store puts a later element where an earlier one is                step, element
+ *   16   the tape has more than 1,024 records or more than the room holds    0
+ *   17   a record is out of range; a record count is above 1,024 or goes
+ *        past the tape                                                       record, or 0
+ *   18   the memory is longer than 65,536 bytes                              0
+ *   19   the room for the written sheet is too short                         0
+ *
+ * If several apply, 18 comes first, then the sheet's fields one by one (each 1, 2, 3, 4, 6, 5),
+ * then its steps one by one (each 7 to 11, then 12 to 14 element by element, then 15), then 16
+ * or 17.
+ *
+ * Pointers
+ * --------
+ * No pointer may be NULL, not even with length 0, and arrays that are passed to one call must
+ * not overlap.
+ */
+#ifndef MOONBLEAT_H
+#define MOONBLEAT_H
+
+#include <stddef.h>
+#include <stdint.h>
+
+#ifdef __cplusplus
+extern "C" {
+#endif
+
+/* Sizes. */
+#define MOONBLEAT_MEMORY_MAX 65536        /* bytes of memory */
+#define MOONBLEAT_REGISTERS 4             /* registers, each empty or holding a matrix */
+#define MOONBLEAT_SIDE_MAX 16             /* rows and columns of a matrix */
+#define MOONBLEAT_REGISTER_ELEMENTS 256   /* places for elements in a register */
+#define MOONBLEAT_ELEMENTS 1024           /* ... in all registers */
+#define MOONBLEAT_TYPE_BYTES 4            /* bytes of a register's type */
+#define MOONBLEAT_TYPES 16                /* ... of all registers' types */
+#define MOONBLEAT_LAYOUTS_MAX 4           /* layouts of a sheet */
+#define MOONBLEAT_VIEWS_MAX 4             /* views of a sheet */
+#define MOONBLEAT_STEPS_MAX 32            /* steps of a sheet */
+#define MOONBLEAT_SHEET_MAX 744           /* bytes of the longest sheet that is accepted */
+#define MOONBLEAT_RECORDS_MAX 1024        /* records of a tape */
+#define MOONBLEAT_RECORD_NUMBERS 6        /* numbers of a record */
+#define MOONBLEAT_TAPE_NUMBERS 6144       /* numbers of the longest tape */
+#define MOONBLEAT_COUNTS 3                /* layouts, views, steps */
+#define MOONBLEAT_ANSWER 4                /* number, place, second place, byte-elements */
+
+/* Places in an answer. */
+enum {
+    MOONBLEAT_NUMBER = 0,
+    MOONBLEAT_PLACE = 1,
+    MOONBLEAT_SECOND_PLACE = 2,
+    MOONBLEAT_BYTE_ELEMENTS = 3
+};
+
+/* Element kinds. An element is its raw bits, in memory little-endian. */
+enum {
+    MOONBLEAT_U8 = 0,
+    MOONBLEAT_S8 = 1,
+    MOONBLEAT_U16 = 2,
+    MOONBLEAT_S16 = 3,
+    MOONBLEAT_U32 = 4,
+    MOONBLEAT_S32 = 5
+};
+
+/* Tags of a sheet's fields: a tag, a two-byte length, then the content. */
+enum {
+    MOONBLEAT_TAG_EDITION = 0x01,
+    MOONBLEAT_TAG_LAYOUT = 0x10,
+    MOONBLEAT_TAG_VIEW = 0x11,
+    MOONBLEAT_TAG_FILL = 0x20,
+    MOONBLEAT_TAG_LOAD = 0x21,
+    MOONBLEAT_TAG_STORE = 0x22,
+    MOONBLEAT_TAG_REDUCE = 0x23,
+    MOONBLEAT_TAG_TRANSPOSE = 0x24,
+    MOONBLEAT_TAG_MULTIPLY_ADD = 0x25
+};
+
+/* Ops of a tape's records: the first of six numbers. */
+enum {
+    MOONBLEAT_OP_COPY = 0, /* register, object, 0, 0, 0 */
+    MOONBLEAT_OP_TAKE = 1, /* register, first element, count, byte, step in bytes */
+    MOONBLEAT_OP_PUT = 2,  /* the same, from the register to memory */
+    MOONBLEAT_OP_FILL = 3, /* register, first element, count, raw bits, 0 */
+    MOONBLEAT_OP_STEP = 4  /* step of the sheet, 0, 0, 0, 0 */
+};
+
+/*
+ * Reads a sheet. On success counts[] has its numbers of layouts, views and steps.
+ * Refusals 1 to 6.
+ */
+uint32_t moonbleat_read(const uint8_t *sheet, size_t sheet_len, uint32_t counts[3], uint32_t answer[4]);
+
+/*
+ * Reads a sheet and writes what was read into out[]; answer[3] is the byte count. What is written
+ * is what was read, byte for byte. Refusals 1 to 6, then 19.
+ */
+uint32_t moonbleat_rewrite(const uint8_t *sheet, size_t sheet_len, uint8_t *out, size_t out_len, uint32_t answer[4]);
+
+/*
+ * Checks a sheet for a memory of some length, without a memory: it is accepted exactly if
+ * moonbleat_carry_out accepts it on every memory of that length. Refusals 18 and 1 to 15.
+ */
+uint32_t moonbleat_check(const uint8_t *sheet, size_t sheet_len, size_t memory_len, uint32_t answer[4]);
+
+/*
+ * Carries out a sheet on a memory, from empty registers. On success memory[] is what the stores
+ * left, and the registers are in two arrays:
+ *
+ *   types[4 * r ..]       kind, rows, columns and 0 of register r; four zeros if it is empty
+ *   elements[256 * r ..]  its elements' raw bits, row by row, then zeros
+ *
+ * Refusals 18 and 1 to 15.
+ */
+uint32_t moonbleat_carry_out(const uint8_t *sheet, size_t sheet_len, uint8_t *memory, size_t memory_len,
+                             uint8_t types[16], uint32_t elements[1024], uint32_t answer[4]);
+
+/*
+ * Translates a sheet for a memory of some length into a tape: six numbers a record, records[0]
+ * records. A room of MOONBLEAT_TAPE_NUMBERS numbers holds every tape. Running the tape with its
+ * sheet on a memory of that length leaves the memory, the registers and the byte-elements that
+ * carrying out the sheet leaves. Refusals 18, 1 to 15, then 16.
+ */
+uint32_t moonbleat_translate(const uint8_t *sheet, size_t sheet_len, size_t memory_len,
+                             int32_t *tape, size_t tape_len, uint32_t records[1], uint32_t answer[4]);
+
+/*
+ * Runs the first `records` records of a tape with its sheet on a memory, from empty registers;
+ * tape_len counts numbers. Registers and memory are as for moonbleat_carry_out. The tape may come
+ * from anywhere: of the sheet only its reading is checked. Refusals 18, 1 to 6, then 17.
+ */
+uint32_t moonbleat_run(const uint8_t *sheet, size_t sheet_len, const int32_t *tape, size_t tape_len, size_t records,
+                       uint8_t *memory, size_t memory_len, uint8_t types[16], uint32_t elements[1024],
+                       uint32_t answer[4]);
+
+#ifdef __cplusplus
+}
+#endif
+
+#endif

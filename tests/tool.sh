@@ -1,0 +1,551 @@
+#!/bin/sh
+# Tests of the command-line tool: the strips, every refusal that each subcommand can give, wrong
+# uses, and files that cannot be read or written.
+#
+#   tests/tool.sh FOLDER      FOLDER has the programs moonbleat, example and unhex
+#
+# RUNNER, if set, is put before each call of the tool, as 'valgrind -q --error-exitcode=99'.
+# (Refusal 19 is given only for a rewritten sheet, which no subcommand asks for.)
+
+set -u
+bin=$(cd "$1" && pwd) || exit 2
+strips=$(cd "$(dirname "$0")/../strips" && pwd) || exit 2
+tool="${RUNNER:-} $bin/moonbleat"
+work=$(mktemp -d) || exit 2
+trap 'rm -rf "$work"' EXIT
+cd "$work" || exit 2
+passed=0
+failed=0
+
+pass() {
+    passed=$((passed + 1))
+}
+
+fail() {
+    failed=$((failed + 1))
+    echo "FAILED: $1"
+}
+
+# bytes NAME HEX..: makes a file of bytes.
+bytes() {
+    name=$1
+    shift
+    echo "$*" | "$bin/unhex" > "$name" || fail "hex of $name"
+}
+
+# zeros NAME COUNT
+zeros() {
+    head -c "$2" /dev/zero > "$1"
+}
+
+# call STATUS WORD..: runs the tool into stdout and stderr; its exit status must be STATUS.
+call() {
+    wanted=$1
+    shift
+    $tool "$@" > stdout 2> stderr
+    status=$?
+    if [ "$status" -eq "$wanted" ]; then
+        pass
+    else
+        fail "$*: exit status $status, not $wanted: $(head -c 300 stderr)"
+    fi
+}
+
+# same WHAT ONE OTHER: two files must be equal.
+same() {
+    if cmp -s "$2" "$3"; then
+        pass
+    else
+        fail "$1: $(diff "$2" "$3" | head -n 5)"
+    fi
+}
+
+# says TEXT: standard error must begin so.
+says() {
+    case $(cat stderr) in
+        "$1"*) pass ;;
+        *) fail "standard error begins '$(head -c 100 stderr)', not '$1'" ;;
+    esac
+}
+
+# silent: standard output must be empty.
+silent() {
+    if [ -s stdout ]; then
+        fail "standard output is '$(head -c 100 stdout)'"
+    else
+        pass
+    fi
+}
+
+# absent NAME: no such file, and no temporary one of that name.
+absent() {
+    for name in "$1" "$1".*; do
+        if [ -e "$name" ]; then
+            fail "$name is there"
+            return
+        fi
+    done
+    pass
+}
+
+# -- The strips ----------------------------------------------------------------------------------
+
+accepted_strip() {
+    call 0 run sheet memory -o out
+    same "$1: run" stdout "$strips/$1/run.txt"
+    same "$1: memory" out after
+    call 0 tape sheet
+    same "$1: tape" stdout "$strips/$1/tape.txt"
+    rm -f out
+    call 0 run-tape sheet "$strips/$1/tape.txt" memory -o out
+    same "$1: run-tape" stdout "$strips/$1/run.txt"
+    same "$1: memory of run-tape" out after
+    call 0 check sheet --memory "$(wc -c < memory)"
+    tail -n 1 "$strips/$1/run.txt" > last
+    same "$1: check" stdout last
+    rm -f out
+}
+
+refused_strip() {
+    read -r number first second < "$strips/$1/tape.txt"
+    call 1 tape sheet
+    same "$1: tape" stdout "$strips/$1/tape.txt"
+    says "moonbleat: refusal $number at $first $second "
+    call 1 check sheet --memory "$(wc -c < memory)"
+    silent
+    says "moonbleat: refusal $number at $first $second "
+    call 1 run sheet memory -o out
+    silent
+    says "moonbleat: refusal $number at $first $second "
+    absent out
+}
+
+for folder in "$strips"/*/; do
+    strip=$(basename "$folder")
+    "$bin/unhex" < "$folder/sheet.hex" > sheet || fail "$strip: sheet"
+    "$bin/unhex" < "$folder/memory.hex" > memory || fail "$strip: memory"
+    cp memory after
+    if [ -e "$folder/after.hex" ]; then
+        "$bin/unhex" < "$folder/after.hex" > after || fail "$strip: after"
+    fi
+    call 0 show sheet
+    same "$strip: show" stdout "$folder/show.txt"
+    if [ -e "$folder/run.txt" ]; then
+        accepted_strip "$strip"
+    else
+        refused_strip "$strip"
+    fi
+done
+
+# -- Refusals ------------------------------------------------------------------------------------
+
+# refused 'NUMBER PLACE SECOND' WORD..: the call must be refused so, and print nothing.
+refused() {
+    place=$1
+    shift
+    call 1 "$@"
+    silent
+    says "moonbleat: refusal $place"
+}
+
+# refused_tape 'NUMBER PLACE SECOND' WORD..: the same, and the three numbers on standard output.
+refused_tape() {
+    place=$1
+    shift
+    call 1 "$@"
+    says "moonbleat: refusal $place"
+    echo "$place" | sed 's/ at / /' > three
+    same "$*" stdout three
+}
+
+# unreadable 'NUMBER at PLACE SECOND' HEX..: every subcommand refuses the sheet when it reads it.
+unreadable() {
+    wanted_place=$1
+    shift
+    bytes sheet "$@"
+    refused "$wanted_place" show sheet
+    refused "$wanted_place" check sheet --memory 64
+    refused "$wanted_place" run sheet memory -o out
+    refused "$wanted_place" run-tape sheet tape memory -o out
+    refused_tape "$wanted_place" tape sheet
+    absent out
+}
+
+# misstepped 'NUMBER at PLACE SECOND' HEX..: the sheet is read, and refused for 64 bytes of memory.
+misstepped() {
+    wanted_place=$1
+    shift
+    bytes sheet "$@"
+    call 0 show sheet
+    refused "$wanted_place" check sheet --memory 64
+    refused "$wanted_place" run sheet memory -o out
+    refused_tape "$wanted_place" tape sheet --memory 64
+    absent out
+}
+
+zeros memory 64
+: > tape
+edition='01 0100 01'
+layout='10 1000 01 00 00000000 0100 0800 0100 0000 0800'
+view='11 0B00 01 00 00 0000 FFFF 0000 FFFF'
+own_view='11 0F00 01 01 00 0800 0100 0000 FFFF 0000 FFFF'
+fill='20 0800 00 01 08 00 00000000'
+load='21 0800 00 FF 00 FF 00000000'
+store='22 0700 00 00 FF 00000000'
+reduce='23 0600 01 00 01 01 03 00'
+transpose='24 0200 01 00'
+multiply='25 0400 03 00 01 02'
+
+unreadable '1 at 0 0' 01
+unreadable '1 at 0 0' 01 01
+unreadable '1 at 0 0' 01 0100
+unreadable '1 at 0 0' 01 0200 01
+unreadable '1 at 4 0' "$edition" 10 10
+unreadable '1 at 23 0' "$edition $layout" 20 0800 00 01 08 00
+unreadable '1 at 4 0' "$edition" FF FFFF
+unreadable '2 at 0 0' 00 0000
+unreadable '2 at 4 0' "$edition" 12 0000
+unreadable '2 at 23 0' "$edition $layout" 26 0000
+unreadable '3 at 0 0' ''
+unreadable '3 at 0 0' "$layout"
+unreadable '3 at 4 0' "$edition $edition"
+unreadable '3 at 18 0' "$edition $view $layout"
+unreadable '3 at 15 0' "$edition $fill $view"
+unreadable '3 at 15 0' "$edition $fill $edition"
+unreadable '3 at 80 0' "$edition $layout $layout $layout $layout $layout"
+unreadable '3 at 60 0' "$edition $view $view $view $view $view"
+eight="$fill $fill $fill $fill $fill $fill $fill $fill"
+bytes sheet "$edition $eight $eight $eight $eight"
+call 0 show sheet
+unreadable '3 at 356 0' "$edition $eight $eight $eight $eight $fill"
+unreadable '4 at 0 0' 01 0000
+unreadable '4 at 0 0' 01 0200 01 01
+unreadable '4 at 4 0' "$edition" 10 0600 01 00 00000000
+unreadable '4 at 4 0' "$edition" 11 0A00 01 00 0000 FFFF 0000 FFFF
+unreadable '4 at 23 0' "$edition $layout" 24 0300 01 00 00
+unreadable '6 at 0 0' 01 0100 00
+unreadable '6 at 0 0' 01 0100 02
+# 5: dimension count, clamp mode, block size, dimension, offset, span.
+unreadable '5 at 4 0' "$edition" 10 1000 00 00 00000000 0100 0800 0100 0000 0800
+unreadable '5 at 4 0' "$edition" 10 1000 02 00 00000000 0100 0800 0100 0000 0800
+unreadable '5 at 4 0' "$edition" 10 1000 01 05 00000000 0100 0800 0100 0000 0800
+unreadable '5 at 4 0' "$edition" 10 1000 01 00 00000000 0000 0800 0100 0000 0800
+unreadable '5 at 4 0' "$edition" 10 1000 01 00 00000000 0110 0800 0100 0000 0800
+unreadable '5 at 4 0' "$edition" 10 1000 01 00 00000000 0100 0000 0100 0000 0800
+unreadable '5 at 4 0' "$edition" 10 1000 01 00 00000000 0100 0110 0100 0000 0800
+unreadable '5 at 4 0' "$edition" 10 1000 01 00 00000000 0100 0800 0100 0010 0800
+unreadable '5 at 4 0' "$edition" 10 1000 01 00 00000000 0100 0800 0100 FFEF 0800
+unreadable '5 at 4 0' "$edition" 10 1000 01 00 00000000 0100 0800 0100 0000 0000
+unreadable '5 at 23 0' "$edition $layout" 10 1000 01 00 00000000 0100 0800 0100 0000 0110
+# 5: a view's dimension count, has-dimensions, permutation and view dimension.
+unreadable '5 at 4 0' "$edition" 11 0B00 02 00 00 0000 FFFF 0000 FFFF
+unreadable '5 at 4 0' "$edition" 11 0B00 01 02 00 0000 FFFF 0000 FFFF
+unreadable '5 at 4 0' "$edition" 11 0B00 01 00 01 0000 FFFF 0000 FFFF
+unreadable '5 at 4 0' "$edition" 11 0C00 02 00 00 00 0000 FFFF 0000 FFFF
+unreadable '5 at 4 0' "$edition" 11 0F00 01 01 00 0110 0100 0000 FFFF 0000 FFFF
+# 5: steps.
+unreadable '5 at 4 0' "$edition" 20 0800 04 01 08 00 00000000
+unreadable '5 at 4 0' "$edition" 20 0800 00 00 08 00 00000000
+unreadable '5 at 4 0' "$edition" 20 0800 00 01 11 00 00000000
+unreadable '5 at 4 0' "$edition" 20 0800 00 01 08 06 00000000
+unreadable '5 at 4 0' "$edition" 20 0800 00 01 08 00 00010000
+unreadable '5 at 15 0' "$edition $fill $load"
+unreadable '5 at 34 0' "$edition $layout $fill" 21 0800 00 04 00 FF 00000000
+unreadable '5 at 34 0' "$edition $layout $fill" 21 0800 00 FF 00 00 00000000
+unreadable '5 at 34 0' "$edition $layout $fill" 22 0700 00 01 FF 00000000
+unreadable '5 at 4 0' "$edition" 23 0600 01 00 01 01 00 00
+unreadable '5 at 4 0' "$edition" 23 0600 01 00 01 01 05 00
+unreadable '5 at 4 0' "$edition" 23 0600 01 00 01 01 03 06
+unreadable '5 at 4 0' "$edition" 24 0200 01 04
+unreadable '5 at 4 0' "$edition" 25 0400 03 00 01 04
+
+misstepped '7 at 0 0' "$edition $layout $load"
+misstepped '7 at 0 0' "$edition $layout $store"
+misstepped '7 at 1 0' "$edition $layout $fill" 21 0800 00 01 00 FF 00000000
+misstepped '7 at 1 0' "$edition $fill" 23 0600 00 01 01 01 03 00
+misstepped '7 at 1 0' "$edition $fill" 24 0200 00 03
+misstepped '7 at 1 0' "$edition $fill $multiply"
+misstepped '8 at 1 0' "$edition $fill" 23 0600 01 00 02 01 01 00
+misstepped '8 at 1 0' "$edition $fill" 23 0600 01 00 01 07 02 00
+misstepped '8 at 1 0' "$edition $fill" 23 0600 01 00 01 04 04 00
+misstepped '8 at 3 0' "$edition $fill $reduce $transpose" 25 0400 03 00 01 00
+misstepped '8 at 1 0' "$edition" 20 0800 00 01 01 03 00000000 25 0400 03 00 00 00
+misstepped '9 at 1 0' "$edition $layout $fill" 21 0800 00 FF 00 FF 08000000
+misstepped '9 at 1 0' "$edition $layout $fill" 22 0700 00 00 FF 01000000
+two='11 0C00 02 00 00 01 0000 FFFF 0000 FFFF'
+misstepped '10 at 1 0' "$edition $layout $two $fill" 21 0800 00 FF 00 00 00000000
+blocks='10 1000 01 00 00000000 0200 0800 0100 0000 0800'
+misstepped '11 at 1 0' "$edition $blocks $fill $store"
+wide='10 2E00 04 02 00000000 0100 0010 0000 0000 0010 0100 0010 0000 0000 0010
+      0100 0010 0000 0000 0010 0100 0010 0000 0000 0010'
+outer_first='11 0E00 04 00 01 02 03 00 0000 FFFF 0000 FFFF'
+misstepped '12 at 1 1' "$edition $wide $outer_first $fill" 21 0800 00 FF 00 00 00000000
+past='10 1000 01 00 00000000 0100 0400 0100 0000 0800'
+misstepped '13 at 1 4' "$edition $past $fill $load"
+misstepped '13 at 1 4' "$edition $past $fill $store"
+misstepped '14 at 1 0' "$edition $layout $fill" 21 0800 00 FF 00 FF 40000000
+far='10 1000 01 00 00000000 0100 0800 1500 0000 0800'
+misstepped '14 at 1 4' "$edition $far $fill $load"
+misstepped '14 at 2 4' "$edition $far $fill $fill $store"
+round='10 1000 01 00 00000000 0100 0800 0100 0000 0400'
+misstepped '15 at 1 4' "$edition $round $fill $store"
+
+# 16: as many records as a tape may have, then one more.
+zigzag='10 1000 01 04 00000000 0100 0200 0100 0000 0010'
+sixteen='20 0800 00 10 10 00 00000000'
+seven="$load $load $load $load $load $load $load"
+rest='20 0800 01 0F 10 00 00000000 21 0800 01 FF 00 FF 00000000 20 0800 02 01 0A 00 00000000'
+bytes sheet "$edition $zigzag $sixteen $seven $rest" 21 0800 02 FF 00 FF 00000000
+call 0 tape sheet
+if [ "$(wc -l < stdout)" -eq 1024 ]; then pass; else fail 'a tape of 1024 records'; fi
+cp stdout longest
+call 0 run-tape sheet longest memory
+cp stdout ran
+call 0 run sheet memory
+same 'the longest tape' stdout ran
+bytes sheet "$edition $zigzag $sixteen $seven $rest" 21 0800 02 00 00 FF 00000000
+refused_tape '16 at 0 0' tape sheet
+call 0 run sheet memory
+
+# 17: each record out of range behind two good ones.
+tape_refused() {
+    wanted_place=$1
+    shift
+    printf '%s\n' '4 0 0 0 0 0' '1 0 0 8 0 1' "$@" > tape
+    refused "$wanted_place" run-tape sheet tape memory -o out
+    absent out
+}
+# tape_accepted RECORD..
+tape_accepted() {
+    printf '%s\n' '4 0 0 0 0 0' '1 0 0 8 0 1' "$@" > tape
+    call 0 run-tape sheet tape memory
+}
+bytes sheet "$edition $layout $fill $load $reduce" 24 0200 02 03 "$multiply $store"
+tape_refused '17 at 2 0' '5 0 0 0 0 0'
+tape_refused '17 at 2 0' '-1 0 0 0 0 0'
+tape_refused '17 at 2 0' '0 4 0 0 0 0'
+tape_refused '17 at 2 0' '0 1 -1 0 0 0'
+tape_refused '17 at 2 0' '0 1 1 0 0 0'
+tape_refused '17 at 2 0' '0 1 0 1 0 0'
+tape_refused '17 at 2 0' '0 1 0 0 0 1'
+tape_refused '17 at 3 0' '0 1 0 0 0 0' '0 1 2 0 0 0'
+tape_refused '17 at 2 0' '1 1 0 1 0 0'
+tape_refused '17 at 2 0' '1 0 0 0 0 0'
+tape_refused '17 at 2 0' '1 0 -1 1 0 0'
+tape_refused '17 at 2 0' '1 0 8 1 0 0'
+tape_refused '17 at 2 0' '1 0 2147483647 2147483647 0 0'
+tape_refused '17 at 2 0' '1 0 0 1 0 65536'
+tape_refused '17 at 2 0' '2 0 0 1 0 -65536'
+tape_refused '17 at 2 0' '2 0 0 1 -1 0'
+tape_refused '17 at 2 0' '2 0 0 1 64 0'
+tape_refused '17 at 2 0' '2 0 0 2 63 1'
+tape_refused '17 at 2 0' '2 0 0 2 0 -1'
+tape_refused '17 at 2 0' '3 3 0 1 0 0'
+tape_refused '17 at 2 0' '3 0 0 1 256 0'
+tape_refused '17 at 2 0' '3 0 0 1 -1 0'
+tape_refused '17 at 2 0' '3 0 0 1 0 1'
+tape_refused '17 at 2 0' '4 1 0 0 0 0'
+tape_refused '17 at 2 0' '4 5 0 0 0 0'
+tape_refused '17 at 2 0' '4 6 0 0 0 0'
+tape_refused '17 at 2 0' '4 -1 0 0 0 0'
+tape_refused '17 at 2 0' '4 3 0 0 0 0'
+tape_refused '17 at 3 0' '4 2 0 0 0 0' '4 4 0 0 0 0'
+tape_refused '17 at 2 0' '4 0 0 0 0 1'
+tape_accepted '1 0 7 1 63 65535'
+tape_accepted '2 0 7 1 63 -65535' '2 0 0 8 7 -1' '2 0 0 8 0 0'
+tape_accepted '3 0 0 8 255 0' '0 3 0 0 0 0' '4 3 0 0 0 0'
+{ cat longest; echo '4 0 0 0 0 0'; } > tape
+refused '17 at 0 0' run-tape sheet tape memory
+
+# 18 comes before everything else.
+zeros memory 65536
+bytes sheet "$edition $fill"
+call 0 run sheet memory
+call 0 check sheet --memory 65536
+zeros memory 65537
+: > tape
+for hex in "$edition $fill" 01; do
+    bytes sheet "$hex"
+    refused '18 at 0 0' check sheet --memory 65537
+    refused '18 at 0 0' check sheet --memory 18446744073709551615
+    refused '18 at 0 0' run sheet memory -o out
+    refused '18 at 0 0' run-tape sheet tape memory -o out
+    refused_tape '18 at 0 0' tape sheet --memory 65537
+    absent out
+done
+
+# -- Wrong uses ----------------------------------------------------------------------------------
+
+# wrong WORD..: exit status 2, the help on standard error.
+wrong() {
+    call 2 "$@"
+    silent
+    if grep -q '^usage:$' stderr; then pass; else fail "$*: no help"; fi
+}
+
+zeros memory 64
+bytes sheet "$edition $layout $fill $load"
+wrong
+wrong nothing
+wrong check
+wrong check sheet
+wrong check sheet --memory
+wrong check sheet --memory -1
+wrong check sheet --memory 12x
+wrong check sheet --memory ''
+wrong check sheet --memory 18446744073709551616
+wrong check sheet --memory 99999999999999999999999
+wrong check sheet sheet --memory 64
+wrong check sheet --memory 64 -o out
+wrong run sheet
+wrong run sheet memory memory
+wrong run sheet memory -o
+wrong run sheet memory -o -
+wrong run sheet memory --memory 64
+wrong run - -
+wrong run-tape sheet memory
+wrong run-tape - tape -
+wrong tape
+wrong tape sheet -x
+wrong show
+wrong show sheet --memory 64
+call 0 --help
+if grep -q '^usage:$' stdout; then pass; else fail 'no help'; fi
+
+# -- Files ---------------------------------------------------------------------------------------
+
+# broken WORD..: exit status 3, something said, nothing printed.
+broken() {
+    call 3 "$@"
+    silent
+    says 'moonbleat: '
+}
+
+broken check nowhere --memory 64
+broken check . --memory 64
+broken run nowhere memory
+broken run sheet nowhere
+broken run sheet .
+broken run-tape sheet nowhere memory
+broken run-tape sheet . memory
+broken show nowhere
+broken tape nowhere
+broken run sheet memory -o nowhere/out
+mkdir -p folder
+broken run sheet memory -o folder
+broken run sheet memory -o /dev/null
+if [ -c /dev/null ]; then pass; else fail '/dev/null was replaced'; fi
+
+# no_tape TEXT: a tape file that is none.
+no_tape() {
+    printf '%b' "$1" > tape
+    broken run-tape sheet tape memory -o out
+    absent out
+}
+no_tape '4 0 0 0 0\n'
+no_tape '4 0 0 0 0 0 0\n'
+no_tape '4 0 0 0 0 x\n'
+no_tape '4 0 0 0 0 -\n'
+no_tape '4 0 0 0 0 2147483648\n'
+no_tape '4 0 0 0 0 -2147483649\n'
+no_tape '4 0 0 0 0 99999999999999999999\n'
+no_tape '4-0 0 0 0 0\n'
+no_tape '4 0 0 0 0 0\n\n'
+no_tape '4 0 0 0 0 0\n4 0\n'
+no_tape '\0000'
+printf '4  0 0\t0 0 0 \r\n1 0 0 8 0 1' > tape
+call 0 run-tape sheet tape memory
+: > tape
+call 0 run-tape sheet tape memory
+
+# Endless files: the answer is known after a part of them.
+refused '2 at 0 0' show /dev/zero
+refused '18 at 0 0' run sheet /dev/zero
+yes '4 0 0 0 0 0' 2> /dev/null | $tool run-tape sheet - memory > stdout 2> stderr
+says 'moonbleat: refusal 17 at 0 0'
+
+# Standard input.
+call 0 run sheet memory
+cp stdout expected
+$tool run sheet - < memory > stdout 2> stderr
+same 'memory from standard input' stdout expected
+$tool run - memory < sheet > stdout 2> stderr
+same 'sheet from standard input' stdout expected
+$tool tape - < sheet > printed 2> stderr
+$tool run-tape sheet - memory < printed > stdout 2> stderr
+same 'tape from standard input' stdout expected
+
+# A refusal leaves an output file as it was; success replaces it and leaves nothing else.
+bytes sheet "$edition $layout" 20 0800 00 01 08 00 07000000 "$store"
+echo old > out
+bytes refused_sheet "$edition $layout $load"
+refused '7 at 0 0' run refused_sheet memory -o out
+echo old > expected
+same 'an output file after a refusal' out expected
+call 0 run sheet memory -o out
+bytes expected 07070707 07070707
+head -c 8 out > start
+same 'an output file' start expected
+if [ "$(wc -c < out)" -eq 64 ]; then pass; else fail 'length of an output file'; fi
+rm out
+call 0 run sheet memory -o out
+rm out
+absent out
+call 0 run sheet memory -o memory
+head -c 8 memory > start
+same 'the memory file itself as output' start expected
+
+# What cannot be printed is not a success.
+if [ -c /dev/full ]; then
+    for words in 'run sheet memory' 'tape sheet' 'show sheet' 'check sheet --memory 64' '--help'; do
+        # shellcheck disable=SC2086
+        $tool $words > /dev/full 2> stderr
+        if [ $? -eq 3 ]; then pass; else fail "$words to a full device"; fi
+    done
+fi
+
+# Elements go by their sign.
+bytes sheet "$edition" 20 0800 00 01 02 01 FF000000 20 0800 01 01 01 03 00800000 \
+    20 0800 02 02 01 05 FFFFFFFF 20 0800 03 01 01 04 FFFFFFFF
+call 0 run sheet memory
+printf '%s\n' 'register 0: 1 by 2 of s8' ' -1 -1' 'register 1: 1 by 1 of s16' ' -32768' \
+    'register 2: 2 by 1 of s32' ' -1' ' -1' 'register 3: 1 by 1 of u32' ' 4294967295' \
+    'accepted, byte-elements: 0' > expected
+same 'signs' stdout expected
+
+# A sheet with everything, in words.
+bytes sheet "$edition $layout $own_view $fill" 21 0800 01 00 00 00 10000000 \
+    22 0700 01 00 00 20000000 "$reduce $transpose $multiply"
+call 0 show sheet
+cat > expected << 'END'
+sheet: 94 bytes, layouts 1, views 1, steps 6
+edition 1
+layout 0: 1 dimension, clamp mode Undefined, clamp value 0
+  dimension 0: block 1, size 8, stride 1, offset 0, span 8
+view 0: 1 dimension, of its own, permutation 0
+  dimension 0: size 8, stride 1
+  clip: rows from 0, span 65535; columns from 0, span 65535
+step 0: fill register 0, 1 by 8 of u8, with 0
+step 1: load register 1, object register 0, layout 0, view 0, base 16
+step 2: store register 1, layout 0, view 0, base 32
+step 3: reduce register 0 to register 1, 1 by 1: all elements by add
+step 4: transpose register 0 to register 1
+step 5: multiply registers 0 and 1, add register 2, to register 3
+END
+same 'a sheet in words' stdout expected
+
+# The example, and hex that is none.
+${RUNNER:-} "$bin/example" > stdout 2> stderr
+printf '%s\n' ' 12 11 10 11 12 13 12 11' '8 elements came from memory' > expected
+same 'the example' stdout expected
+for text in 0 0g 'x1' '01 # 23' ; do
+    status=0
+    echo "$text" | "$bin/unhex" > stdout 2> stderr || status=1
+    case $text-$status in
+        '01 # 23-0' | 0-1 | 0g-1 | x1-1) pass ;;
+        *) fail "unhex of '$text': $status" ;;
+    esac
+done
+
+echo "$passed passed, $failed failed"
+[ "$failed" -eq 0 ]
