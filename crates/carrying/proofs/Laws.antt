@@ -1,6 +1,6 @@
 -- What a load or a store within Sizes keeps to, and the turns of the check.
-use Prim.Native.Nat.{ℕ, zero, suc, _+_, _-_, _*_, _<_, _≤_}
-use mathlib.Core.Path.{_≡_, refl}
+use Prim.Native.Nat.{ℕ, suc, _+_, _-_, _<_, _≤_}
+use mathlib.Core.Path.{_≡_}
 use mathlib.Core.Bool.{Bool, true, false}
 use mathlib.Core.List.{List, [], _∷_}
 use native.Mathlib.Omega.{arith}
@@ -13,7 +13,6 @@ use Rattle.sheet.specs.Steps.{theStep, loadOk, storeOk}
 use Rattle.sheet.specs.declared.Sheet.{Sheet}
 use Rattle.registers.specs.Types.{noType}
 use Rattle.registers.specs.Registers.{emptyRegisters}
-use Rattle.registers.specs.Sized.{Sized, sized-empty}
 use Rattle.registers.specs.declared.MatrixType.{MatrixType}
 use Rattle.registers.specs.declared.Registers.{Registers}
 use Rattle.sheet_reader.specs.Reading.{readSheet}

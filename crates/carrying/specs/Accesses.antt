@@ -1,29 +1,25 @@
 -- The loads and stores of a sheet that is within Sizes, and what their check tells.
 use Prim.Native.Nat.{ℕ, _*_, _<_, _≤_}
-use mathlib.Core.Path.{_≡_, refl, sym, ap, _∙_}
+use mathlib.Core.Path.{_≡_, refl, sym, _∙_}
 use mathlib.Core.Bool.{Bool, true, false, not, true≢false}
 use mathlib.Core.List.{List}
 use mathlib.Core.Logic.{⊎-elim}
 use native.Mathlib.Nat.{mul-le-mul}
 use native.Mathlib.Omega.{arith}
-use lib.Dec.{eqb, ltb}
-use borrow.Author.Tests.{ltb-true, eqb-false, not-true, not-false}
+use borrow.Author.Tests.{ltb-true, eqb-false, not-true}
 use Rattle.numbers.specs.Choice.{pick, pick-inv}
 use Rattle.kinds.specs.Widths.{bytesOf}
-use Rattle.kinds.specs.Laws.{ElementSize, bytes-size, bytes-low, bytes-high}
+use Rattle.kinds.specs.Laws.{bytes-size, bytes-low, bytes-high}
 use Rattle.sheet.specs.Sizes.{optionOk}
-use Rattle.sheet.specs.Layouts.{theLayout, layoutOk}
-use Rattle.sheet.specs.Views.{theView, noView, viewOk}
 use Rattle.sheet.specs.declared.Sheet.{Sheet}
 use Rattle.round_trip.specs.Sheets.{Within}
 use Rattle.registers.specs.Types.{isEmpty, withType}
 use Rattle.registers.specs.Sized.{SizedType}
 use Rattle.registers.specs.declared.MatrixType.{MatrixType}
 use Rattle.addressing.specs.declared.Access.{Access}
-use Rattle.addressing.specs.Valid.{SizedAccess, ValidAccess}
-use Rattle.accesses.specs.Refusals.{accessRefusal, checkedAccess, checked, checkedBy}
-use Rattle.accesses.specs.Accepted.{accepted-valid}
-use Rattle.carrying.specs.Steps.{viewed, viewNamed, accessOf, stepCheck, accessCheck, loadCheck, storeCheck}
+use Rattle.addressing.specs.Valid.{SizedAccess}
+use Rattle.accesses.specs.Refusals.{accessRefusal, checkedAccess, checked}
+use Rattle.carrying.specs.Steps.{viewed, accessOf, stepCheck, accessCheck, loadCheck, storeCheck}
 
 -- a view that a step names, and that is one, is among those given
 pub view-given : (count view : ℕ) → optionOk count view ≡ true → viewed view ≡ true → view < count

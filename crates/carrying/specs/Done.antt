@@ -1,19 +1,18 @@
 -- What the code leaves after the elements of a load or a store is what the step does.
 use Prim.Native.Nat.{ℕ, _*_}
-use mathlib.Core.Path.{_≡_, refl, sym, ap, _∙_}
+use mathlib.Core.Path.{_≡_, sym, ap, _∙_}
 use mathlib.Core.Bool.{Bool, true, false}
 use mathlib.Core.List.{List}
 use lib.ListN.{length}
 use Rattle.sheet.specs.declared.Sheet.{Sheet}
-use Rattle.outcomes.specs.declared.Outcome.{Outcome}
 use Rattle.registers.specs.Types.{theType}
 use Rattle.registers.specs.declared.MatrixType.{MatrixType}
 use Rattle.addressing.specs.declared.Access.{Access}
 use Rattle.addressing.specs.declared.Plan.{Plan}
 use Rattle.addressing.specs.Rules.{planned}
 use Rattle.addressing.specs.Valid.{planned-access, planned-columns}
-use Rattle.transfers.specs.Acts.{State, loaded, stored}
-use Rattle.transfers.specs.Transfers.{outcomeOf, loadedElements, storedElements}
+use Rattle.transfers.specs.Acts.{State}
+use Rattle.transfers.specs.Transfers.{loadedElements, storedElements}
 use Rattle.transfers.specs.Laws.{loaded-memory, stored-elements}
 use Rattle.transfers.specs.Effects.{transferred-keeps}
 use Rattle.carrying.specs.Steps.{accessOf, Machine, machine, stateOf, machineOf, loadDone, storeDone}

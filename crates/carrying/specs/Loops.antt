@@ -1,17 +1,17 @@
 -- What the loop over a sheet's steps keeps.
-use Prim.Native.Nat.{ℕ, zero, suc, _+_, _-_, _*_, _<_, _≤_}
-use mathlib.Core.Path.{_≡_, refl, sym, ap, _∙_}
+use Prim.Native.Nat.{ℕ, suc, _+_, _-_, _*_, _<_, _≤_}
+use mathlib.Core.Path.{_≡_, refl, ap, _∙_}
 use mathlib.Core.Bool.{Bool, true, false}
 use mathlib.Core.List.{List}
 use native.Mathlib.Omega.{arith}
 use lib.Dec.{eqb}
 use lib.ListN.{length}
 use Rattle.numbers.specs.Choice.{pick}
-use Rattle.sheet.specs.Steps.{theStep, stepOk}
+use Rattle.sheet.specs.Steps.{theStep}
 use Rattle.sheet.specs.declared.Sheet.{Sheet}
 use Rattle.round_trip.specs.Sheets.{Within}
 use Rattle.sheet.specs.declared.Step.the-variants.{Load, Store}
-use Rattle.registers.specs.Types.{theType, withType}
+use Rattle.registers.specs.Types.{theType}
 use Rattle.registers.specs.Sized.{Sized, sized-with}
 use Rattle.registers.specs.Registers.{copied}
 use Rattle.registers.specs.declared.Registers.{Registers}

@@ -1,14 +1,13 @@
 -- A test of every number below a bound, as a loop makes it.
-use Prim.Native.Nat.{ℕ, zero, suc, _+_, _<_, _≤_}
+use Prim.Native.Nat.{ℕ, zero, suc, _+_, _<_}
 use mathlib.Core.Path.{_≡_, refl, sym, _∙_}
 use mathlib.Core.Bool.{Bool, true, false, true≢false}
-use mathlib.Core.Logic.{_⊎_, inl, inr, ⊎-elim}
 use native.Mathlib.Nat.{not-suc-le-zero}
 use native.Mathlib.Numerals.{add-one}
 use native.Mathlib.Omega.{arith}
 use borrow.Author.Tests.{eqb-true, eqb-false}
 use lib.Dec.{eqb}
-use Rattle.numbers.specs.Choice.{pick, both, both-left, both-right, both-true}
+use Rattle.numbers.specs.Choice.{both, both-left, both-right, both-true}
 
 -- f k is true for each k below n
 unfoldable pub all : ℕ → (ℕ → Bool) → Bool

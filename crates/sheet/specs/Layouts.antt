@@ -1,7 +1,7 @@
 -- What a layout must keep to.
 use Prim.Native.Nat.{ℕ}
 use mathlib.Core.List.{List, []}
-use mathlib.Core.Bool.{Bool, true, false}
+use mathlib.Core.Bool.{Bool}
 use lib.ListN.{getD, replicate}
 use lib.Dec.{ltb, eqb}
 use Rattle.numbers.specs.Choice.{pick, both}

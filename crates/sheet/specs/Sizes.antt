@@ -1,7 +1,7 @@
 -- The limits of document 01's Sizes. Those that depend on the edition take it.
 use Prim.Native.Nat.{ℕ, _≤_}
 use native.Mathlib.Nat.{le-refl}
-use mathlib.Core.Bool.{Bool, true, false}
+use mathlib.Core.Bool.{Bool, true}
 use lib.Dec.{ltb, leb, eqb}
 use Rattle.numbers.specs.Choice.{pick, between}
 

@@ -1,7 +1,7 @@
 -- What a view must keep to.
 use Prim.Native.Nat.{ℕ}
 use mathlib.Core.List.{List, []}
-use mathlib.Core.Bool.{Bool, true, false, not}
+use mathlib.Core.Bool.{Bool, false, not}
 use lib.ListN.{getD, replicate}
 use lib.Dec.{ltb, eqb}
 use Rattle.numbers.specs.Choice.{pick, both}

@@ -1,22 +1,20 @@
 -- What the tests of a field's head tell, and the turns of reading.
-use Prim.Native.Nat.{ℕ, suc, _+_, _-_, _*_, _≤_, _<_}
-use mathlib.Core.Path.{_≡_, refl, sym, ap, _∙_}
+use Prim.Native.Nat.{ℕ, suc, _+_, _-_, _≤_, _<_}
+use mathlib.Core.Path.{_≡_, sym, ap, _∙_}
 use mathlib.Core.Bool.{Bool, true, false}
 use mathlib.Core.List.{List}
 use mathlib.Core.Logic.{⊎-elim}
-use native.Mathlib.Nat.{le-refl}
 use native.Mathlib.Omega.{arith}
-use lib.Dec.{eqb, ltb, leb}
 use lib.ListN.{length, getD}
-use borrow.Author.Tests.{ltb-true, ltb-false, leb-true, leb-false, eqb-true, le-ltb, lt-ltb}
-use Rattle.numbers.specs.Choice.{pick, both, between, both-left, both-right, between-low, between-high, pick-inv}
+use borrow.Author.Tests.{ltb-true, ltb-false, leb-true, eqb-true, le-ltb, lt-ltb}
+use Rattle.numbers.specs.Choice.{pick, both-left, both-right, between-low, between-high, pick-inv}
 use Rattle.numbers.specs.Little.{u16At}
 use Rattle.sheet.specs.Sizes.{rankOk, stepLimit, step-limit-places}
 use Rattle.sheet.specs.Views.{sizedRank}
 use Rattle.sheet.specs.declared.Sheet.{Sheet}
 use Rattle.sheet_reader.specs.Fields.{fieldAt}
 use Rattle.sheet_reader.specs.Contents.{layoutLength, layoutLengthOk, layoutHeadOk, viewLength, viewLengthOk, viewHeadOk, hasDimensions}
-use Rattle.sheet_reader.specs.Reading.{layoutMayCome, viewMayCome, stepMayCome, takeField, refusedRead, endRead, Turn, over, on, turnTaken, turnField, turn, afterTurn, readFrom}
+use Rattle.sheet_reader.specs.Reading.{layoutMayCome, viewMayCome, stepMayCome, takeField, refusedRead, endRead, over, on, turnTaken, turnField, turn, afterTurn, readFrom}
 use Rattle.sheet_reader.specs.declared.Taken.{Taken}
 use Rattle.sheet_reader.specs.declared.ReadAnswer.{ReadAnswer}
 use Rattle.sheet_reader.specs.declared.fields.Cursor.{Cursor}

@@ -1,9 +1,9 @@
 -- What the content of each field says, by the table of "The sheet".
 use Prim.Native.Nat.{ℕ, _+_, _*_, _%_}
 use mathlib.Core.List.{List}
-use mathlib.Core.Bool.{Bool, true, false}
+use mathlib.Core.Bool.{Bool, true}
 use lib.ListN.{getD, replicate}
-use lib.Dec.{ltb, leb, eqb}
+use lib.Dec.{leb, eqb}
 use Rattle.numbers.specs.Choice.{pick, both, between}
 use Rattle.numbers.specs.Little.{u16At, u32At}
 use Rattle.numbers.specs.Lists.{line}

@@ -5,7 +5,6 @@ use lib.ListN.{length, getD}
 use lib.Dec.{ltb, leb}
 use Rattle.numbers.specs.Choice.{pick}
 use Rattle.numbers.specs.Little.{u16At}
-use Rattle.sheet_reader.specs.declared.fields.Cursor.{Cursor}
 use Rattle.sheet_reader.specs.declared.fields.Field.{Field}
 use Rattle.sheet_reader.specs.declared.fields.Field.the-variants.{Whole, Short}
 

@@ -1,7 +1,7 @@
 -- A sheet, field by field: first the edition, then layouts, views, steps; refusals 1, 2, 3, 4, 6, 5 in this order at each field.
 use Prim.Native.Nat.{ℕ, zero, suc, _+_}
 use mathlib.Core.List.{List}
-use mathlib.Core.Bool.{Bool, true, false}
+use mathlib.Core.Bool.{Bool}
 use lib.ListN.{length, getD, set}
 use lib.Dec.{ltb, eqb}
 use Rattle.numbers.specs.Choice.{pick, both}

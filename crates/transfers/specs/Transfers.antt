@@ -1,6 +1,5 @@
 -- All elements of a load or a store, one after the other.
 use Prim.Native.Nat.{ℕ, zero, suc}
-use mathlib.Core.List.{List}
 use Rattle.outcomes.specs.declared.Outcome.{Outcome}
 use Rattle.addressing.specs.declared.Access.{Access}
 use Rattle.accesses.specs.Refusals.{elementOutcome}

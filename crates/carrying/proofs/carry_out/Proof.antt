@@ -1,8 +1,8 @@
 use Rattle.carrying.specs.Carrying.{started, performed}
 use denote.Ref.{now}
 use lib.ListN.{length}
-use Prim.Native.Nat.{ℕ, _<_, _≤_}
-use mathlib.Core.Path.{_≡_, refl, sym, ap, _∙_}
+use Prim.Native.Nat.{_<_, _≤_}
+use mathlib.Core.Path.{_≡_, sym, ap, _∙_}
 use Rattle.sheet.specs.declared.Refusal.{Refusal}
 use Rattle.sheet_reader.specs.Reading.{readSheet}
 use Rattle.sheet_reader.specs.declared.ReadAnswer.{ReadAnswer}
@@ -15,23 +15,13 @@ use native.Mathlib.Omega.{arith}
 use borrow.Author.Needs.{needs}
 use Rattle.carrying.proofs.carry_out.Statement.{statement}
 use Rattle.carrying.proofs.carry_out.Tie as tie
-use Rattle.carrying.proofs.carry_out.Reads as reads
-use Rattle.carrying.proofs.carry_out.Lts as lts
-use Rattle.carrying.proofs.carry_refused.Reads as carry-refused-reads
-use Rattle.carrying.proofs.checks.check.Reads as check-reads
-use Rattle.carrying.proofs.checks.refusal_at.Reads as refusal-at-reads
-use Rattle.carrying.proofs.performing.perform.Reads as perform-reads
-use Rattle.sheet_reader.proofs.read_sheet.Reads as read-sheet-reads
 
--- src/lib.rt:80:30
 refusal-at-requires : tie.Need-refusal-at-requires
 refusal-at-requires c κs = search needs
 
--- src/lib.rt:80:9
 carry-refused-requires : tie.Need-carry-refused-requires
 carry-refused-requires c κs = search needs
 
--- src/lib.rt:80:9
 returns : tie.Need-returns
 returns c =
     let a = c .before .before .before .before .before .args in
@@ -40,15 +30,12 @@ returns c =
     let u = large s (length m) (c .before .before .if1 .taken) in
     (c .carry-refused .ensures ∙ ap (λ (r : Refusal). carryAnswer r emptyRegisters 0) (c .before .refusal-at .ensures) ∙ carried-refused s m u (omega arith), memory-refused s m u (omega arith))
 
--- src/lib.rt:82:9
 read-sheet-requires : tie.Need-read-sheet-requires
 read-sheet-requires c κs = search needs
 
--- src/lib.rt:85:9
 carry-refused-requires-2 : tie.Need-carry-refused-requires-2
 carry-refused-requires-2 c κs = search needs
 
--- src/lib.rt:85:9
 returns-2 : tie.Need-returns-2
 returns-2 c =
     let a = c .before .before .before .before .before .before .before .before .args in
@@ -59,7 +46,6 @@ returns-2 c =
     let u = unread s (length m) (c .before .before .before .before .before .if1 .left) n in
     (c .carry-refused2 .ensures ∙ ap (λ (r : ReadAnswer). carryAnswer (r .refusal) emptyRegisters 0) e ∙ carried-refused s m u n, memory-refused s m u n)
 
--- src/lib.rt:88:9
 check-requires : tie.Need-check-requires
 check-requires c κs =
     let d = c .before .before .before .before in
@@ -68,11 +54,9 @@ check-requires c κs =
     let n : readSheet s .refusal .number ≤ 0 = rw e at (c .before .if2 .left) in
     (rw e (read-within s _ (not-refused s (omega arith))), d .before .if1 .left)
 
--- src/lib.rt:91:9
 carry-refused-requires-3 : tie.Need-carry-refused-requires-3
 carry-refused-requires-3 c κs = search needs
 
--- src/lib.rt:91:9
 returns-3 : tie.Need-returns-3
 returns-3 c =
     let d = c .before .before .before .before .before .before .before .before .before in
@@ -84,7 +68,6 @@ returns-3 c =
     let u = readable s (length m) (d .before .if1 .left) (omega arith) ∙ ap (λ (r : ReadAnswer). checked (r .sheet) (length m)) (sym e) ∙ sym (c .before .before .before .before .check .ensures) in
     (c .carry-refused3 .ensures ∙ carried-refused s m u (c .before .if3 .taken), memory-refused s m u (c .before .if3 .taken))
 
--- src/lib.rt:93:9
 perform-requires : tie.Need-perform-requires
 perform-requires c κs =
     let d = c .before .before .before .before .before .before .before .before .before in
@@ -95,15 +78,12 @@ perform-requires c κs =
     let y = rw k at (c .before .if3 .left) in
     (rw e (read-within s _ (not-refused s (omega arith))), d .before .if1 .left, omega (arith, y))
 
--- src/lib.rt:96:18
 refusal-at-requires-2 : tie.Need-refusal-at-requires-2
 refusal-at-requires-2 c κs = search needs
 
--- src/lib.rt:75:1
 same-length : tie.Need-same-length
 same-length c = search needs
 
--- src/lib.rt:75:1
 returns-4 : tie.Need-returns-4
 returns-4 c =
     let d = c .before .before .before .before .before .before .before .before .before .before .before .before .before .before in

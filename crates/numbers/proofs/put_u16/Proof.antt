@@ -1,39 +1,28 @@
 use native.Mathlib.Omega.{arith}
-use lib.ListN.{length, length-set}
+use lib.ListN.{length-set}
 use native.Mathlib.Numerals.{add-one}
 use borrow.Author.Needs.{needs}
 use Rattle.numbers.proofs.put_u16.Statement.{statement}
 use Rattle.numbers.proofs.put_u16.Tie as tie
-use Rattle.numbers.proofs.put_u16.Reads as reads
-use Rattle.numbers.proofs.put_u16.Lts as lts
-use Rattle.numbers.proofs.high_byte.Reads as high-byte-reads
-use Rattle.numbers.proofs.low_byte.Reads as low-byte-reads
 
--- src/lib.rt:545:15
 low-byte-requires : tie.Need-low-byte-requires
 low-byte-requires c κs = search needs
 
--- src/lib.rt:545:5
 slice-write-out : tie.Need-slice-write-out
 slice-write-out c = search needs
 
--- src/lib.rt:546:19
 high-byte-requires : tie.Need-high-byte-requires
 high-byte-requires c κs = search needs
 
--- src/lib.rt:546:9
 add-out : tie.Need-add-out
 add-out c = search needs
 
--- src/lib.rt:546:5
 slice-write-out-2 : tie.Need-slice-write-out-2
 slice-write-out-2 c = simp length-set (omega arith)
 
--- src/lib.rt:541:1
 same-length : tie.Need-same-length
 same-length c = search needs
 
--- src/lib.rt:541:1
 returns : tie.Need-returns
 returns c = rw add-one (cc)
 

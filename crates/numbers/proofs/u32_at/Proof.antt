@@ -2,39 +2,28 @@ use Rattle.numbers.specs.Little.{u32At}
 use borrow.Author.Needs.{needs}
 use Rattle.numbers.proofs.u32_at.Statement.{statement}
 use Rattle.numbers.proofs.u32_at.Tie as tie
-use Rattle.numbers.proofs.u32_at.Reads as reads
-use Rattle.numbers.proofs.u32_at.Lts as lts
-use Rattle.numbers.proofs.u16_at.Reads as u16-at-reads
 
--- src/lib.rt:72:13
 u16-at-requires : tie.Need-u16-at-requires
 u16-at-requires c κs = search needs
 
--- src/lib.rt:72:13
 cast-low : tie.Need-cast-low
 cast-low c = search needs
 
--- src/lib.rt:73:23
 add-u16-at : tie.Need-add-u16-at
 add-u16-at c = search needs
 
--- src/lib.rt:73:13
 u16-at-requires-2 : tie.Need-u16-at-requires-2
 u16-at-requires-2 c κs = search needs
 
--- src/lib.rt:73:13
 cast-high : tie.Need-cast-high
 cast-high c = search needs
 
--- src/lib.rt:74:9
 mul-result : tie.Need-mul-result
 mul-result c = search needs
 
--- src/lib.rt:74:5
 add-result : tie.Need-add-result
 add-result c = search needs
 
--- src/lib.rt:68:1
 returns : tie.Need-returns
 unfolding u32At
 returns c = cc

@@ -1,28 +1,20 @@
 use Rattle.numbers.specs.Choice.{tests, stop, pass}
 use Rattle.sheet_reader.specs.Reading.{layoutMayCome}
-use borrow.Author.Needs.{needs}
-use native.Mathlib.Omega.{arith}
 use Rattle.sheet_reader.proofs.layout_may_come.Statement.{statement}
 use Rattle.sheet_reader.proofs.layout_may_come.Tie as tie
-use Rattle.sheet_reader.proofs.layout_may_come.Reads as reads
-use Rattle.sheet_reader.proofs.layout_may_come.Lts as lts
 
--- src/lib.rt:83:9
 returns : tie.Need-returns
 unfolding layoutMayCome
 returns c = stop _ (search tests)
 
--- src/lib.rt:86:9
 returns-2 : tie.Need-returns-2
 unfolding layoutMayCome
 returns-2 c = pass (search tests) (stop _ (search tests))
 
--- src/lib.rt:89:9
 returns-3 : tie.Need-returns-3
 unfolding layoutMayCome
 returns-3 c = pass (search tests) (pass (search tests) (stop _ (search tests)))
 
--- src/lib.rt:79:1
 returns-4 : tie.Need-returns-4
 unfolding layoutMayCome
 returns-4 c = pass (search tests) (pass (search tests) (pass (search tests) (search tests)))

@@ -1,62 +1,44 @@
 use mathlib.Core.Logic.{⊎-elim}
-use borrow.Author.Tests.{le-ltb, lt-ltb, eq-eqb, ne-eqb}
+use borrow.Author.Tests.{le-ltb, lt-ltb, ne-eqb}
 use Rattle.numbers.specs.Choice.{ways, pick, taken, left}
 use Rattle.sheet_reader.specs.Reading.{takeField}
-use native.Mathlib.Omega.{arith}
 use borrow.Author.Needs.{needs}
 use Rattle.sheet_reader.proofs.take_field.Statement.{statement}
 use Rattle.sheet_reader.proofs.take_field.Tie as tie
-use Rattle.sheet_reader.proofs.take_field.Reads as reads
-use Rattle.sheet_reader.proofs.take_field.Lts as lts
-use Rattle.sheet_reader.proofs.refuse.Reads as refuse-reads
-use Rattle.sheet_reader.proofs.take_edition.Reads as take-edition-reads
-use Rattle.sheet_reader.proofs.take_layout.Reads as take-layout-reads
-use Rattle.sheet_reader.proofs.take_step.Reads as take-step-reads
-use Rattle.sheet_reader.proofs.take_view.Reads as take-view-reads
 
--- src/lib.rt:197:17
 take-edition-requires : tie.Need-take-edition-requires
 take-edition-requires c κs = search needs
 
--- src/lib.rt:198:17
 take-layout-requires : tie.Need-take-layout-requires
 take-layout-requires c κs = search needs
 
--- src/lib.rt:199:17
 take-view-requires : tie.Need-take-view-requires
 take-view-requires c κs = search needs
 
--- src/lib.rt:200:24
 take-step-requires : tie.Need-take-step-requires
 take-step-requires c κs = search needs
 
--- src/lib.rt:201:14
 refuse-requires : tie.Need-refuse-requires
 refuse-requires c κs = search needs
 
--- src/lib.rt:192:1
 returns : tie.Need-returns
 unfolding takeField pick
 returns c = rw (c .before .match .keys1) (c .take-edition .ensures)
 
--- src/lib.rt:192:1
 returns-2 : tie.Need-returns-2
 unfolding takeField pick
 returns-2 c = rw (c .before .match .keys2) (c .take-layout .ensures)
 
--- src/lib.rt:192:1
 returns-3 : tie.Need-returns-3
 unfolding takeField pick
 returns-3 c = rw (c .before .match .keys3) (c .take-view .ensures)
 
--- src/lib.rt:192:1
 returns-4 : tie.Need-returns-4
 unfolding takeField
 returns-4 c =
     let m = c .before .before .before .match .rest in
     left _ (ne-eqb _ _ (m .0 .0 .1)) (left _ (ne-eqb _ _ (m .0 .1)) (left _ (ne-eqb _ _ (m .1)) (left _ (search ways) (taken _ (search ways) (c .take-step .ensures)))))
 
--- src/lib.rt:192:1
 returns-5 : tie.Need-returns-5
 unfolding takeField
 returns-5 c =

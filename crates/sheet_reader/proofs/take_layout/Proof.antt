@@ -1,83 +1,58 @@
 use Rattle.sheet_reader.proofs.Laws.{layout-room, layout-place}
 use Rattle.numbers.specs.Choice.{tests, taken, left, went-past}
 use Rattle.sheet_reader.specs.Reading.{takeLayout}
-use native.Mathlib.Omega.{arith}
 use borrow.Author.Needs.{needs}
 use Rattle.sheet_reader.proofs.take_layout.Statement.{statement}
 use Rattle.sheet_reader.proofs.take_layout.Tie as tie
-use Rattle.sheet_reader.proofs.take_layout.Reads as reads
-use Rattle.sheet_reader.proofs.take_layout.Lts as lts
-use Rattle.sheet.proofs.layouts.layout_ok.Reads as layout-ok-reads
-use Rattle.sheet_reader.proofs.contents.layout_at.Reads as layout-at-reads
-use Rattle.sheet_reader.proofs.contents.layout_head_ok.Reads as layout-head-ok-reads
-use Rattle.sheet_reader.proofs.contents.layout_length_ok.Reads as layout-length-ok-reads
-use Rattle.sheet_reader.proofs.layout_may_come.Reads as layout-may-come-reads
-use Rattle.sheet_reader.proofs.refuse.Reads as refuse-reads
-use Rattle.sheet_reader.proofs.with_layout.Reads as with-layout-reads
 
--- src/lib.rt:137:9
 layout-may-come-requires : tie.Need-layout-may-come-requires
 layout-may-come-requires c κs = search needs
 
--- src/lib.rt:138:9
 refuse-requires : tie.Need-refuse-requires
 refuse-requires c κs = search needs
 
--- src/lib.rt:138:9
 returns : tie.Need-returns
 unfolding takeLayout
 returns c = left _ (search tests) (c .refuse .ensures)
 
--- src/lib.rt:140:9
 layout-length-ok-requires : tie.Need-layout-length-ok-requires
 layout-length-ok-requires c κs = search needs
 
--- src/lib.rt:141:9
 refuse-requires-2 : tie.Need-refuse-requires-2
 refuse-requires-2 c κs = search needs
 
--- src/lib.rt:141:9
 returns-2 : tie.Need-returns-2
 unfolding takeLayout
 returns-2 c = taken _ (search tests) (left _ (search tests) (c .refuse2 .ensures))
 
--- src/lib.rt:143:9
 layout-head-ok-requires : tie.Need-layout-head-ok-requires
 layout-head-ok-requires c κs = (layout-room _ (went-past (c .before .layout-length-ok .ensures) (c .if2 .left)), c .before .before .before .before .before .pre)
 
--- src/lib.rt:144:9
 refuse-requires-3 : tie.Need-refuse-requires-3
 refuse-requires-3 c κs = search needs
 
--- src/lib.rt:144:9
 returns-3 : tie.Need-returns-3
 unfolding takeLayout
 returns-3 c = taken _ (search tests) (taken _ (search tests) (left _ (search tests) (c .refuse3 .ensures)))
 
--- src/lib.rt:146:9
 layout-at-requires : tie.Need-layout-at-requires
 layout-at-requires c κs =
     (layout-room _ (went-past (c .before .before .before .layout-length-ok .ensures) (c .before .before .if2 .left)), c .before .before .before .before .before .before .before .pre, went-past (c .before .layout-head-ok .ensures) (c .if3 .left))
 
--- src/lib.rt:147:9
 layout-ok-requires : tie.Need-layout-ok-requires
 layout-ok-requires c κs = search needs
 
--- src/lib.rt:148:9
 refuse-requires-4 : tie.Need-refuse-requires-4
 refuse-requires-4 c κs = search needs
 
--- src/lib.rt:148:9
 returns-4 : tie.Need-returns-4
 unfolding takeLayout
 returns-4 c =
     taken _ (search tests) (taken _ (search tests) (taken _ (search tests) (rw (← c .before .before .before .layout-at .ensures) (left _ (search tests) (c .refuse4 .ensures)))))
 
--- src/lib.rt:150:5
 with-layout-requires : tie.Need-with-layout-requires
 with-layout-requires c κs = layout-place _ _ _ _ (went-past (c .before .before .before .before .before .before .before .before .layout-may-come .ensures) (c .before .before .before .before .before .before .before .if1 .left))
 
--- src/lib.rt:133:1
 returns-5 : tie.Need-returns-5
 unfolding takeLayout
 returns-5 c =

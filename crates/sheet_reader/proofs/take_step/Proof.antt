@@ -1,68 +1,47 @@
 use Rattle.sheet_reader.proofs.Laws.{step-place}
 use Rattle.numbers.specs.Choice.{tests, taken, left, went-past}
 use Rattle.sheet_reader.specs.Reading.{takeStep}
-use native.Mathlib.Omega.{arith}
 use borrow.Author.Needs.{needs}
 use Rattle.sheet_reader.proofs.take_step.Statement.{statement}
 use Rattle.sheet_reader.proofs.take_step.Tie as tie
-use Rattle.sheet_reader.proofs.take_step.Reads as reads
-use Rattle.sheet_reader.proofs.take_step.Lts as lts
-use Rattle.sheet.proofs.steps.step_ok.Reads as step-ok-reads
-use Rattle.sheet_reader.proofs.contents.step_at.Reads as step-at-reads
-use Rattle.sheet_reader.proofs.contents.step_length.Reads as step-length-reads
-use Rattle.sheet_reader.proofs.refuse.Reads as refuse-reads
-use Rattle.sheet_reader.proofs.step_may_come.Reads as step-may-come-reads
-use Rattle.sheet_reader.proofs.with_step.Reads as with-step-reads
 
--- src/lib.rt:178:9
 step-may-come-requires : tie.Need-step-may-come-requires
 step-may-come-requires c κs = search needs
 
--- src/lib.rt:179:9
 refuse-requires : tie.Need-refuse-requires
 refuse-requires c κs = search needs
 
--- src/lib.rt:179:9
 returns : tie.Need-returns
 unfolding takeStep
 returns c = left _ (search tests) (c .refuse .ensures)
 
--- src/lib.rt:181:15
 step-length-requires : tie.Need-step-length-requires
 step-length-requires c κs = search needs
 
--- src/lib.rt:182:9
 refuse-requires-2 : tie.Need-refuse-requires-2
 refuse-requires-2 c κs = search needs
 
--- src/lib.rt:182:9
 returns-2 : tie.Need-returns-2
 unfolding takeStep
 returns-2 c = taken _ (search tests) (rw (← c .before .before .step-length .ensures) (left _ (search tests) (c .refuse2 .ensures)))
 
--- src/lib.rt:184:9
 step-at-requires : tie.Need-step-at-requires
 step-at-requires c κs = search needs
 
--- src/lib.rt:185:9
 step-ok-requires : tie.Need-step-ok-requires
 step-ok-requires c κs = search needs
 
--- src/lib.rt:186:9
 refuse-requires-3 : tie.Need-refuse-requires-3
 refuse-requires-3 c κs = search needs
 
--- src/lib.rt:186:9
 returns-3 : tie.Need-returns-3
 unfolding takeStep
 returns-3 c =
     taken _ (search tests) (taken _ (rw (← c .before .before .before .before .before .step-length .ensures) (search tests)) (rw (← c .before .before .before .step-at .ensures) (left _ (search tests) (c .refuse3 .ensures))))
 
--- src/lib.rt:188:5
 with-step-requires : tie.Need-with-step-requires
 with-step-requires c κs = step-place _ _ (went-past (c .before .before .before .before .before .before .step-may-come .ensures) (c .before .before .before .before .before .if1 .left))
 
--- src/lib.rt:173:1
 returns-4 : tie.Need-returns-4
 unfolding takeStep
 returns-4 c =

@@ -1,23 +1,16 @@
 use Rattle.numbers.specs.Choice.{tests, stop, pass}
 use Rattle.sheet_reader.specs.Reading.{viewMayCome}
-use borrow.Author.Needs.{needs}
-use native.Mathlib.Omega.{arith}
 use Rattle.sheet_reader.proofs.view_may_come.Statement.{statement}
 use Rattle.sheet_reader.proofs.view_may_come.Tie as tie
-use Rattle.sheet_reader.proofs.view_may_come.Reads as reads
-use Rattle.sheet_reader.proofs.view_may_come.Lts as lts
 
--- src/lib.rt:98:9
 returns : tie.Need-returns
 unfolding viewMayCome
 returns c = stop _ (search tests)
 
--- src/lib.rt:101:9
 returns-2 : tie.Need-returns-2
 unfolding viewMayCome
 returns-2 c = pass (search tests) (stop _ (search tests))
 
--- src/lib.rt:94:1
 returns-3 : tie.Need-returns-3
 unfolding viewMayCome
 returns-3 c = pass (search tests) (pass (search tests) (search tests))

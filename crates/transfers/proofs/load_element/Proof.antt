@@ -1,58 +1,41 @@
 use mathlib.Core.Path.{refl}
-use native.Mathlib.Omega.{arith}
 use borrow.Author.Needs.{needs}
 use Rattle.transfers.proofs.load_element.Statement.{statement}
 use Rattle.transfers.proofs.load_element.Tie as tie
-use Rattle.transfers.proofs.load_element.Reads as reads
-use Rattle.transfers.proofs.load_element.Lts as lts
-use Rattle.memory.proofs.element_at.Reads as element-at-reads
-use Rattle.registers.proofs.put_element_of.Reads as put-element-of-reads
 
--- src/lib.rt:26:29
 enum-told : tie.Need-enum-told
 enum-told c = search needs
 
--- src/lib.rt:27:25
 enum-known-o : tie.Need-enum-known-o
 enum-known-o c = search needs
 
--- src/lib.rt:28:13
 put-element-of-requires : tie.Need-put-element-of-requires
 put-element-of-requires c κs = search needs
 
--- src/lib.rt:31:31
 enum-told-2 : tie.Need-enum-told-2
 enum-told-2 c = search needs
 
--- src/lib.rt:32:25
 enum-known-o-2 : tie.Need-enum-known-o-2
 enum-known-o-2 c = search needs
 
--- src/lib.rt:33:17
 element-at-requires : tie.Need-element-at-requires
 element-at-requires c κs = (c .before .before .before .before .pre .0 .3, rw (c .before .o2 .given .1) at (c .before .before .before .before .pre .1))
 
--- src/lib.rt:34:13
 put-element-of-requires-2 : tie.Need-put-element-of-requires-2
 put-element-of-requires-2 c κs = search needs
 
--- src/lib.rt:35:13
 add-result : tie.Need-add-result
 add-result c = search needs
 
--- src/lib.rt:11:1
 returns : tie.Need-returns
 returns c = search needs
 
--- src/lib.rt:11:1
 returns-2 : tie.Need-returns-2
 returns-2 c = rw (c .before .before .before .o .given .1) (c .put-element-of .ensures, refl)
 
--- src/lib.rt:11:1
 returns-3 : tie.Need-returns-3
 returns-3 c = search needs
 
--- src/lib.rt:11:1
 returns-4 : tie.Need-returns-4
 returns-4 c = rw (c .before .before .before .before .o2 .given .1) (cc, refl)
 

@@ -1,21 +1,16 @@
 use Rattle.transfers.specs.Laws.{load-turn, number-below}
 use Rattle.addressing.specs.declared.Located.{Located}
-use Rattle.transfers.specs.Laws.{load-turn}
 use denote.Ref.{now}
-use mathlib.Core.Path.{_≡_, refl, sym, ap, _∙_}
-use Prim.Native.Nat.{ℕ, _+_, _-_, _≤_}
-use Rattle.transfers.specs.Acts.{State, state, loaded}
+use mathlib.Core.Path.{_≡_, sym, ap}
+use Prim.Native.Nat.{_+_, _-_, _≤_}
+use Rattle.transfers.specs.Acts.{State, state}
 use Rattle.transfers.specs.Transfers.{outcomeOf, loadedElements}
-use Rattle.transfers.specs.Laws.{loaded-memory, loaded-count, transferred-none, transferred-more, sound-inside, access-size}
+use Rattle.transfers.specs.Laws.{loaded-count, transferred-none, sound-inside, access-size}
 use Rattle.accesses.specs.Accepted.{element-sound}
 use borrow.Author.Needs.{needs}
 use native.Mathlib.Omega.{arith}
 use Rattle.transfers.proofs.load_elements.Statement.{statement}
 use Rattle.transfers.proofs.load_elements.Tie as tie
-use Rattle.transfers.proofs.load_elements.Reads as reads
-use Rattle.transfers.proofs.load_elements.Lts as lts
-use Rattle.accesses.proofs.element.Reads as element-reads
-use Rattle.transfers.proofs.load_element.Reads as load-element-reads
 
 abbrev Inv-loop : tie.InvT-loop
 Inv-loop elements₀ memory p register n counted size count₀ k₀ elements count k = (k ≤ n) × (count ≤ counted + k) × (state elements memory count ≡ loadedElements (p .access) (p .columns) register k (state elements₀ memory counted))
@@ -23,21 +18,17 @@ Inv-loop elements₀ memory p register n counted size count₀ k₀ elements cou
 abbrev μ-loop : tie.MeasureT-loop
 μ-loop elements₀ memory p register n counted size count₀ k₀ elements count k = n - k
 
--- src/lib.rt:87:5
 loop-holds : tie.Need-loop-holds Inv-loop μ-loop
 loop-holds c = (search needs, search needs, sym (transferred-none _ _ _))
 
--- src/lib.rt:88:38
 cast-element : tie.Need-cast-element Inv-loop μ-loop
 cast-element c = search needs
 
--- src/lib.rt:88:13
 element-requires : tie.Need-element-requires Inv-loop μ-loop
 element-requires c κs =
     let q = c .before .before .before .pre in
     (q .0 .0, q .0 .1, q .0 .2, number-below _ _ _ (c .loop-test .taken) (q .1 .1) (q .0 .1))
 
--- src/lib.rt:90:9
 load-element-requires : tie.Need-load-element-requires Inv-loop μ-loop
 load-element-requires c κs =
     let q = c .before .before .before .before .before .pre in
@@ -47,15 +38,12 @@ load-element-requires c κs =
     let s = sound-inside a (outcomeOf a (p .columns) (i .k)) (element-sound a (p .columns) (i .k)) in
     ((q .1 .0, omega (arith, q), omega (arith, q), access-size a (q .0 .0 .valid .sized)), rw (← q .0 .3, ap (λ (l : Located). l .outcome) (c .before .element .ensures)) s)
 
--- src/lib.rt:91:9
 add-k : tie.Need-add-k Inv-loop μ-loop
 add-k c = search needs
 
--- src/lib.rt:87:5
 loop-less : tie.Need-loop-less Inv-loop μ-loop
 loop-less c = search needs
 
--- src/lib.rt:87:5
 loop-again : tie.Need-loop-again Inv-loop μ-loop
 loop-again c =
     let i = c .before .before .before .before .loop in
@@ -65,7 +53,6 @@ loop-again c =
     let n = loaded-count (a .p .access .size) (a .register) (i .k) r (state (i .elements) (now (a .memory)) (i .count)) in
     (search needs, omega (arith, n, i .inv, c .load-element .ensures .1), load-turn (a .p .access) (a .p .columns) (a .register) (i .k) _ r o (i .inv .2) (c .load-element .ensures .0) (c .load-element .ensures .1))
 
--- src/lib.rt:71:1
 returns : tie.Need-returns Inv-loop μ-loop
 returns c =
     let i = c .before .loop in

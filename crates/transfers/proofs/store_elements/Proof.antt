@@ -3,19 +3,15 @@ use Rattle.transfers.specs.Laws.{store-turn, number-below}
 use denote.Ref.{now}
 use lib.ListN.{length}
 use mathlib.Core.Path.{_≡_, refl, sym, ap, _∙_}
-use Prim.Native.Nat.{ℕ, _+_, _-_, _≤_}
-use Rattle.transfers.specs.Acts.{State, state, stored}
+use Prim.Native.Nat.{_+_, _-_, _≤_}
+use Rattle.transfers.specs.Acts.{State, state}
 use Rattle.transfers.specs.Transfers.{outcomeOf, storedElements}
-use Rattle.transfers.specs.Laws.{stored-elements, stored-length, stored-count, transferred-none, transferred-more, sound-inside, access-size}
+use Rattle.transfers.specs.Laws.{stored-length, stored-count, transferred-none, sound-inside, access-size}
 use Rattle.accesses.specs.Accepted.{element-sound}
 use borrow.Author.Needs.{needs}
 use native.Mathlib.Omega.{arith}
 use Rattle.transfers.proofs.store_elements.Statement.{statement}
 use Rattle.transfers.proofs.store_elements.Tie as tie
-use Rattle.transfers.proofs.store_elements.Reads as reads
-use Rattle.transfers.proofs.store_elements.Lts as lts
-use Rattle.accesses.proofs.element.Reads as element-reads
-use Rattle.transfers.proofs.store_element.Reads as store-element-reads
 
 abbrev Inv-loop : tie.InvT-loop
 Inv-loop elements memory₀ p register n counted size count₀ k₀ memory count k = (k ≤ n) × (count ≤ counted + k) × (length memory ≡ length memory₀) × (state elements memory count ≡ storedElements (p .access) (p .columns) register k (state elements memory₀ counted))
@@ -23,21 +19,17 @@ Inv-loop elements memory₀ p register n counted size count₀ k₀ memory count
 abbrev μ-loop : tie.MeasureT-loop
 μ-loop elements memory₀ p register n counted size count₀ k₀ memory count k = n - k
 
--- src/lib.rt:113:5
 loop-holds : tie.Need-loop-holds Inv-loop μ-loop
 loop-holds c = (search needs, search needs, refl, sym (transferred-none _ _ _))
 
--- src/lib.rt:114:38
 cast-element : tie.Need-cast-element Inv-loop μ-loop
 cast-element c = search needs
 
--- src/lib.rt:114:13
 element-requires : tie.Need-element-requires Inv-loop μ-loop
 element-requires c κs =
     let q = c .before .before .before .pre in
     (q .0 .0, q .0 .1, q .0 .2, number-below _ _ _ (c .loop-test .taken) (q .1 .1) (q .0 .1))
 
--- src/lib.rt:116:9
 store-element-requires : tie.Need-store-element-requires Inv-loop μ-loop
 store-element-requires c κs =
     let q = c .before .before .before .before .before .pre in
@@ -47,15 +39,12 @@ store-element-requires c κs =
     let s = sound-inside a (outcomeOf a (p .columns) (i .k)) (element-sound a (p .columns) (i .k)) in
     ((q .1 .0, omega (arith, q), omega (arith, q), access-size a (q .0 .0 .valid .sized)), rw (i .inv .2, ← q .0 .3, ap (λ (l : Located). l .outcome) (c .before .element .ensures)) s)
 
--- src/lib.rt:117:9
 add-k : tie.Need-add-k Inv-loop μ-loop
 add-k c = search needs
 
--- src/lib.rt:113:5
 loop-less : tie.Need-loop-less Inv-loop μ-loop
 loop-less c = search needs
 
--- src/lib.rt:113:5
 loop-again : tie.Need-loop-again Inv-loop μ-loop
 loop-again c =
     let d = c .before .before in
@@ -68,11 +57,9 @@ loop-again c =
     let l = stored-length (a .p .access .size) (a .register) (i .k) r s in
     (search needs, omega (arith, n, i .inv, d .store-element .ensures .1), ap length (d .store-element .ensures .0) ∙ l ∙ i .inv .2, store-turn (a .p .access) (a .p .columns) (a .register) (i .k) _ r o (i .inv .3) (d .store-element .ensures .0) (d .store-element .ensures .1))
 
--- src/lib.rt:97:1
 same-length : tie.Need-same-length Inv-loop μ-loop
 same-length c = c .before .loop .inv .2
 
--- src/lib.rt:97:1
 returns : tie.Need-returns Inv-loop μ-loop
 returns c =
     let i = c .before .loop in

@@ -1,5 +1,5 @@
 use Prim.Native.Nat.{_-_, _*_, _≤_}
-use mathlib.Core.Path.{_≡_, sym, _∙_}
+use mathlib.Core.Path.{_≡_, _∙_}
 use Rattle.registers.specs.Sized.{Sized, sized-empty}
 use Rattle.carrying.specs.Carrying.{checkedFrom, checked}
 use Rattle.carrying.specs.Types.{check-sized, within-step}
@@ -9,12 +9,6 @@ use borrow.Author.Needs.{needs}
 use native.Mathlib.Omega.{arith}
 use Rattle.carrying.proofs.checks.check.Statement.{statement}
 use Rattle.carrying.proofs.checks.check.Tie as tie
-use Rattle.carrying.proofs.checks.check.Reads as reads
-use Rattle.carrying.proofs.checks.check.Lts as lts
-use Rattle.carrying.proofs.checks.check_refused.Reads as check-refused-reads
-use Rattle.carrying.proofs.checks.check_step.Reads as check-step-reads
-use Rattle.carrying.proofs.checks.refusal_at.Reads as refusal-at-reads
-use Rattle.registers.proofs.no_type.Reads as no-type-reads
 
 abbrev Inv-loop : tie.InvT-loop
 Inv-loop memory sheet steps types₀ count₀ k₀ types count k = (k ≤ steps) × Sized types × (count ≤ k * 256) × (checkedFrom (steps - k) sheet memory k types count ≡ checked sheet memory)
@@ -22,40 +16,32 @@ Inv-loop memory sheet steps types₀ count₀ k₀ types count k = (k ≤ steps)
 abbrev μ-loop : tie.MeasureT-loop
 μ-loop memory sheet steps types₀ count₀ k₀ types count k = steps - k
 
--- src/checks.rt:119:9
 no-type-requires : tie.Need-no-type-requires Inv-loop μ-loop
 no-type-requires c κs = search needs
 
--- src/checks.rt:124:5
 loop-holds : tie.Need-loop-holds Inv-loop μ-loop
 loop-holds c =
     let s = c .before .args in
     let e = empty-types (c .no-type .result) (c .no-type .ensures) in
     (omega arith, rw e sized-empty, omega arith, rw e (checked-start (s .t1) (s .memory)))
 
--- src/checks.rt:125:17
 mul-c : tie.Need-mul-c Inv-loop μ-loop
 mul-c c = omega (arith, c .before .before .before .pre .0 .steps)
 
--- src/checks.rt:125:17
 element-copy-out-c : tie.Need-element-copy-out-c Inv-loop μ-loop
 element-copy-out-c c = omega (arith, c .before .before .before .pre .0 .steps)
 
--- src/checks.rt:127:13
 check-step-requires : tie.Need-check-step-requires Inv-loop μ-loop
 check-step-requires c κs =
     let s = c .before .before .before .before in
     (s .pre .0, s .pre .1, c .before .before .loop .inv .1, within-step (s .args .t1) (s .pre .0) (c .before .before .loop .k) (omega arith))
 
--- src/checks.rt:130:34
 refusal-at-requires : tie.Need-refusal-at-requires Inv-loop μ-loop
 refusal-at-requires c κs = search needs
 
--- src/checks.rt:130:13
 check-refused-requires : tie.Need-check-refused-requires Inv-loop μ-loop
 check-refused-requires c κs = search needs
 
--- src/checks.rt:130:13
 returns : tie.Need-returns Inv-loop μ-loop
 returns c =
     let r = c .before .before .before .before .before in
@@ -66,7 +52,6 @@ returns c =
     (checked-stop (s .args .t1 .steps) (s .args .t1) (s .args .memory) (i .k) (i .types) (i .count) (r .check-step .result) (r .check-step .ensures) (omega arith) (omega arith)
     ∙ i .inv .3)
 
--- src/checks.rt:134:9
 add-count : tie.Need-add-count Inv-loop μ-loop
 add-count c =
     let r = c .before .before .before .before .before in
@@ -75,18 +60,15 @@ add-count c =
     let p : r .check-step .result .placed ≤ 256 = rw (r .check-step .ensures) (step-placed (s .args .t1) (i .types) (s .args .memory) _ (i .inv .1)) in
     omega (arith, p, i .inv .0, i .inv .2, s .pre .0 .steps)
 
--- src/checks.rt:135:9
 add-k : tie.Need-add-k Inv-loop μ-loop
 add-k c =
     let r = c .before .before .before .before .before in
     let i = r .before .before .before .loop in
     omega (arith, i .inv .0, r .before .before .before .before .before .pre .0 .steps)
 
--- src/checks.rt:124:5
 loop-less : tie.Need-loop-less Inv-loop μ-loop
 loop-less c = omega (arith, c .before .before .before .before .before .before .before .loop-test .taken)
 
--- src/checks.rt:124:5
 loop-again : tie.Need-loop-again Inv-loop μ-loop
 loop-again c =
     let r = c .before .before .before .before .before in
@@ -101,11 +83,9 @@ loop-again c =
       checked-go (s .args .t1 .steps) (s .args .t1) (s .args .memory) (i .k) (i .types) (i .count) (r .check-step .result) (r .check-step .ensures) h (omega arith) ∙ i .inv .3,
     )
 
--- src/checks.rt:138:18
 refusal-at-requires-2 : tie.Need-refusal-at-requires-2 Inv-loop μ-loop
 refusal-at-requires-2 c κs = search needs
 
--- src/checks.rt:115:1
 returns-2 : tie.Need-returns-2 Inv-loop μ-loop
 returns-2 c =
     let i = c .before .before .loop in

@@ -1,17 +1,11 @@
 use mathlib.Core.Path.{refl}
 use Rattle.numbers.specs.Choice.{tests, taken, left}
-use borrow.Author.Needs.{needs}
-use native.Mathlib.Omega.{arith}
 use Rattle.carrying.proofs.checks.object_of.Statement.{statement}
 use Rattle.carrying.proofs.checks.object_of.Tie as tie
-use Rattle.carrying.proofs.checks.object_of.Reads as reads
-use Rattle.carrying.proofs.checks.object_of.Lts as lts
 
--- src/checks.rt:51:1
 returns : tie.Need-returns
 returns c = taken _ (search tests) refl
 
--- src/checks.rt:51:1
 returns-2 : tie.Need-returns-2
 returns-2 c = left _ (search tests) refl
 

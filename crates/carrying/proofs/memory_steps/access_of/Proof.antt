@@ -1,30 +1,20 @@
 use Rattle.carrying.specs.Accesses.{access-sized}
-use native.Mathlib.Omega.{arith}
 use borrow.Author.Needs.{needs}
 use Rattle.carrying.proofs.memory_steps.access_of.Statement.{statement}
 use Rattle.carrying.proofs.memory_steps.access_of.Tie as tie
-use Rattle.carrying.proofs.memory_steps.access_of.Reads as reads
-use Rattle.carrying.proofs.memory_steps.access_of.Lts as lts
-use Rattle.carrying.proofs.memory_steps.view_named.Reads as view-named-reads
-use Rattle.kinds.proofs.bytes.Reads as bytes-reads
 
--- src/memory_steps.rt:52:13
 mul-l : tie.Need-mul-l
 mul-l c = search needs
 
--- src/memory_steps.rt:52:13
 element-copy-out-l : tie.Need-element-copy-out-l
 element-copy-out-l c = search needs
 
--- src/memory_steps.rt:53:9
 view-named-requires : tie.Need-view-named-requires
 view-named-requires c κs = search needs
 
--- src/memory_steps.rt:60:15
 bytes-requires : tie.Need-bytes-requires
 bytes-requires c κs = search needs
 
--- src/memory_steps.rt:39:1
 returns : tie.Need-returns
 returns c =
     let q = c .before .before .before .pre in

@@ -1,49 +1,34 @@
 use Rattle.numbers.specs.Choice.{went, taken, left}
 use Rattle.carrying.specs.Steps.{storeCheck}
 use Rattle.carrying.specs.Accesses.{shaped}
-use native.Mathlib.Omega.{arith}
 use borrow.Author.Needs.{needs}
 use Rattle.carrying.proofs.memory_steps.check_store.Statement.{statement}
 use Rattle.carrying.proofs.memory_steps.check_store.Tie as tie
-use Rattle.carrying.proofs.memory_steps.check_store.Reads as reads
-use Rattle.carrying.proofs.memory_steps.check_store.Lts as lts
-use Rattle.accesses.proofs.check_access.Reads as check-access-reads
-use Rattle.carrying.proofs.memory_steps.access_of.Reads as access-of-reads
-use Rattle.carrying.proofs.memory_steps.refused.Reads as refused-reads
-use Rattle.registers.proofs.is_empty.Reads as is-empty-reads
 
--- src/memory_steps.rt:117:8
 is-empty-requires : tie.Need-is-empty-requires
 is-empty-requires c κs = search needs
 
--- src/memory_steps.rt:118:9
 refused-requires : tie.Need-refused-requires
 refused-requires c κs = search needs
 
--- src/memory_steps.rt:118:9
 returns : tie.Need-returns
 unfolding storeCheck
 returns c = taken _ (went (c .before .before .is-empty .ensures) (c .before .if1 .taken)) (c .refused .ensures)
 
--- src/memory_steps.rt:120:9
 access-of-requires : tie.Need-access-of-requires
 access-of-requires c κs = search needs
 
--- src/memory_steps.rt:121:39
 cast-check-access : tie.Need-cast-check-access
 cast-check-access c = search needs
 
--- src/memory_steps.rt:121:54
 cast-check-access-2 : tie.Need-cast-check-access-2
 cast-check-access-2 c = search needs
 
--- src/memory_steps.rt:121:9
 check-access-requires : tie.Need-check-access-requires
 check-access-requires c κs =
     let s = shaped _ (c .before .before .before .before .before .pre .1 .1) (went (c .before .before .before .before .is-empty .ensures) (c .before .before .before .if1 .left)) in
     (c .before .before .access-of .ensures .1, s .some, s .most, s .area)
 
--- src/memory_steps.rt:104:1
 returns-2 : tie.Need-returns-2
 unfolding storeCheck
 returns-2 c =

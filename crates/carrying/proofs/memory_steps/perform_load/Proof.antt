@@ -1,41 +1,28 @@
-use Prim.Native.Nat.{_*_}
 use denote.Ref.{now}
 use lib.ListN.{length}
 use mathlib.Core.Bool.{true}
-use Rattle.registers.specs.Types.{theType}
 use Rattle.registers.specs.declared.MatrixType.{MatrixType}
 use Rattle.addressing.specs.declared.Access.{Access}
 use Rattle.carrying.specs.Steps.{accessOf, machine}
 use Rattle.carrying.specs.Done.{load-performed}
-use mathlib.Core.Path.{_≡_, refl, sym, ap, _∙_}
+use mathlib.Core.Path.{ap, _∙_}
 use Rattle.accesses.specs.Accepted.{accepted-valid}
-use Rattle.addressing.specs.Valid.{SizedAccess, ValidAccess, planned-access, planned-columns}
-use Rattle.carrying.specs.Steps.{loadDone}
+use Rattle.addressing.specs.Valid.{planned-access, planned-columns}
 use Rattle.carrying.specs.Accesses.{shaped}
 use native.Mathlib.Omega.{arith}
 use borrow.Author.Needs.{needs}
 use Rattle.carrying.proofs.memory_steps.perform_load.Statement.{statement}
 use Rattle.carrying.proofs.memory_steps.perform_load.Tie as tie
-use Rattle.carrying.proofs.memory_steps.perform_load.Reads as reads
-use Rattle.carrying.proofs.memory_steps.perform_load.Lts as lts
-use Rattle.addressing.proofs.plan_of.Reads as plan-of-reads
-use Rattle.carrying.proofs.memory_steps.access_of.Reads as access-of-reads
-use Rattle.registers.proofs.the_type.Reads as the-type-reads
-use Rattle.transfers.proofs.load_elements.Reads as load-elements-reads
 
--- src/memory_steps.rt:147:9
 the-type-requires : tie.Need-the-type-requires
 the-type-requires c κs = search needs
 
--- src/memory_steps.rt:148:9
 access-of-requires : tie.Need-access-of-requires
 access-of-requires c κs = search needs
 
--- src/memory_steps.rt:149:36
 cast-plan-of : tie.Need-cast-plan-of
 cast-plan-of c = search needs
 
--- src/memory_steps.rt:149:9
 plan-of-requires : tie.Need-plan-of-requires
 plan-of-requires c κs =
     let q = c .before .before .before .before .before .pre in
@@ -44,15 +31,12 @@ plan-of-requires c κs =
     let e = c .before .access-of .ensures .0 ∙ ap (λ (t : MatrixType). accessOf (a .sheet) true (a .layout) (a .view) (a .base) t (length (now (a .memory)))) (c .before .before .the-type .ensures) in
     rw e (accepted-valid _ _ _ (g .clear) (rw e at (c .before .access-of .ensures .1)))
 
--- src/memory_steps.rt:151:14
 cast-n : tie.Need-cast-n
 cast-n c = search needs
 
--- src/memory_steps.rt:151:34
 cast-n-2 : tie.Need-cast-n-2
 cast-n-2 c = search needs
 
--- src/memory_steps.rt:151:13
 mul-n : tie.Need-mul-n
 mul-n c =
     let d = c .before .before .before .before .before .before in
@@ -62,7 +46,6 @@ mul-n c =
     let s = shaped _ (q .0 .1 .each (a .register)) (g .filled) in
     rw (d .the-type .ensures) (record { fits = omega (arith, s .area) })
 
--- src/memory_steps.rt:152:9
 load-elements-requires : tie.Need-load-elements-requires
 load-elements-requires c κs =
     let p = c .before .before .before .before in
@@ -76,7 +59,6 @@ load-elements-requires c κs =
     let m = ap (λ (x : Access). x .memory) (planned-access _ _ (p .plan-of .ensures .0) ∙ p .before .before .access-of .ensures .0) in
     ((p .plan-of .ensures .1, rw n (s .some), rw n (s .most), m), (q .0 .2, rw (d .the-type .ensures) (s .area), q .0 .4))
 
--- src/memory_steps.rt:131:1
 returns : tie.Need-returns
 returns c =
     let p = c .before .before .before .before .before in

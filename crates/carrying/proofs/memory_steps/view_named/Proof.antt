@@ -5,27 +5,19 @@ use native.Mathlib.Omega.{arith}
 use borrow.Author.Needs.{needs}
 use Rattle.carrying.proofs.memory_steps.view_named.Statement.{statement}
 use Rattle.carrying.proofs.memory_steps.view_named.Tie as tie
-use Rattle.carrying.proofs.memory_steps.view_named.Reads as reads
-use Rattle.carrying.proofs.memory_steps.view_named.Lts as lts
-use Rattle.sheet.proofs.views.no_view.Reads as no-view-reads
 
--- src/memory_steps.rt:32:9
 no-view-requires : tie.Need-no-view-requires
 no-view-requires c κs = search needs
 
--- src/memory_steps.rt:32:9
 returns : tie.Need-returns
 returns c = left _ (search tests) (c .no-view .ensures)
 
--- src/memory_steps.rt:35:5
 mul-result : tie.Need-mul-result
 mul-result c = search needs
 
--- src/memory_steps.rt:35:5
 element-copy-out-result : tie.Need-element-copy-out-result
 element-copy-out-result c = let g = view-given _ _ (c .before .pre .1) (ne-not _ _ (c .if1 .left)) in omega (arith, g, c .before .pre .0 .views)
 
--- src/memory_steps.rt:27:1
 returns-2 : tie.Need-returns-2
 returns-2 c = taken _ (ne-not _ _ (c .before .if1 .left)) refl
 

@@ -1,24 +1,15 @@
 use native.Mathlib.Nat.{sub-zero}
 use Rattle.carrying.specs.Loops.{turn-accepted, turn-next, turns-end}
 use denote.Ref.{now}
-use lib.ListN.{length}
-use mathlib.Core.Path.{_≡_, refl, sym, ap, _∙_}
-use Prim.Native.Nat.{ℕ, suc, _+_, _-_, _≤_}
-use Rattle.round_trip.specs.Sheets.{Within}
-use Rattle.sheet.specs.Steps.{theStep}
-use Rattle.registers.specs.declared.Registers.{Registers}
-use Rattle.carrying.specs.Steps.{Machine, machine, performedStep}
+use Prim.Native.Nat.{_-_, _≤_}
+use Rattle.carrying.specs.Steps.{machine}
 use Rattle.carrying.specs.Carrying.{started}
 use Rattle.carrying.specs.Types.{within-step}
-use Rattle.carrying.specs.Loops.{Ready, ready-start, ready-accepted, ready-next, ready-end}
+use Rattle.carrying.specs.Loops.{Ready, ready-start}
 use borrow.Author.Needs.{needs}
 use native.Mathlib.Omega.{arith}
 use Rattle.carrying.proofs.performing.perform.Statement.{statement}
 use Rattle.carrying.proofs.performing.perform.Tie as tie
-use Rattle.carrying.proofs.performing.perform.Reads as reads
-use Rattle.carrying.proofs.performing.perform.Lts as lts
-use Rattle.carrying.proofs.performing.perform_step.Reads as perform-step-reads
-use Rattle.registers.proofs.empty_registers.Reads as empty-registers-reads
 
 abbrev Inv-loop : tie.InvT-loop
 Inv-loop memory₀ sheet steps registers₀ count₀ k₀ memory registers count k = (k ≤ sheet .steps) × Ready (sheet .steps - k) sheet k (machine registers memory count) (started memory₀)
@@ -26,25 +17,20 @@ Inv-loop memory₀ sheet steps registers₀ count₀ k₀ memory registers count
 abbrev μ-loop : tie.MeasureT-loop
 μ-loop memory₀ sheet steps registers₀ count₀ k₀ memory registers count k = sheet .steps - k
 
--- src/performing.rt:110:9
 empty-registers-requires : tie.Need-empty-registers-requires Inv-loop μ-loop
 empty-registers-requires c κs = search needs
 
--- src/performing.rt:113:5
 loop-holds : tie.Need-loop-holds Inv-loop μ-loop
 loop-holds c =
     let s = c .before .before in
     (search needs, rw (sub-zero, c .empty-registers .ensures) (ready-start (s .args .t1) (now (s .args .memory)) (s .pre .2)))
 
--- src/performing.rt:114:17
 mul-c : tie.Need-mul-c Inv-loop μ-loop
 mul-c c = search needs
 
--- src/performing.rt:114:17
 element-copy-out-c : tie.Need-element-copy-out-c Inv-loop μ-loop
 element-copy-out-c c = search needs
 
--- src/performing.rt:116:13
 perform-step-requires : tie.Need-perform-step-requires Inv-loop μ-loop
 perform-step-requires c κs =
     let s = c .before .before .before .before .before .before in
@@ -53,15 +39,12 @@ perform-step-requires c κs =
     let l = c .before .before .loop-test .taken in
     ((s .pre .0, within-step (s .args .t1) (s .pre .0) (i .k) l, rw (r .kept) (s .pre .1), omega (arith, r .few, l, s .pre .0 .steps)), (r .formed, turn-accepted (s .args .t1) (i .k) _ _ l r))
 
--- src/performing.rt:120:9
 add-k : tie.Need-add-k Inv-loop μ-loop
 add-k c = search needs
 
--- src/performing.rt:113:5
 loop-less : tie.Need-loop-less Inv-loop μ-loop
 loop-less c = search needs
 
--- src/performing.rt:113:5
 loop-again : tie.Need-loop-again Inv-loop μ-loop
 loop-again c =
     let s = c .before .before .before .before .before .before .before .before .before .before in
@@ -69,11 +52,9 @@ loop-again c =
     let l = c .before .before .before .before .before .before .loop-test .taken in
     (omega (arith, l), turn-next (s .args .t1) (i .k) _ _ l (i .inv .1) (s .pre .0) (c .before .before .before .perform-step .ensures))
 
--- src/performing.rt:105:1
 same-length : tie.Need-same-length Inv-loop μ-loop
 same-length c = c .before .loop .inv .1 .kept
 
--- src/performing.rt:105:1
 returns : tie.Need-returns Inv-loop μ-loop
 returns c =
     let s = c .before .before .before .before in

@@ -1,31 +1,20 @@
 use denote.Ref.{now}
-use lib.ListN.{length}
-use mathlib.Core.Path.{_≡_, refl, sym, ap, _∙_}
+use mathlib.Core.Path.{ap, _∙_}
 use Rattle.registers.specs.declared.Registers.{Registers}
 use Rattle.whole_steps.specs.Within.{whole-ok}
-use Rattle.carrying.specs.Steps.{Machine, machine, checkedStep, performedStep, loadDone}
+use Rattle.carrying.specs.Steps.{machine, checkedStep, performedStep, loadDone}
 use Rattle.carrying.specs.Loops.{object-machine, given-sized, load-clear, store-clear}
 use Rattle.carrying.proofs.Laws.{load-names, store-names, load-option}
-use native.Mathlib.Omega.{arith}
 use borrow.Author.Needs.{needs}
 use Rattle.carrying.proofs.performing.perform_step.Statement.{statement}
 use Rattle.carrying.proofs.performing.perform_step.Tie as tie
-use Rattle.carrying.proofs.performing.perform_step.Reads as reads
-use Rattle.carrying.proofs.performing.perform_step.Lts as lts
-use Rattle.carrying.proofs.memory_steps.perform_load.Reads as perform-load-reads
-use Rattle.carrying.proofs.memory_steps.perform_store.Reads as perform-store-reads
-use Rattle.carrying.proofs.performing.perform_whole.Reads as perform-whole-reads
-use Rattle.carrying.proofs.performing.with_object.Reads as with-object-reads
 
--- src/performing.rt:51:26
 enum-told : tie.Need-enum-told
 enum-told c = search needs
 
--- src/performing.rt:58:14
 enum-told-2 : tie.Need-enum-told-2
 enum-told-2 c = search needs
 
--- src/performing.rt:58:14
 perform-whole-requires : tie.Need-perform-whole-requires
 unfolding checkedStep
 perform-whole-requires c κs =
@@ -33,18 +22,15 @@ perform-whole-requires c κs =
     let e = c .enum-told2 .given .1 in
     (whole-ok _ _ _ (s .args .step) (s .pre .0 .1), s .pre .1 .0 .sized, rw e (rw e at (s .pre .1 .1)))
 
--- src/performing.rt:60:13
 enum-known-step : tie.Need-enum-known-step
 enum-known-step c = search needs
 
--- src/performing.rt:66:17
 with-object-requires : tie.Need-with-object-requires
 with-object-requires c κs =
     let s = c .before .before .before .before in
     let ok = rw (c .before .step .given .1) at (s .pre .0 .1) in
     (load-names _ _ _ _ _ _ ok .named, load-option _ _ _ _ _ _ ok)
 
--- src/performing.rt:67:13
 perform-load-requires : tie.Need-perform-load-requires
 perform-load-requires c κs =
     let s = c .before .before .before .before .before .before in
@@ -62,11 +48,9 @@ perform-load-requires c κs =
       ),
     )
 
--- src/performing.rt:70:13
 enum-known-step-2 : tie.Need-enum-known-step-2
 enum-known-step-2 c = search needs
 
--- src/performing.rt:75:17
 perform-store-requires : tie.Need-perform-store-requires
 perform-store-requires c κs =
     let s = c .before .before .before .before .before in
@@ -78,11 +62,9 @@ perform-store-requires c κs =
     let a = rw (g .1) at (s .pre .1 .1) in
     ((s .pre .0 .0, f .sized, n .named, s .pre .0 .2, s .pre .0 .3), (store-clear (s .args .sheet) m (g .0 .0) (g .0 .1 .0) (g .0 .1 .1 .0) (g .0 .1 .1 .1 .0) a, (n .given, n .option)))
 
--- src/performing.rt:90:14
 enum-told-3 : tie.Need-enum-told-3
 enum-told-3 c = search needs
 
--- src/performing.rt:90:14
 perform-whole-requires-2 : tie.Need-perform-whole-requires-2
 unfolding checkedStep
 perform-whole-requires-2 c κs =
@@ -90,11 +72,9 @@ perform-whole-requires-2 c κs =
     let e = c .enum-told3 .given .1 in
     (whole-ok _ _ _ (s .args .step) (s .pre .0 .1), s .pre .1 .0 .sized, rw e (rw e at (s .pre .1 .1)))
 
--- src/performing.rt:94:14
 enum-told-4 : tie.Need-enum-told-4
 enum-told-4 c = search needs
 
--- src/performing.rt:94:14
 perform-whole-requires-3 : tie.Need-perform-whole-requires-3
 unfolding checkedStep
 perform-whole-requires-3 c κs =
@@ -102,11 +82,9 @@ perform-whole-requires-3 c κs =
     let e = c .enum-told4 .given .1 in
     (whole-ok _ _ _ (s .args .step) (s .pre .0 .1), s .pre .1 .0 .sized, rw e (rw e at (s .pre .1 .1)))
 
--- src/performing.rt:100:14
 enum-told-5 : tie.Need-enum-told-5
 enum-told-5 c = search needs
 
--- src/performing.rt:100:14
 perform-whole-requires-4 : tie.Need-perform-whole-requires-4
 unfolding checkedStep
 perform-whole-requires-4 c κs =
@@ -114,23 +92,19 @@ perform-whole-requires-4 c κs =
     let e = c .enum-told5 .given .1 in
     (whole-ok _ _ _ (s .args .step) (s .pre .0 .1), s .pre .1 .0 .sized, rw e (rw e at (s .pre .1 .1)))
 
--- src/performing.rt:45:1
 returns : tie.Need-returns
 unfolding performedStep
 returns c = rw (c .enum-told .given .1)
 
--- src/performing.rt:45:1
 returns-2 : tie.Need-returns-2
 unfolding performedStep
 returns-2 c =
     let w = c .perform-whole .ensures in
     rw (w .0, w .1, c .before .enum-told2 .given .1)
 
--- src/performing.rt:45:1
 same-length : tie.Need-same-length
 same-length c = search needs
 
--- src/performing.rt:45:1
 returns-3 : tie.Need-returns-3
 unfolding performedStep
 returns-3 c =
@@ -142,32 +116,27 @@ returns-3 c =
     (ap (λ (r : Registers). machine r (now (s .args .memory)) (s .args .count)) (c .before .before .with-object .ensures)
     ∙ object-machine (g .0 .0) (g .0 .1 .0) (s .args .registers) (now (s .args .memory)) (s .args .count)))
 
--- src/performing.rt:45:1
 same-length-2 : tie.Need-same-length-2
 same-length-2 c = search needs
 
--- src/performing.rt:45:1
 returns-4 : tie.Need-returns-4
 unfolding performedStep
 returns-4 c =
     let g = c .before .before .before .before .before .step2 .given in
     rw (g .1) (c .before .before .perform-store .ensures)
 
--- src/performing.rt:45:1
 returns-5 : tie.Need-returns-5
 unfolding performedStep
 returns-5 c =
     let w = c .perform-whole2 .ensures in
     rw (w .0, w .1, c .before .enum-told3 .given .1)
 
--- src/performing.rt:45:1
 returns-6 : tie.Need-returns-6
 unfolding performedStep
 returns-6 c =
     let w = c .perform-whole3 .ensures in
     rw (w .0, w .1, c .before .enum-told4 .given .1)
 
--- src/performing.rt:45:1
 returns-7 : tie.Need-returns-7
 unfolding performedStep
 returns-7 c =

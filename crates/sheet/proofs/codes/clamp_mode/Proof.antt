@@ -1,34 +1,25 @@
 use borrow.Author.Tests.{ne-eqb}
 use Rattle.numbers.specs.Choice.{pick}
 use Rattle.sheet.specs.Codes.{clampMode}
-use borrow.Author.Needs.{needs}
-use native.Mathlib.Omega.{arith}
 use Rattle.sheet.proofs.codes.clamp_mode.Statement.{statement}
 use Rattle.sheet.proofs.codes.clamp_mode.Tie as tie
-use Rattle.sheet.proofs.codes.clamp_mode.Reads as reads
-use Rattle.sheet.proofs.codes.clamp_mode.Lts as lts
 
--- src/codes.rt:20:1
 returns : tie.Need-returns
 unfolding clampMode pick
 returns c = rw (c .match .keys1)
 
--- src/codes.rt:20:1
 returns-2 : tie.Need-returns-2
 unfolding clampMode pick
 returns-2 c = rw (c .match .keys2)
 
--- src/codes.rt:20:1
 returns-3 : tie.Need-returns-3
 unfolding clampMode pick
 returns-3 c = rw (c .match .keys3)
 
--- src/codes.rt:20:1
 returns-4 : tie.Need-returns-4
 unfolding clampMode pick
 returns-4 c = rw (c .match .keys4)
 
--- src/codes.rt:20:1
 returns-5 : tie.Need-returns-5
 unfolding clampMode pick
 returns-5 c =

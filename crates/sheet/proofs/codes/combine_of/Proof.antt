@@ -1,39 +1,29 @@
 use borrow.Author.Tests.{ne-eqb}
 use Rattle.numbers.specs.Choice.{pick}
 use Rattle.sheet.specs.Codes.{combineOf}
-use borrow.Author.Needs.{needs}
-use native.Mathlib.Omega.{arith}
 use Rattle.sheet.proofs.codes.combine_of.Statement.{statement}
 use Rattle.sheet.proofs.codes.combine_of.Tie as tie
-use Rattle.sheet.proofs.codes.combine_of.Reads as reads
-use Rattle.sheet.proofs.codes.combine_of.Lts as lts
 
--- src/codes.rt:67:1
 returns : tie.Need-returns
 unfolding combineOf pick
 returns c = rw (c .match .keys1)
 
--- src/codes.rt:67:1
 returns-2 : tie.Need-returns-2
 unfolding combineOf pick
 returns-2 c = rw (c .match .keys2)
 
--- src/codes.rt:67:1
 returns-3 : tie.Need-returns-3
 unfolding combineOf pick
 returns-3 c = rw (c .match .keys3)
 
--- src/codes.rt:67:1
 returns-4 : tie.Need-returns-4
 unfolding combineOf pick
 returns-4 c = rw (c .match .keys4)
 
--- src/codes.rt:67:1
 returns-5 : tie.Need-returns-5
 unfolding combineOf pick
 returns-5 c = rw (c .match .keys5)
 
--- src/codes.rt:67:1
 returns-6 : tie.Need-returns-6
 unfolding combineOf pick
 returns-6 c =

@@ -1,29 +1,21 @@
 use borrow.Author.Tests.{ne-eqb}
 use Rattle.numbers.specs.Choice.{pick}
 use Rattle.sheet.specs.Codes.{reduceMode}
-use borrow.Author.Needs.{needs}
-use native.Mathlib.Omega.{arith}
 use Rattle.sheet.proofs.codes.reduce_mode.Statement.{statement}
 use Rattle.sheet.proofs.codes.reduce_mode.Tie as tie
-use Rattle.sheet.proofs.codes.reduce_mode.Reads as reads
-use Rattle.sheet.proofs.codes.reduce_mode.Lts as lts
 
--- src/codes.rt:43:1
 returns : tie.Need-returns
 unfolding reduceMode pick
 returns c = rw (c .match .keys1)
 
--- src/codes.rt:43:1
 returns-2 : tie.Need-returns-2
 unfolding reduceMode pick
 returns-2 c = rw (c .match .keys2)
 
--- src/codes.rt:43:1
 returns-3 : tie.Need-returns-3
 unfolding reduceMode pick
 returns-3 c = rw (c .match .keys3)
 
--- src/codes.rt:43:1
 returns-4 : tie.Need-returns-4
 unfolding reduceMode pick
 returns-4 c =

@@ -1,36 +1,25 @@
 use Rattle.numbers.specs.Choice.{calls}
 use Rattle.sheet.specs.Layouts.{dimensionAtOk}
-use native.Mathlib.Omega.{arith}
 use borrow.Author.Needs.{needs}
 use Rattle.sheet.proofs.layouts.dimension_at_ok.Statement.{statement}
 use Rattle.sheet.proofs.layouts.dimension_at_ok.Tie as tie
-use Rattle.sheet.proofs.layouts.dimension_at_ok.Reads as reads
-use Rattle.sheet.proofs.layouts.dimension_at_ok.Lts as lts
-use Rattle.sheet.proofs.layouts.dimension_ok.Reads as dimension-ok-reads
-use Rattle.sheet.proofs.layouts.dimension_unused.Reads as dimension-unused-reads
 
--- src/layouts.rt:73:13
 mul-d : tie.Need-mul-d
 mul-d c = search needs
 
--- src/layouts.rt:73:13
 array-copy-out-d : tie.Need-array-copy-out-d
 array-copy-out-d c = search needs
 
--- src/layouts.rt:75:9
 dimension-ok-requires : tie.Need-dimension-ok-requires
 dimension-ok-requires c κs = search needs
 
--- src/layouts.rt:77:9
 dimension-unused-requires : tie.Need-dimension-unused-requires
 dimension-unused-requires c κs = search needs
 
--- src/layouts.rt:69:1
 returns : tie.Need-returns
 unfolding dimensionAtOk
 returns c = search calls depth 9
 
--- src/layouts.rt:69:1
 returns-2 : tie.Need-returns-2
 unfolding dimensionAtOk
 returns-2 c = search calls depth 9

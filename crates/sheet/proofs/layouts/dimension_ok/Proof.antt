@@ -1,46 +1,33 @@
 use Rattle.numbers.specs.Choice.{tests, stop, pass}
 use Rattle.sheet.specs.Layouts.{dimensionOk}
-use native.Mathlib.Omega.{arith}
 use borrow.Author.Needs.{needs}
 use Rattle.sheet.proofs.layouts.dimension_ok.Statement.{statement}
 use Rattle.sheet.proofs.layouts.dimension_ok.Tie as tie
-use Rattle.sheet.proofs.layouts.dimension_ok.Reads as reads
-use Rattle.sheet.proofs.layouts.dimension_ok.Lts as lts
-use Rattle.sheet.proofs.sizes.offset_ok.Reads as offset-ok-reads
-use Rattle.sheet.proofs.sizes.size_ok.Reads as size-ok-reads
 
--- src/layouts.rt:39:9
 size-ok-requires : tie.Need-size-ok-requires
 size-ok-requires c κs = search needs
 
--- src/layouts.rt:40:9
 returns : tie.Need-returns
 unfolding dimensionOk
 returns c = stop _ (search tests)
 
--- src/layouts.rt:42:9
 size-ok-requires-2 : tie.Need-size-ok-requires-2
 size-ok-requires-2 c κs = search needs
 
--- src/layouts.rt:43:9
 returns-2 : tie.Need-returns-2
 unfolding dimensionOk
 returns-2 c = pass (search tests) (stop _ (search tests))
 
--- src/layouts.rt:45:9
 offset-ok-requires : tie.Need-offset-ok-requires
 offset-ok-requires c κs = search needs
 
--- src/layouts.rt:46:9
 returns-3 : tie.Need-returns-3
 unfolding dimensionOk
 returns-3 c = pass (search tests) (pass (search tests) (stop _ (search tests)))
 
--- src/layouts.rt:48:5
 size-ok-requires-3 : tie.Need-size-ok-requires-3
 size-ok-requires-3 c κs = search needs
 
--- src/layouts.rt:36:1
 returns-4 : tie.Need-returns-4
 unfolding dimensionOk
 returns-4 c = pass (search tests) (pass (search tests) (pass (search tests) (search tests)))

@@ -8,9 +8,6 @@ use borrow.Author.Needs.{needs}
 use native.Mathlib.Omega.{arith}
 use Rattle.sheet.proofs.layouts.dimensions_ok.Statement.{statement}
 use Rattle.sheet.proofs.layouts.dimensions_ok.Tie as tie
-use Rattle.sheet.proofs.layouts.dimensions_ok.Reads as reads
-use Rattle.sheet.proofs.layouts.dimensions_ok.Lts as lts
-use Rattle.sheet.proofs.layouts.dimension_at_ok.Reads as dimension-at-ok-reads
 
 abbrev Inv-loop : tie.InvT-loop
 Inv-loop rank ds k₀ k = (k ≤ 5) × (all k (dimensionAtOk rank ds) ≡ true)
@@ -18,33 +15,26 @@ Inv-loop rank ds k₀ k = (k ≤ 5) × (all k (dimensionAtOk rank ds) ≡ true)
 abbrev μ-loop : tie.MeasureT-loop
 μ-loop rank ds k₀ k = 5 - k
 
--- src/layouts.rt:86:5
 loop-holds : tie.Need-loop-holds Inv-loop μ-loop
 loop-holds c = (search needs, all-none _)
 
--- src/layouts.rt:87:13
 dimension-at-ok-requires : tie.Need-dimension-at-ok-requires Inv-loop μ-loop
 dimension-at-ok-requires c κs = search needs
 
--- src/layouts.rt:88:13
 returns : tie.Need-returns Inv-loop μ-loop
 returns c =
     sym (all-false 5 _ (c .before .before .before .loop .k) (c .before .before .loop-test .taken) (went-not (c .before .dimension-at-ok .ensures) (c .if1 .taken)))
 
--- src/layouts.rt:90:9
 add-k : tie.Need-add-k Inv-loop μ-loop
 add-k c = search needs
 
--- src/layouts.rt:86:5
 loop-less : tie.Need-loop-less Inv-loop μ-loop
 loop-less c = search needs
 
--- src/layouts.rt:86:5
 loop-again : tie.Need-loop-again Inv-loop μ-loop
 loop-again c =
     (search needs, all-more _ _ (c .before .before .before .loop .inv .1) (went-past (c .before .dimension-at-ok .ensures) (c .if1 .left)))
 
--- src/layouts.rt:82:1
 returns-2 : tie.Need-returns-2 Inv-loop μ-loop
 returns-2 c =
     let i = c .before .loop in

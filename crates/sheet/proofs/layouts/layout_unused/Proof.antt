@@ -1,38 +1,27 @@
 use Rattle.numbers.specs.Choice.{tests, stop, pass}
 use Rattle.sheet.specs.Layouts.{layoutUnused}
-use native.Mathlib.Omega.{arith}
 use borrow.Author.Needs.{needs}
 use Rattle.sheet.proofs.layouts.layout_unused.Statement.{statement}
 use Rattle.sheet.proofs.layouts.layout_unused.Tie as tie
-use Rattle.sheet.proofs.layouts.layout_unused.Reads as reads
-use Rattle.sheet.proofs.layouts.layout_unused.Lts as lts
-use Rattle.sheet.proofs.codes.undefined.Reads as undefined-reads
-use Rattle.sheet.proofs.layouts.dimensions_ok.Reads as dimensions-ok-reads
 
--- src/layouts.rt:110:9
 returns : tie.Need-returns
 unfolding layoutUnused
 returns c = stop _ (search tests)
 
--- src/layouts.rt:113:9
 undefined-requires : tie.Need-undefined-requires
 undefined-requires c κs = search needs
 
--- src/layouts.rt:114:9
 returns-2 : tie.Need-returns-2
 unfolding layoutUnused
 returns-2 c = pass (search tests) (stop _ (search tests))
 
--- src/layouts.rt:117:9
 returns-3 : tie.Need-returns-3
 unfolding layoutUnused
 returns-3 c = pass (search tests) (pass (search tests) (stop _ (search tests)))
 
--- src/layouts.rt:120:5
 dimensions-ok-requires : tie.Need-dimensions-ok-requires
 dimensions-ok-requires c κs = search needs
 
--- src/layouts.rt:106:1
 returns-4 : tie.Need-returns-4
 unfolding layoutUnused
 returns-4 c = pass (search tests) (pass (search tests) (pass (search tests) (search tests)))

@@ -1,38 +1,27 @@
 use Rattle.numbers.specs.Choice.{tests, stop, pass}
 use Rattle.sheet.specs.Sheets.{countsOk}
-use native.Mathlib.Omega.{arith}
 use borrow.Author.Needs.{needs}
 use Rattle.sheet.proofs.sheets.counts_ok.Statement.{statement}
 use Rattle.sheet.proofs.sheets.counts_ok.Tie as tie
-use Rattle.sheet.proofs.sheets.counts_ok.Reads as reads
-use Rattle.sheet.proofs.sheets.counts_ok.Lts as lts
-use Rattle.sheet.proofs.sizes.edition_ok.Reads as edition-ok-reads
-use Rattle.sheet.proofs.sizes.step_limit.Reads as step-limit-reads
 
--- src/sheets.rt:118:9
 edition-ok-requires : tie.Need-edition-ok-requires
 edition-ok-requires c κs = search needs
 
--- src/sheets.rt:119:9
 returns : tie.Need-returns
 unfolding countsOk
 returns c = stop _ (search tests)
 
--- src/sheets.rt:122:9
 returns-2 : tie.Need-returns-2
 unfolding countsOk
 returns-2 c = pass (search tests) (stop _ (search tests))
 
--- src/sheets.rt:125:9
 returns-3 : tie.Need-returns-3
 unfolding countsOk
 returns-3 c = pass (search tests) (pass (search tests) (stop _ (search tests)))
 
--- src/sheets.rt:127:14
 step-limit-requires : tie.Need-step-limit-requires
 step-limit-requires c κs = search needs
 
--- src/sheets.rt:115:1
 returns-4 : tie.Need-returns-4
 unfolding countsOk
 returns-4 c = pass (search tests) (pass (search tests) (pass (search tests) (rw (← c .step-limit .ensures))))

@@ -8,9 +8,6 @@ use borrow.Author.Needs.{needs}
 use native.Mathlib.Omega.{arith}
 use Rattle.sheet.proofs.sheets.layouts_ok.Statement.{statement}
 use Rattle.sheet.proofs.sheets.layouts_ok.Tie as tie
-use Rattle.sheet.proofs.sheets.layouts_ok.Reads as reads
-use Rattle.sheet.proofs.sheets.layouts_ok.Lts as lts
-use Rattle.sheet.proofs.sheets.layout_at_ok.Reads as layout-at-ok-reads
 
 abbrev Inv-loop : tie.InvT-loop
 Inv-loop count ls k₀ k = (k ≤ 4) × (all k (layoutAtOk count ls) ≡ true)
@@ -18,33 +15,26 @@ Inv-loop count ls k₀ k = (k ≤ 4) × (all k (layoutAtOk count ls) ≡ true)
 abbrev μ-loop : tie.MeasureT-loop
 μ-loop count ls k₀ k = 4 - k
 
--- src/sheets.rt:48:5
 loop-holds : tie.Need-loop-holds Inv-loop μ-loop
 loop-holds c = (search needs, all-none _)
 
--- src/sheets.rt:49:13
 layout-at-ok-requires : tie.Need-layout-at-ok-requires Inv-loop μ-loop
 layout-at-ok-requires c κs = search needs
 
--- src/sheets.rt:50:13
 returns : tie.Need-returns Inv-loop μ-loop
 returns c =
     sym (all-false 4 _ (c .before .before .before .loop .k) (c .before .before .loop-test .taken) (went-not (c .before .layout-at-ok .ensures) (c .if1 .taken)))
 
--- src/sheets.rt:52:9
 add-k : tie.Need-add-k Inv-loop μ-loop
 add-k c = search needs
 
--- src/sheets.rt:48:5
 loop-less : tie.Need-loop-less Inv-loop μ-loop
 loop-less c = search needs
 
--- src/sheets.rt:48:5
 loop-again : tie.Need-loop-again Inv-loop μ-loop
 loop-again c =
     (search needs, all-more _ _ (c .before .before .before .loop .inv .1) (went-past (c .before .layout-at-ok .ensures) (c .if1 .left)))
 
--- src/sheets.rt:44:1
 returns-2 : tie.Need-returns-2 Inv-loop μ-loop
 returns-2 c =
     let i = c .before .loop in

@@ -8,9 +8,6 @@ use borrow.Author.Needs.{needs}
 use native.Mathlib.Omega.{arith}
 use Rattle.sheet.proofs.sheets.steps_ok.Statement.{statement}
 use Rattle.sheet.proofs.sheets.steps_ok.Tie as tie
-use Rattle.sheet.proofs.sheets.steps_ok.Reads as reads
-use Rattle.sheet.proofs.sheets.steps_ok.Lts as lts
-use Rattle.sheet.proofs.sheets.step_at_ok.Reads as step-at-ok-reads
 
 abbrev Inv-loop : tie.InvT-loop
 Inv-loop edition layouts views count cs k₀ k = (k ≤ 32) × (all k (stepAtOk edition layouts views count cs) ≡ true)
@@ -18,33 +15,26 @@ Inv-loop edition layouts views count cs k₀ k = (k ≤ 32) × (all k (stepAtOk 
 abbrev μ-loop : tie.MeasureT-loop
 μ-loop edition layouts views count cs k₀ k = 32 - k
 
--- src/sheets.rt:106:5
 loop-holds : tie.Need-loop-holds Inv-loop μ-loop
 loop-holds c = (search needs, all-none _)
 
--- src/sheets.rt:107:13
 step-at-ok-requires : tie.Need-step-at-ok-requires Inv-loop μ-loop
 step-at-ok-requires c κs = search needs
 
--- src/sheets.rt:108:13
 returns : tie.Need-returns Inv-loop μ-loop
 returns c =
     sym (all-false 32 _ (c .before .before .before .loop .k) (c .before .before .loop-test .taken) (went-not (c .before .step-at-ok .ensures) (c .if1 .taken)))
 
--- src/sheets.rt:110:9
 add-k : tie.Need-add-k Inv-loop μ-loop
 add-k c = search needs
 
--- src/sheets.rt:106:5
 loop-less : tie.Need-loop-less Inv-loop μ-loop
 loop-less c = search needs
 
--- src/sheets.rt:106:5
 loop-again : tie.Need-loop-again Inv-loop μ-loop
 loop-again c =
     (search needs, all-more _ _ (c .before .before .before .loop .inv .1) (went-past (c .before .step-at-ok .ensures) (c .if1 .left)))
 
--- src/sheets.rt:102:1
 returns-2 : tie.Need-returns-2 Inv-loop μ-loop
 returns-2 c =
     let i = c .before .loop in

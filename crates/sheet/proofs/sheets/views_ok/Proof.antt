@@ -8,9 +8,6 @@ use borrow.Author.Needs.{needs}
 use native.Mathlib.Omega.{arith}
 use Rattle.sheet.proofs.sheets.views_ok.Statement.{statement}
 use Rattle.sheet.proofs.sheets.views_ok.Tie as tie
-use Rattle.sheet.proofs.sheets.views_ok.Reads as reads
-use Rattle.sheet.proofs.sheets.views_ok.Lts as lts
-use Rattle.sheet.proofs.sheets.view_at_ok.Reads as view-at-ok-reads
 
 abbrev Inv-loop : tie.InvT-loop
 Inv-loop count vs k₀ k = (k ≤ 4) × (all k (viewAtOk count vs) ≡ true)
@@ -18,33 +15,26 @@ Inv-loop count vs k₀ k = (k ≤ 4) × (all k (viewAtOk count vs) ≡ true)
 abbrev μ-loop : tie.MeasureT-loop
 μ-loop count vs k₀ k = 4 - k
 
--- src/sheets.rt:73:5
 loop-holds : tie.Need-loop-holds Inv-loop μ-loop
 loop-holds c = (search needs, all-none _)
 
--- src/sheets.rt:74:13
 view-at-ok-requires : tie.Need-view-at-ok-requires Inv-loop μ-loop
 view-at-ok-requires c κs = search needs
 
--- src/sheets.rt:75:13
 returns : tie.Need-returns Inv-loop μ-loop
 returns c =
     sym (all-false 4 _ (c .before .before .before .loop .k) (c .before .before .loop-test .taken) (went-not (c .before .view-at-ok .ensures) (c .if1 .taken)))
 
--- src/sheets.rt:77:9
 add-k : tie.Need-add-k Inv-loop μ-loop
 add-k c = search needs
 
--- src/sheets.rt:73:5
 loop-less : tie.Need-loop-less Inv-loop μ-loop
 loop-less c = search needs
 
--- src/sheets.rt:73:5
 loop-again : tie.Need-loop-again Inv-loop μ-loop
 loop-again c =
     (search needs, all-more _ _ (c .before .before .before .loop .inv .1) (went-past (c .before .view-at-ok .ensures) (c .if1 .left)))
 
--- src/sheets.rt:69:1
 returns-2 : tie.Need-returns-2 Inv-loop μ-loop
 returns-2 c =
     let i = c .before .loop in

@@ -1,18 +1,12 @@
 use Rattle.numbers.specs.Choice.{calls}
 use Rattle.sheet.specs.Sizes.{offsetOk}
-use borrow.Author.Needs.{needs}
-use native.Mathlib.Omega.{arith}
 use Rattle.sheet.proofs.sizes.offset_ok.Statement.{statement}
 use Rattle.sheet.proofs.sizes.offset_ok.Tie as tie
-use Rattle.sheet.proofs.sizes.offset_ok.Reads as reads
-use Rattle.sheet.proofs.sizes.offset_ok.Lts as lts
 
--- src/sizes.rt:55:9
 returns : tie.Need-returns
 unfolding offsetOk
 returns c = search calls depth 9
 
--- src/sizes.rt:51:1
 returns-2 : tie.Need-returns-2
 unfolding offsetOk
 returns-2 c = search calls depth 9

@@ -1,13 +1,8 @@
 use mathlib.Core.Path.{refl}
 use Rattle.sheet.specs.Sizes.{sideLimit}
-use borrow.Author.Needs.{needs}
-use native.Mathlib.Omega.{arith}
 use Rattle.sheet.proofs.sizes.side_limit.Statement.{statement}
 use Rattle.sheet.proofs.sizes.side_limit.Tie as tie
-use Rattle.sheet.proofs.sizes.side_limit.Reads as reads
-use Rattle.sheet.proofs.sizes.side_limit.Lts as lts
 
--- src/sizes.rt:23:1
 returns : tie.Need-returns
 unfolding sideLimit
 returns c = refl

@@ -1,46 +1,33 @@
 use Rattle.numbers.specs.Choice.{tests, stop, pass}
 use Rattle.sheet.specs.Steps.{reduceOk}
-use native.Mathlib.Omega.{arith}
 use borrow.Author.Needs.{needs}
 use Rattle.sheet.proofs.steps.reduce_ok.Statement.{statement}
 use Rattle.sheet.proofs.steps.reduce_ok.Tie as tie
-use Rattle.sheet.proofs.steps.reduce_ok.Reads as reads
-use Rattle.sheet.proofs.steps.reduce_ok.Lts as lts
-use Rattle.sheet.proofs.sizes.register_ok.Reads as register-ok-reads
-use Rattle.sheet.proofs.sizes.side_ok.Reads as side-ok-reads
 
--- src/steps.rt:65:9
 register-ok-requires : tie.Need-register-ok-requires
 register-ok-requires c κs = search needs
 
--- src/steps.rt:66:9
 returns : tie.Need-returns
 unfolding reduceOk
 returns c = stop _ (search tests)
 
--- src/steps.rt:68:9
 register-ok-requires-2 : tie.Need-register-ok-requires-2
 register-ok-requires-2 c κs = search needs
 
--- src/steps.rt:69:9
 returns-2 : tie.Need-returns-2
 unfolding reduceOk
 returns-2 c = pass (search tests) (stop _ (search tests))
 
--- src/steps.rt:71:9
 side-ok-requires : tie.Need-side-ok-requires
 side-ok-requires c κs = search needs
 
--- src/steps.rt:72:9
 returns-3 : tie.Need-returns-3
 unfolding reduceOk
 returns-3 c = pass (search tests) (pass (search tests) (stop _ (search tests)))
 
--- src/steps.rt:74:5
 side-ok-requires-2 : tie.Need-side-ok-requires-2
 side-ok-requires-2 c κs = search needs
 
--- src/steps.rt:62:1
 returns-4 : tie.Need-returns-4
 unfolding reduceOk
 returns-4 c = pass (search tests) (pass (search tests) (pass (search tests) (search tests)))

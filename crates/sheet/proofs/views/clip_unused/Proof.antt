@@ -1,18 +1,12 @@
 use Rattle.numbers.specs.Choice.{tests, stop, pass}
 use Rattle.sheet.specs.Views.{clipUnused}
-use borrow.Author.Needs.{needs}
-use native.Mathlib.Omega.{arith}
 use Rattle.sheet.proofs.views.clip_unused.Statement.{statement}
 use Rattle.sheet.proofs.views.clip_unused.Tie as tie
-use Rattle.sheet.proofs.views.clip_unused.Reads as reads
-use Rattle.sheet.proofs.views.clip_unused.Lts as lts
 
--- src/views.rt:143:9
 returns : tie.Need-returns
 unfolding clipUnused
 returns c = stop _ (search tests)
 
--- src/views.rt:139:1
 returns-2 : tie.Need-returns-2
 unfolding clipUnused
 returns-2 c = pass (search tests) (search tests)

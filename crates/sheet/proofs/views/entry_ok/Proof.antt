@@ -1,32 +1,23 @@
 use Rattle.numbers.specs.Choice.{both, calls}
 use Rattle.sheet.specs.Views.{entryOk}
-use native.Mathlib.Omega.{arith}
 use borrow.Author.Needs.{needs}
 use Rattle.sheet.proofs.views.entry_ok.Statement.{statement}
 use Rattle.sheet.proofs.views.entry_ok.Tie as tie
-use Rattle.sheet.proofs.views.entry_ok.Reads as reads
-use Rattle.sheet.proofs.views.entry_ok.Lts as lts
-use Rattle.sheet.proofs.views.fresh.Reads as fresh-reads
 
--- src/views.rt:56:13
 array-read-e : tie.Need-array-read-e
 array-read-e c = search needs
 
--- src/views.rt:59:13
 fresh-requires : tie.Need-fresh-requires
 fresh-requires c κs = search needs
 
--- src/views.rt:59:13
 returns : tie.Need-returns
 unfolding entryOk both
 returns c = search calls depth 9
 
--- src/views.rt:61:9
 returns-2 : tie.Need-returns-2
 unfolding entryOk both
 returns-2 c = search calls depth 9
 
--- src/views.rt:52:1
 returns-3 : tie.Need-returns-3
 unfolding entryOk both
 returns-3 c = search calls depth 9

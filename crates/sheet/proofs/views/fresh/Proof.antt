@@ -10,8 +10,6 @@ use borrow.Author.Needs.{needs}
 use native.Mathlib.Omega.{arith}
 use Rattle.sheet.proofs.views.fresh.Statement.{statement}
 use Rattle.sheet.proofs.views.fresh.Tie as tie
-use Rattle.sheet.proofs.views.fresh.Reads as reads
-use Rattle.sheet.proofs.views.fresh.Lts as lts
 
 abbrev Inv-loop : tie.InvT-loop
 Inv-loop k p j₀ j = (j ≤ k) × (all j (λ (i : ℕ). not (eqb (getD p i 0) (getD p k 0))) ≡ true)
@@ -19,38 +17,30 @@ Inv-loop k p j₀ j = (j ≤ k) × (all j (λ (i : ℕ). not (eqb (getD p i 0) (
 abbrev μ-loop : tie.MeasureT-loop
 μ-loop k p j₀ j = k - j
 
--- src/views.rt:43:5
 loop-holds : tie.Need-loop-holds Inv-loop μ-loop
 loop-holds c = (search needs, all-none _)
 
--- src/views.rt:44:12
 array-read-if1 : tie.Need-array-read-if1 Inv-loop μ-loop
 array-read-if1 c = search needs
 
--- src/views.rt:44:20
 array-read-if1-2 : tie.Need-array-read-if1-2 Inv-loop μ-loop
 array-read-if1-2 c = search needs
 
--- src/views.rt:45:13
 returns : tie.Need-returns Inv-loop μ-loop
 unfolding fresh
 returns c =
     sym (all-false _ _ (c .before .before .loop .j) (c .before .loop-test .taken) (eq-not _ _ (c .if1 .taken)))
 
--- src/views.rt:47:9
 add-j : tie.Need-add-j Inv-loop μ-loop
 add-j c = search needs
 
--- src/views.rt:43:5
 loop-less : tie.Need-loop-less Inv-loop μ-loop
 loop-less c = search needs
 
--- src/views.rt:43:5
 loop-again : tie.Need-loop-again Inv-loop μ-loop
 loop-again c =
     (search needs, all-more _ _ (c .before .before .loop .inv .1) (ne-not _ _ (c .if1 .left)))
 
--- src/views.rt:38:1
 returns-2 : tie.Need-returns-2 Inv-loop μ-loop
 unfolding fresh
 returns-2 c =

@@ -1,18 +1,12 @@
-use Rattle.numbers.specs.Choice.{both, calls}
+use Rattle.numbers.specs.Choice.{calls}
 use Rattle.sheet.specs.Views.{sizedRank}
-use borrow.Author.Needs.{needs}
-use native.Mathlib.Omega.{arith}
 use Rattle.sheet.proofs.views.sized_rank.Statement.{statement}
 use Rattle.sheet.proofs.views.sized_rank.Tie as tie
-use Rattle.sheet.proofs.views.sized_rank.Reads as reads
-use Rattle.sheet.proofs.views.sized_rank.Lts as lts
 
--- src/views.rt:117:1
 returns : tie.Need-returns
 unfolding sizedRank
 returns c = search calls depth 9
 
--- src/views.rt:117:1
 returns-2 : tie.Need-returns-2
 unfolding sizedRank
 returns-2 c = search calls depth 9

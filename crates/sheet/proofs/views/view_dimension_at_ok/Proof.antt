@@ -1,36 +1,25 @@
-use Rattle.numbers.specs.Choice.{both, calls}
+use Rattle.numbers.specs.Choice.{calls}
 use Rattle.sheet.specs.Views.{viewDimensionAtOk}
-use native.Mathlib.Omega.{arith}
 use borrow.Author.Needs.{needs}
 use Rattle.sheet.proofs.views.view_dimension_at_ok.Statement.{statement}
 use Rattle.sheet.proofs.views.view_dimension_at_ok.Tie as tie
-use Rattle.sheet.proofs.views.view_dimension_at_ok.Reads as reads
-use Rattle.sheet.proofs.views.view_dimension_at_ok.Lts as lts
-use Rattle.sheet.proofs.sizes.size_ok.Reads as size-ok-reads
-use Rattle.sheet.proofs.views.view_dimension_unused.Reads as view-dimension-unused-reads
 
--- src/views.rt:94:13
 mul-d : tie.Need-mul-d
 mul-d c = search needs
 
--- src/views.rt:94:13
 array-copy-out-d : tie.Need-array-copy-out-d
 array-copy-out-d c = search needs
 
--- src/views.rt:96:9
 size-ok-requires : tie.Need-size-ok-requires
 size-ok-requires c κs = search needs
 
--- src/views.rt:98:9
 view-dimension-unused-requires : tie.Need-view-dimension-unused-requires
 view-dimension-unused-requires c κs = search needs
 
--- src/views.rt:90:1
 returns : tie.Need-returns
 unfolding viewDimensionAtOk
 returns c = search calls depth 9
 
--- src/views.rt:90:1
 returns-2 : tie.Need-returns-2
 unfolding viewDimensionAtOk
 returns-2 c = search calls depth 9

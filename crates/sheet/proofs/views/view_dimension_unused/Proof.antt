@@ -1,18 +1,12 @@
 use Rattle.numbers.specs.Choice.{tests, stop, pass}
 use Rattle.sheet.specs.Views.{viewDimensionUnused}
-use borrow.Author.Needs.{needs}
-use native.Mathlib.Omega.{arith}
 use Rattle.sheet.proofs.views.view_dimension_unused.Statement.{statement}
 use Rattle.sheet.proofs.views.view_dimension_unused.Tie as tie
-use Rattle.sheet.proofs.views.view_dimension_unused.Reads as reads
-use Rattle.sheet.proofs.views.view_dimension_unused.Lts as lts
 
--- src/views.rt:84:9
 returns : tie.Need-returns
 unfolding viewDimensionUnused
 returns c = stop _ (search tests)
 
--- src/views.rt:80:1
 returns-2 : tie.Need-returns-2
 unfolding viewDimensionUnused
 returns-2 c = pass (search tests) (search tests)

@@ -8,9 +8,6 @@ use borrow.Author.Needs.{needs}
 use native.Mathlib.Omega.{arith}
 use Rattle.sheet.proofs.views.view_dimensions_ok.Statement.{statement}
 use Rattle.sheet.proofs.views.view_dimensions_ok.Tie as tie
-use Rattle.sheet.proofs.views.view_dimensions_ok.Reads as reads
-use Rattle.sheet.proofs.views.view_dimensions_ok.Lts as lts
-use Rattle.sheet.proofs.views.view_dimension_at_ok.Reads as view-dimension-at-ok-reads
 
 abbrev Inv-loop : tie.InvT-loop
 Inv-loop count ds k₀ k = (k ≤ 5) × (all k (viewDimensionAtOk count ds) ≡ true)
@@ -18,33 +15,26 @@ Inv-loop count ds k₀ k = (k ≤ 5) × (all k (viewDimensionAtOk count ds) ≡ 
 abbrev μ-loop : tie.MeasureT-loop
 μ-loop count ds k₀ k = 5 - k
 
--- src/views.rt:107:5
 loop-holds : tie.Need-loop-holds Inv-loop μ-loop
 loop-holds c = (search needs, all-none _)
 
--- src/views.rt:108:13
 view-dimension-at-ok-requires : tie.Need-view-dimension-at-ok-requires Inv-loop μ-loop
 view-dimension-at-ok-requires c κs = search needs
 
--- src/views.rt:109:13
 returns : tie.Need-returns Inv-loop μ-loop
 returns c =
     sym (all-false 5 _ (c .before .before .before .loop .k) (c .before .before .loop-test .taken) (went-not (c .before .view-dimension-at-ok .ensures) (c .if1 .taken)))
 
--- src/views.rt:111:9
 add-k : tie.Need-add-k Inv-loop μ-loop
 add-k c = search needs
 
--- src/views.rt:107:5
 loop-less : tie.Need-loop-less Inv-loop μ-loop
 loop-less c = search needs
 
--- src/views.rt:107:5
 loop-again : tie.Need-loop-again Inv-loop μ-loop
 loop-again c =
     (search needs, all-more _ _ (c .before .before .before .loop .inv .1) (went-past (c .before .view-dimension-at-ok .ensures) (c .if1 .left)))
 
--- src/views.rt:103:1
 returns-2 : tie.Need-returns-2 Inv-loop μ-loop
 returns-2 c =
     let i = c .before .loop in

@@ -1,57 +1,41 @@
 use Rattle.numbers.specs.Choice.{tests, stop, pass}
 use Rattle.sheet.specs.Views.{viewUnused}
-use native.Mathlib.Omega.{arith}
 use borrow.Author.Needs.{needs}
 use Rattle.sheet.proofs.views.view_unused.Statement.{statement}
 use Rattle.sheet.proofs.views.view_unused.Tie as tie
-use Rattle.sheet.proofs.views.view_unused.Reads as reads
-use Rattle.sheet.proofs.views.view_unused.Lts as lts
-use Rattle.sheet.proofs.views.clip_unused.Reads as clip-unused-reads
-use Rattle.sheet.proofs.views.permutation_ok.Reads as permutation-ok-reads
-use Rattle.sheet.proofs.views.view_dimensions_ok.Reads as view-dimensions-ok-reads
 
--- src/views.rt:152:9
 returns : tie.Need-returns
 unfolding viewUnused
 returns c = stop _ (search tests)
 
--- src/views.rt:155:9
 returns-2 : tie.Need-returns-2
 unfolding viewUnused
 returns-2 c = pass (search tests) (stop _ (search tests))
 
--- src/views.rt:158:9
 permutation-ok-requires : tie.Need-permutation-ok-requires
 permutation-ok-requires c κs = search needs
 
--- src/views.rt:159:9
 returns-3 : tie.Need-returns-3
 unfolding viewUnused
 returns-3 c = pass (search tests) (pass (search tests) (stop _ (search tests)))
 
--- src/views.rt:162:9
 view-dimensions-ok-requires : tie.Need-view-dimensions-ok-requires
 view-dimensions-ok-requires c κs = search needs
 
--- src/views.rt:163:9
 returns-4 : tie.Need-returns-4
 unfolding viewUnused
 returns-4 c = pass (search tests) (pass (search tests) (pass (search tests) (stop _ (search tests))))
 
--- src/views.rt:166:9
 clip-unused-requires : tie.Need-clip-unused-requires
 clip-unused-requires c κs = search needs
 
--- src/views.rt:167:9
 returns-5 : tie.Need-returns-5
 unfolding viewUnused
 returns-5 c = pass (search tests) (pass (search tests) (pass (search tests) (pass (search tests) (stop _ (search tests)))))
 
--- src/views.rt:170:5
 clip-unused-requires-2 : tie.Need-clip-unused-requires-2
 clip-unused-requires-2 c κs = search needs
 
--- src/views.rt:148:1
 returns-6 : tie.Need-returns-6
 unfolding viewUnused
 returns-6 c = pass (search tests) (pass (search tests) (pass (search tests) (pass (search tests) (pass (search tests) (search tests)))))

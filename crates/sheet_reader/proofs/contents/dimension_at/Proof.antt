@@ -1,49 +1,35 @@
 use Rattle.sheet_reader.specs.Contents.{dimensionAt}
-use native.Mathlib.Omega.{arith}
 use borrow.Author.Needs.{needs}
 use Rattle.sheet_reader.proofs.contents.dimension_at.Statement.{statement}
 use Rattle.sheet_reader.proofs.contents.dimension_at.Tie as tie
-use Rattle.sheet_reader.proofs.contents.dimension_at.Reads as reads
-use Rattle.sheet_reader.proofs.contents.dimension_at.Lts as lts
-use Rattle.numbers.proofs.u16_at.Reads as u16-at-reads
 
--- src/contents.rt:26:16
 u16-at-requires : tie.Need-u16-at-requires
 u16-at-requires c κs = search needs
 
--- src/contents.rt:27:25
 add-u16-at : tie.Need-add-u16-at
 add-u16-at c = search needs
 
--- src/contents.rt:27:15
 u16-at-requires-2 : tie.Need-u16-at-requires-2
 u16-at-requires-2 c κs = search needs
 
--- src/contents.rt:28:27
 add-u16-at-2 : tie.Need-add-u16-at-2
 add-u16-at-2 c = search needs
 
--- src/contents.rt:28:17
 u16-at-requires-3 : tie.Need-u16-at-requires-3
 u16-at-requires-3 c κs = search needs
 
--- src/contents.rt:29:27
 add-u16-at-3 : tie.Need-add-u16-at-3
 add-u16-at-3 c = search needs
 
--- src/contents.rt:29:17
 u16-at-requires-4 : tie.Need-u16-at-requires-4
 u16-at-requires-4 c κs = search needs
 
--- src/contents.rt:30:25
 add-u16-at-4 : tie.Need-add-u16-at-4
 add-u16-at-4 c = search needs
 
--- src/contents.rt:30:15
 u16-at-requires-5 : tie.Need-u16-at-requires-5
 u16-at-requires-5 c κs = search needs
 
--- src/contents.rt:21:1
 returns : tie.Need-returns
 unfolding dimensionAt
 returns c = cc

@@ -9,10 +9,6 @@ use borrow.Author.Needs.{needs}
 use native.Mathlib.Omega.{arith}
 use Rattle.sheet_reader.proofs.contents.dimensions_at.Statement.{statement}
 use Rattle.sheet_reader.proofs.contents.dimensions_at.Tie as tie
-use Rattle.sheet_reader.proofs.contents.dimensions_at.Reads as reads
-use Rattle.sheet_reader.proofs.contents.dimensions_at.Lts as lts
-use Rattle.sheet.proofs.layouts.no_dimension.Reads as no-dimension-reads
-use Rattle.sheet_reader.proofs.contents.dimension_at.Reads as dimension-at-reads
 
 abbrev Inv-loop : tie.InvT-loop
 Inv-loop s p rank ds₀ k₀ ds k = (k ≤ rank) × (ds ≡ line (replicate 5 noDimension) 0 (λ (i : ℕ). dimensionAt s (p + i * 10)) k)
@@ -20,47 +16,36 @@ Inv-loop s p rank ds₀ k₀ ds k = (k ≤ rank) × (ds ≡ line (replicate 5 no
 abbrev μ-loop : tie.MeasureT-loop
 μ-loop s p rank ds₀ k₀ ds k = rank - k
 
--- src/contents.rt:38:9
 no-dimension-requires : tie.Need-no-dimension-requires Inv-loop μ-loop
 no-dimension-requires c κs = search needs
 
--- src/contents.rt:41:5
 loop-holds : tie.Need-loop-holds Inv-loop μ-loop
 loop-holds c = (search needs, cc (line-start (replicate 5 noDimension) (λ (i : ℕ). dimensionAt (now (c .before .before .args .s)) (c .before .before .args .p + i * 10))))
 
--- src/contents.rt:42:37
 mul-dimension-at : tie.Need-mul-dimension-at Inv-loop μ-loop
 mul-dimension-at c = search needs
 
--- src/contents.rt:42:33
 add-dimension-at : tie.Need-add-dimension-at Inv-loop μ-loop
 add-dimension-at c = search needs
 
--- src/contents.rt:42:17
 dimension-at-requires : tie.Need-dimension-at-requires Inv-loop μ-loop
 dimension-at-requires c κs = search needs
 
--- src/contents.rt:42:9
 mul-ds : tie.Need-mul-ds Inv-loop μ-loop
 mul-ds c = search needs
 
--- src/contents.rt:42:9
 array-set-from-ds : tie.Need-array-set-from-ds Inv-loop μ-loop
 array-set-from-ds c = search needs
 
--- src/contents.rt:43:9
 add-k : tie.Need-add-k Inv-loop μ-loop
 add-k c = search needs
 
--- src/contents.rt:41:5
 loop-less : tie.Need-loop-less Inv-loop μ-loop
 loop-less c = search needs
 
--- src/contents.rt:41:5
 loop-again : tie.Need-loop-again Inv-loop μ-loop
 loop-again c = (search needs, line-step _ _ _ (c .before .before .loop .inv .1) (c .dimension-at .ensures))
 
--- src/contents.rt:34:1
 returns : tie.Need-returns Inv-loop μ-loop
 unfolding dimensionsAt
 returns c =

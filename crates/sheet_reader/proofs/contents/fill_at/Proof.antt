@@ -1,49 +1,35 @@
 use Rattle.sheet_reader.specs.Contents.{fillAt}
-use native.Mathlib.Omega.{arith}
 use borrow.Author.Needs.{needs}
 use Rattle.sheet_reader.proofs.contents.fill_at.Statement.{statement}
 use Rattle.sheet_reader.proofs.contents.fill_at.Tie as tie
-use Rattle.sheet_reader.proofs.contents.fill_at.Reads as reads
-use Rattle.sheet_reader.proofs.contents.fill_at.Lts as lts
-use Rattle.numbers.proofs.u32_at.Reads as u32-at-reads
 
--- src/contents.rt:202:19
 shared-slice-read-t4 : tie.Need-shared-slice-read-t4
 shared-slice-read-t4 c = search needs
 
--- src/contents.rt:203:17
 add-t5 : tie.Need-add-t5
 add-t5 c = search needs
 
--- src/contents.rt:203:15
 shared-slice-read-t7 : tie.Need-shared-slice-read-t7
 shared-slice-read-t7 c = search needs
 
--- src/contents.rt:204:20
 add-t8 : tie.Need-add-t8
 add-t8 c = search needs
 
--- src/contents.rt:204:18
 shared-slice-read-t10 : tie.Need-shared-slice-read-t10
 shared-slice-read-t10 c = search needs
 
--- src/contents.rt:205:17
 add-t11 : tie.Need-add-t11
 add-t11 c = search needs
 
--- src/contents.rt:205:15
 shared-slice-read-t13 : tie.Need-shared-slice-read-t13
 shared-slice-read-t13 c = search needs
 
--- src/contents.rt:206:26
 add-u32-at : tie.Need-add-u32-at
 add-u32-at c = search needs
 
--- src/contents.rt:206:16
 u32-at-requires : tie.Need-u32-at-requires
 u32-at-requires c κs = search needs
 
--- src/contents.rt:197:1
 returns : tie.Need-returns
 unfolding fillAt
 returns c = cc

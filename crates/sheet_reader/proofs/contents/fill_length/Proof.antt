@@ -1,13 +1,8 @@
 use mathlib.Core.Path.{refl}
 use Rattle.sheet_reader.specs.Contents.{fillLength}
-use borrow.Author.Needs.{needs}
-use native.Mathlib.Omega.{arith}
 use Rattle.sheet_reader.proofs.contents.fill_length.Statement.{statement}
 use Rattle.sheet_reader.proofs.contents.fill_length.Tie as tie
-use Rattle.sheet_reader.proofs.contents.fill_length.Reads as reads
-use Rattle.sheet_reader.proofs.contents.fill_length.Lts as lts
 
--- src/contents.rt:298:1
 returns : tie.Need-returns
 unfolding fillLength
 returns c = refl

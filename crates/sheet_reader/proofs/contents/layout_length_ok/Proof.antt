@@ -1,23 +1,16 @@
 use Rattle.numbers.specs.Choice.{tests, stop, pass}
 use Rattle.sheet_reader.specs.Contents.{layoutLengthOk}
-use native.Mathlib.Omega.{arith}
 use borrow.Author.Needs.{needs}
 use Rattle.sheet_reader.proofs.contents.layout_length_ok.Statement.{statement}
 use Rattle.sheet_reader.proofs.contents.layout_length_ok.Tie as tie
-use Rattle.sheet_reader.proofs.contents.layout_length_ok.Reads as reads
-use Rattle.sheet_reader.proofs.contents.layout_length_ok.Lts as lts
-use Rattle.numbers.proofs.between.Reads as between-reads
 
--- src/contents.rt:69:9
 between-requires : tie.Need-between-requires
 between-requires c κs = search needs
 
--- src/contents.rt:70:9
 returns : tie.Need-returns
 unfolding layoutLengthOk
 returns c = stop _ (search tests)
 
--- src/contents.rt:66:1
 returns-2 : tie.Need-returns-2
 unfolding layoutLengthOk
 returns-2 c = pass (search tests) (search tests)

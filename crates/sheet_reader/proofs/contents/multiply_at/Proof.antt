@@ -1,40 +1,29 @@
 use Rattle.sheet_reader.specs.Contents.{multiplyAt}
-use native.Mathlib.Omega.{arith}
 use borrow.Author.Needs.{needs}
 use Rattle.sheet_reader.proofs.contents.multiply_at.Statement.{statement}
 use Rattle.sheet_reader.proofs.contents.multiply_at.Tie as tie
-use Rattle.sheet_reader.proofs.contents.multiply_at.Reads as reads
-use Rattle.sheet_reader.proofs.contents.multiply_at.Lts as lts
 
--- src/contents.rt:275:17
 shared-slice-read-t4 : tie.Need-shared-slice-read-t4
 shared-slice-read-t4 c = search needs
 
--- src/contents.rt:276:14
 add-t5 : tie.Need-add-t5
 add-t5 c = search needs
 
--- src/contents.rt:276:12
 shared-slice-read-t7 : tie.Need-shared-slice-read-t7
 shared-slice-read-t7 c = search needs
 
--- src/contents.rt:277:14
 add-t8 : tie.Need-add-t8
 add-t8 c = search needs
 
--- src/contents.rt:277:12
 shared-slice-read-t10 : tie.Need-shared-slice-read-t10
 shared-slice-read-t10 c = search needs
 
--- src/contents.rt:278:14
 add-t11 : tie.Need-add-t11
 add-t11 c = search needs
 
--- src/contents.rt:278:12
 shared-slice-read-t13 : tie.Need-shared-slice-read-t13
 shared-slice-read-t13 c = search needs
 
--- src/contents.rt:270:1
 returns : tie.Need-returns
 unfolding multiplyAt
 returns c = cc

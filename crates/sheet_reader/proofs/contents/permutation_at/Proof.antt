@@ -1,15 +1,13 @@
 use mathlib.Core.Path.{refl}
 use Rattle.numbers.specs.Lists.{line, line-start, line-step}
 use mathlib.Core.Path.{_≡_}
-use Prim.Native.Nat.{ℕ, _+_, _*_, _-_, _≤_}
+use Prim.Native.Nat.{ℕ, _+_, _-_, _≤_}
 use lib.ListN.{replicate, getD}
 use Rattle.sheet_reader.specs.Contents.{permutationAt}
 use borrow.Author.Needs.{needs}
 use native.Mathlib.Omega.{arith}
 use Rattle.sheet_reader.proofs.contents.permutation_at.Statement.{statement}
 use Rattle.sheet_reader.proofs.contents.permutation_at.Tie as tie
-use Rattle.sheet_reader.proofs.contents.permutation_at.Reads as reads
-use Rattle.sheet_reader.proofs.contents.permutation_at.Lts as lts
 
 abbrev Inv-loop : tie.InvT-loop
 Inv-loop s p rank entries₀ k₀ entries k = (k ≤ rank) × (entries ≡ line (replicate 5 0) 0 (λ (i : ℕ). getD s (p + i) 0) k)
@@ -17,35 +15,27 @@ Inv-loop s p rank entries₀ k₀ entries k = (k ≤ rank) × (entries ≡ line 
 abbrev μ-loop : tie.MeasureT-loop
 μ-loop s p rank entries₀ k₀ entries k = rank - k
 
--- src/contents.rt:96:5
 loop-holds : tie.Need-loop-holds Inv-loop μ-loop
 loop-holds c = (search needs, line-start _ _)
 
--- src/contents.rt:97:24
 add-entries : tie.Need-add-entries Inv-loop μ-loop
 add-entries c = search needs
 
--- src/contents.rt:97:22
 shared-slice-read-entries : tie.Need-shared-slice-read-entries Inv-loop μ-loop
 shared-slice-read-entries c = search needs
 
--- src/contents.rt:97:9
 array-write-entries : tie.Need-array-write-entries Inv-loop μ-loop
 array-write-entries c = search needs
 
--- src/contents.rt:98:9
 add-k : tie.Need-add-k Inv-loop μ-loop
 add-k c = search needs
 
--- src/contents.rt:96:5
 loop-less : tie.Need-loop-less Inv-loop μ-loop
 loop-less c = search needs
 
--- src/contents.rt:96:5
 loop-again : tie.Need-loop-again Inv-loop μ-loop
 loop-again c = (search needs, line-step _ _ _ (c .before .before .loop .inv .1) refl)
 
--- src/contents.rt:90:1
 returns : tie.Need-returns Inv-loop μ-loop
 unfolding permutationAt
 returns c =

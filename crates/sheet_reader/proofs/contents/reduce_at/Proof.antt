@@ -1,92 +1,66 @@
 use mathlib.Core.Path.{refl}
 use Rattle.numbers.specs.Choice.{tests, taken, left}
 use Rattle.sheet_reader.specs.Contents.{reduceAt}
-use native.Mathlib.Omega.{arith}
 use borrow.Author.Needs.{needs}
 use Rattle.sheet_reader.proofs.contents.reduce_at.Statement.{statement}
 use Rattle.sheet_reader.proofs.contents.reduce_at.Tie as tie
-use Rattle.sheet_reader.proofs.contents.reduce_at.Reads as reads
-use Rattle.sheet_reader.proofs.contents.reduce_at.Lts as lts
-use Rattle.numbers.proofs.between.Reads as between-reads
-use Rattle.numbers.proofs.wide.Reads as wide-reads
-use Rattle.sheet.proofs.codes.combine_of.Reads as combine-of-reads
-use Rattle.sheet.proofs.codes.reduce_mode.Reads as reduce-mode-reads
 
--- src/contents.rt:240:18
 add-mode : tie.Need-add-mode
 add-mode c = search needs
 
--- src/contents.rt:240:16
 shared-slice-read-mode : tie.Need-shared-slice-read-mode
 shared-slice-read-mode c = search needs
 
--- src/contents.rt:241:21
 add-combine : tie.Need-add-combine
 add-combine c = search needs
 
--- src/contents.rt:241:19
 shared-slice-read-combine : tie.Need-shared-slice-read-combine
 shared-slice-read-combine c = search needs
 
--- src/contents.rt:242:32
 wide-requires : tie.Need-wide-requires
 wide-requires c κs = search needs
 
--- src/contents.rt:242:32
 cast-between : tie.Need-cast-between
 cast-between c = search needs
 
--- src/contents.rt:242:9
 between-requires : tie.Need-between-requires
 between-requires c κs = search needs
 
--- src/contents.rt:243:9
 returns : tie.Need-returns
 unfolding reduceAt
 returns c = left _ (rw (← c .before .before .wide .ensures .0) (search tests)) refl
 
--- src/contents.rt:246:9
 returns-2 : tie.Need-returns-2
 unfolding reduceAt
 returns-2 c = taken _ (rw (← c .before .before .before .wide .ensures .0) (search tests)) (left _ (search tests) refl)
 
--- src/contents.rt:248:9
 reduce-mode-requires : tie.Need-reduce-mode-requires
 reduce-mode-requires c κs = search needs
 
--- src/contents.rt:249:9
 combine-of-requires : tie.Need-combine-of-requires
 combine-of-requires c κs = search needs
 
--- src/contents.rt:251:17
 shared-slice-read-t9 : tie.Need-shared-slice-read-t9
 shared-slice-read-t9 c = search needs
 
--- src/contents.rt:252:19
 add-t7 : tie.Need-add-t7
 add-t7 c = search needs
 
--- src/contents.rt:252:17
 shared-slice-read-t16 : tie.Need-shared-slice-read-t16
 shared-slice-read-t16 c = search needs
 
--- src/contents.rt:253:17
 add-t17 : tie.Need-add-t17
 add-t17 c = search needs
 
--- src/contents.rt:253:15
 shared-slice-read-t19 : tie.Need-shared-slice-read-t19
 shared-slice-read-t19 c = search needs
 
--- src/contents.rt:254:20
 add-t20 : tie.Need-add-t20
 add-t20 c = search needs
 
--- src/contents.rt:254:18
 shared-slice-read-t22 : tie.Need-shared-slice-read-t22
 shared-slice-read-t22 c = search needs
 
--- src/contents.rt:236:1
 returns-3 : tie.Need-returns-3
 unfolding reduceAt
 returns-3 c =

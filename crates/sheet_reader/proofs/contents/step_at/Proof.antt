@@ -1,77 +1,55 @@
 use borrow.Author.Tests.{ne-eqb}
 use Rattle.numbers.specs.Choice.{pick}
 use Rattle.sheet_reader.specs.Contents.{stepAt, stepLength, fillLength}
-use borrow.Author.Needs.{needs}
-use native.Mathlib.Omega.{arith}
 use Rattle.sheet_reader.proofs.contents.step_at.Statement.{statement}
 use Rattle.sheet_reader.proofs.contents.step_at.Tie as tie
-use Rattle.sheet_reader.proofs.contents.step_at.Reads as reads
-use Rattle.sheet_reader.proofs.contents.step_at.Lts as lts
-use Rattle.sheet_reader.proofs.contents.fill_at.Reads as fill-at-reads
-use Rattle.sheet_reader.proofs.contents.load_at.Reads as load-at-reads
-use Rattle.sheet_reader.proofs.contents.multiply_at.Reads as multiply-at-reads
-use Rattle.sheet_reader.proofs.contents.reduce_at.Reads as reduce-at-reads
-use Rattle.sheet_reader.proofs.contents.store_at.Reads as store-at-reads
-use Rattle.sheet_reader.proofs.contents.transpose_at.Reads as transpose-at-reads
 
--- src/contents.rt:288:17
 fill-at-requires : tie.Need-fill-at-requires
 unfolding stepLength fillLength pick
 fill-at-requires c κs = rw (c .match .keys1) at (c .before .before .pre)
 
--- src/contents.rt:289:17
 load-at-requires : tie.Need-load-at-requires
 unfolding stepLength pick
 load-at-requires c κs = rw (c .match .keys2) at (c .before .before .pre)
 
--- src/contents.rt:290:17
 store-at-requires : tie.Need-store-at-requires
 unfolding stepLength pick
 store-at-requires c κs = rw (c .match .keys3) at (c .before .before .pre)
 
--- src/contents.rt:291:17
 reduce-at-requires : tie.Need-reduce-at-requires
 unfolding stepLength pick
 reduce-at-requires c κs = rw (c .match .keys4) at (c .before .before .pre)
 
--- src/contents.rt:292:17
 transpose-at-requires : tie.Need-transpose-at-requires
 unfolding stepLength pick
 transpose-at-requires c κs = rw (c .match .keys5) at (c .before .before .pre)
 
--- src/contents.rt:293:14
 multiply-at-requires : tie.Need-multiply-at-requires
 unfolding stepLength pick
 multiply-at-requires c κs =
     let m = c .match .rest in
     rw (ne-eqb _ _ (m .0 .0 .0 .0 .1), ne-eqb _ _ (m .0 .0 .0 .1), ne-eqb _ _ (m .0 .0 .1), ne-eqb _ _ (m .0 .1), ne-eqb _ _ (m .1)) at (c .before .before .pre)
 
--- src/contents.rt:283:1
 returns : tie.Need-returns
 unfolding stepAt pick
 returns c = rw (c .before .match .keys1) (c .fill-at .ensures)
 
--- src/contents.rt:283:1
 returns-2 : tie.Need-returns-2
 unfolding stepAt pick
 returns-2 c = rw (c .before .match .keys2) (c .load-at .ensures)
 
--- src/contents.rt:283:1
 returns-3 : tie.Need-returns-3
 unfolding stepAt pick
 returns-3 c = rw (c .before .match .keys3) (c .store-at .ensures)
 
--- src/contents.rt:283:1
 returns-4 : tie.Need-returns-4
 unfolding stepAt pick
 returns-4 c = rw (c .before .match .keys4) (c .reduce-at .ensures)
 
--- src/contents.rt:283:1
 returns-5 : tie.Need-returns-5
 unfolding stepAt pick
 returns-5 c = rw (c .before .match .keys5) (c .transpose-at .ensures)
 
--- src/contents.rt:283:1
 returns-6 : tie.Need-returns-6
 unfolding stepAt pick
 returns-6 c =

@@ -1,44 +1,33 @@
 use borrow.Author.Tests.{ne-eqb}
 use Rattle.numbers.specs.Choice.{pick}
 use Rattle.sheet_reader.specs.Contents.{stepLength}
-use native.Mathlib.Omega.{arith}
 use borrow.Author.Needs.{needs}
 use Rattle.sheet_reader.proofs.contents.step_length.Statement.{statement}
 use Rattle.sheet_reader.proofs.contents.step_length.Tie as tie
-use Rattle.sheet_reader.proofs.contents.step_length.Reads as reads
-use Rattle.sheet_reader.proofs.contents.step_length.Lts as lts
-use Rattle.sheet_reader.proofs.contents.fill_length.Reads as fill-length-reads
 
--- src/contents.rt:308:17
 fill-length-requires : tie.Need-fill-length-requires
 fill-length-requires c κs = search needs
 
--- src/contents.rt:304:1
 returns : tie.Need-returns
 unfolding stepLength pick
 returns c = rw (c .before .match .keys1) (c .fill-length .ensures)
 
--- src/contents.rt:304:1
 returns-2 : tie.Need-returns-2
 unfolding stepLength pick
 returns-2 c = rw (c .match .keys2)
 
--- src/contents.rt:304:1
 returns-3 : tie.Need-returns-3
 unfolding stepLength pick
 returns-3 c = rw (c .match .keys3)
 
--- src/contents.rt:304:1
 returns-4 : tie.Need-returns-4
 unfolding stepLength pick
 returns-4 c = rw (c .match .keys4)
 
--- src/contents.rt:304:1
 returns-5 : tie.Need-returns-5
 unfolding stepLength pick
 returns-5 c = rw (c .match .keys5)
 
--- src/contents.rt:304:1
 returns-6 : tie.Need-returns-6
 unfolding stepLength pick
 returns-6 c =

@@ -1,41 +1,29 @@
 use Rattle.sheet_reader.specs.Contents.{storeAt}
-use native.Mathlib.Omega.{arith}
 use borrow.Author.Needs.{needs}
 use Rattle.sheet_reader.proofs.contents.store_at.Statement.{statement}
 use Rattle.sheet_reader.proofs.contents.store_at.Tie as tie
-use Rattle.sheet_reader.proofs.contents.store_at.Reads as reads
-use Rattle.sheet_reader.proofs.contents.store_at.Lts as lts
-use Rattle.numbers.proofs.u32_at.Reads as u32-at-reads
 
--- src/contents.rt:228:19
 shared-slice-read-t4 : tie.Need-shared-slice-read-t4
 shared-slice-read-t4 c = search needs
 
--- src/contents.rt:229:19
 add-t5 : tie.Need-add-t5
 add-t5 c = search needs
 
--- src/contents.rt:229:17
 shared-slice-read-t7 : tie.Need-shared-slice-read-t7
 shared-slice-read-t7 c = search needs
 
--- src/contents.rt:230:17
 add-t8 : tie.Need-add-t8
 add-t8 c = search needs
 
--- src/contents.rt:230:15
 shared-slice-read-t10 : tie.Need-shared-slice-read-t10
 shared-slice-read-t10 c = search needs
 
--- src/contents.rt:231:25
 add-u32-at : tie.Need-add-u32-at
 add-u32-at c = search needs
 
--- src/contents.rt:231:15
 u32-at-requires : tie.Need-u32-at-requires
 u32-at-requires c κs = search needs
 
--- src/contents.rt:223:1
 returns : tie.Need-returns
 unfolding storeAt
 returns c = cc

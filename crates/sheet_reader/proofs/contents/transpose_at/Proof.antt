@@ -1,24 +1,17 @@
 use Rattle.sheet_reader.specs.Contents.{transposeAt}
-use native.Mathlib.Omega.{arith}
 use borrow.Author.Needs.{needs}
 use Rattle.sheet_reader.proofs.contents.transpose_at.Statement.{statement}
 use Rattle.sheet_reader.proofs.contents.transpose_at.Tie as tie
-use Rattle.sheet_reader.proofs.contents.transpose_at.Reads as reads
-use Rattle.sheet_reader.proofs.contents.transpose_at.Lts as lts
 
--- src/contents.rt:265:17
 shared-slice-read-t4 : tie.Need-shared-slice-read-t4
 shared-slice-read-t4 c = search needs
 
--- src/contents.rt:266:19
 add-t5 : tie.Need-add-t5
 add-t5 c = search needs
 
--- src/contents.rt:266:17
 shared-slice-read-t7 : tie.Need-shared-slice-read-t7
 shared-slice-read-t7 c = search needs
 
--- src/contents.rt:260:1
 returns : tie.Need-returns
 unfolding transposeAt
 returns c = cc

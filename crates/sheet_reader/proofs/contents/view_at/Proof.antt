@@ -1,40 +1,27 @@
-use mathlib.Core.Path.{_≡_, sym, ap, _∙_}
-use denote.Ref.{now}
-use Rattle.sheet_reader.specs.Contents.{viewAt, viewOf}
+use Rattle.sheet_reader.specs.Contents.{viewAt}
 use Rattle.sheet_reader.proofs.Laws.{view-head}
-use native.Mathlib.Omega.{arith}
 use borrow.Author.Needs.{needs}
 use Rattle.sheet_reader.proofs.contents.view_at.Statement.{statement}
 use Rattle.sheet_reader.proofs.contents.view_at.Tie as tie
-use Rattle.sheet_reader.proofs.contents.view_at.Reads as reads
-use Rattle.sheet_reader.proofs.contents.view_at.Lts as lts
-use Rattle.sheet.proofs.views.sized_rank.Reads as sized-rank-reads
-use Rattle.sheet_reader.proofs.contents.view_of.Reads as view-of-reads
 
--- src/contents.rt:162:16
 shared-slice-read-rank : tie.Need-shared-slice-read-rank
 shared-slice-read-rank c = search needs
 
--- src/contents.rt:163:19
 add-sized : tie.Need-add-sized
 add-sized c = search needs
 
--- src/contents.rt:163:17
 shared-slice-read-sized : tie.Need-shared-slice-read-sized
 shared-slice-read-sized c = search needs
 
--- src/contents.rt:164:32
 sized-rank-requires : tie.Need-sized-rank-requires
 sized-rank-requires c κs = search needs
 
--- src/contents.rt:164:5
 view-of-requires : tie.Need-view-of-requires
 view-of-requires c κs =
     let h = view-head _ _ _ (c .before .before .before .before .pre .2) in
     let e = c .sized-rank .ensures in
     (h .few, rw e (h .own), rw (e, h .fills) (c .before .before .before .before .pre .1))
 
--- src/contents.rt:158:1
 returns : tie.Need-returns
 unfolding viewAt
 returns c = cc

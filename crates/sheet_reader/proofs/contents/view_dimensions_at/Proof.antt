@@ -9,10 +9,6 @@ use borrow.Author.Needs.{needs}
 use native.Mathlib.Omega.{arith}
 use Rattle.sheet_reader.proofs.contents.view_dimensions_at.Statement.{statement}
 use Rattle.sheet_reader.proofs.contents.view_dimensions_at.Tie as tie
-use Rattle.sheet_reader.proofs.contents.view_dimensions_at.Reads as reads
-use Rattle.sheet_reader.proofs.contents.view_dimensions_at.Lts as lts
-use Rattle.sheet.proofs.views.no_view_dimension.Reads as no-view-dimension-reads
-use Rattle.sheet_reader.proofs.contents.view_dimension_at.Reads as view-dimension-at-reads
 
 abbrev Inv-loop : tie.InvT-loop
 Inv-loop s p count ds₀ k₀ ds k = (k ≤ count) × (ds ≡ line (replicate 5 noViewDimension) 0 (λ (i : ℕ). viewDimensionAt s (p + i * 4)) k)
@@ -20,47 +16,36 @@ Inv-loop s p count ds₀ k₀ ds k = (k ≤ count) × (ds ≡ line (replicate 5 
 abbrev μ-loop : tie.MeasureT-loop
 μ-loop s p count ds₀ k₀ ds k = count - k
 
--- src/contents.rt:117:9
 no-view-dimension-requires : tie.Need-no-view-dimension-requires Inv-loop μ-loop
 no-view-dimension-requires c κs = search needs
 
--- src/contents.rt:120:5
 loop-holds : tie.Need-loop-holds Inv-loop μ-loop
 loop-holds c = (search needs, cc (line-start (replicate 5 noViewDimension) (λ (i : ℕ). viewDimensionAt (now (c .before .before .args .s)) (c .before .before .args .p + i * 4))))
 
--- src/contents.rt:121:42
 mul-view-dimension-at : tie.Need-mul-view-dimension-at Inv-loop μ-loop
 mul-view-dimension-at c = search needs
 
--- src/contents.rt:121:38
 add-view-dimension-at : tie.Need-add-view-dimension-at Inv-loop μ-loop
 add-view-dimension-at c = search needs
 
--- src/contents.rt:121:17
 view-dimension-at-requires : tie.Need-view-dimension-at-requires Inv-loop μ-loop
 view-dimension-at-requires c κs = search needs
 
--- src/contents.rt:121:9
 mul-ds : tie.Need-mul-ds Inv-loop μ-loop
 mul-ds c = search needs
 
--- src/contents.rt:121:9
 array-set-from-ds : tie.Need-array-set-from-ds Inv-loop μ-loop
 array-set-from-ds c = search needs
 
--- src/contents.rt:122:9
 add-k : tie.Need-add-k Inv-loop μ-loop
 add-k c = search needs
 
--- src/contents.rt:120:5
 loop-less : tie.Need-loop-less Inv-loop μ-loop
 loop-less c = search needs
 
--- src/contents.rt:120:5
 loop-again : tie.Need-loop-again Inv-loop μ-loop
 loop-again c = (search needs, line-step _ _ _ (c .before .before .loop .inv .1) (c .view-dimension-at .ensures))
 
--- src/contents.rt:113:1
 returns : tie.Need-returns Inv-loop μ-loop
 unfolding viewDimensionsAt
 returns c =

@@ -1,33 +1,24 @@
 use mathlib.Core.Path.{refl}
 use Rattle.numbers.specs.Choice.{tests, taken, left, stop, pass}
 use Rattle.sheet_reader.specs.Contents.{viewLengthOk}
-use native.Mathlib.Omega.{arith}
 use borrow.Author.Needs.{needs}
 use Rattle.sheet_reader.proofs.contents.view_length_ok.Statement.{statement}
 use Rattle.sheet_reader.proofs.contents.view_length_ok.Tie as tie
-use Rattle.sheet_reader.proofs.contents.view_length_ok.Reads as reads
-use Rattle.sheet_reader.proofs.contents.view_length_ok.Lts as lts
-use Rattle.numbers.proofs.between.Reads as between-reads
 
--- src/contents.rt:171:8
 between-requires : tie.Need-between-requires
 between-requires c κs = search needs
 
--- src/contents.rt:172:9
 returns : tie.Need-returns
 unfolding viewLengthOk
 returns c = taken _ (search tests) refl
 
--- src/contents.rt:174:9
 between-requires-2 : tie.Need-between-requires-2
 between-requires-2 c κs = search needs
 
--- src/contents.rt:175:9
 returns-2 : tie.Need-returns-2
 unfolding viewLengthOk
 returns-2 c = left _ (search tests) (stop _ (search tests))
 
--- src/contents.rt:168:1
 returns-3 : tie.Need-returns-3
 unfolding viewLengthOk
 returns-3 c = left _ (search tests) (pass (search tests) (search tests))

@@ -1,75 +1,53 @@
 use Rattle.sheet_reader.specs.Contents.{viewOf}
-use native.Mathlib.Omega.{arith}
 use borrow.Author.Needs.{needs}
 use Rattle.sheet_reader.proofs.contents.view_of.Statement.{statement}
 use Rattle.sheet_reader.proofs.contents.view_of.Tie as tie
-use Rattle.sheet_reader.proofs.contents.view_of.Reads as reads
-use Rattle.sheet_reader.proofs.contents.view_of.Lts as lts
-use Rattle.sheet_reader.proofs.contents.clip_at.Reads as clip-at-reads
-use Rattle.sheet_reader.proofs.contents.permutation_at.Reads as permutation-at-reads
-use Rattle.sheet_reader.proofs.contents.view_dimensions_at.Reads as view-dimensions-at-reads
 
--- src/contents.rt:143:41
 add-permutation-at : tie.Need-add-permutation-at
 add-permutation-at c = search needs
 
--- src/contents.rt:143:9
 permutation-at-requires : tie.Need-permutation-at-requires
 permutation-at-requires c κs = search needs
 
--- src/contents.rt:144:44
 add-view-dimensions-at : tie.Need-add-view-dimensions-at
 add-view-dimensions-at c = search needs
 
--- src/contents.rt:144:44
 add-view-dimensions-at-2 : tie.Need-add-view-dimensions-at-2
 add-view-dimensions-at-2 c = search needs
 
--- src/contents.rt:144:9
 view-dimensions-at-requires : tie.Need-view-dimensions-at-requires
 view-dimensions-at-requires c κs = search needs
 
--- src/contents.rt:145:27
 add-clip-at : tie.Need-add-clip-at
 add-clip-at c = search needs
 
--- src/contents.rt:145:27
 add-clip-at-2 : tie.Need-add-clip-at-2
 add-clip-at-2 c = search needs
 
--- src/contents.rt:145:39
 mul-clip-at : tie.Need-mul-clip-at
 mul-clip-at c = search needs
 
--- src/contents.rt:145:27
 add-clip-at-3 : tie.Need-add-clip-at-3
 add-clip-at-3 c = search needs
 
--- src/contents.rt:145:9
 clip-at-requires : tie.Need-clip-at-requires
 clip-at-requires c κs = search needs
 
--- src/contents.rt:146:30
 add-clip-at-4 : tie.Need-add-clip-at-4
 add-clip-at-4 c = search needs
 
--- src/contents.rt:146:30
 add-clip-at-5 : tie.Need-add-clip-at-5
 add-clip-at-5 c = search needs
 
--- src/contents.rt:146:42
 mul-clip-at-2 : tie.Need-mul-clip-at-2
 mul-clip-at-2 c = search needs
 
--- src/contents.rt:146:30
 add-clip-at-6 : tie.Need-add-clip-at-6
 add-clip-at-6 c = search needs
 
--- src/contents.rt:146:9
 clip-at-requires-2 : tie.Need-clip-at-requires-2
 clip-at-requires-2 c κs = search needs
 
--- src/contents.rt:137:1
 returns : tie.Need-returns
 unfolding viewOf
 returns c = cc

@@ -1,93 +1,67 @@
-use native.Mathlib.Omega.{arith}
 use borrow.Author.Needs.{needs}
 use Rattle.whole_steps.proofs.types.whole_types.Statement.{statement}
 use Rattle.whole_steps.proofs.types.whole_types.Tie as tie
-use Rattle.whole_steps.proofs.types.whole_types.Reads as reads
-use Rattle.whole_steps.proofs.types.whole_types.Lts as lts
-use Rattle.registers.proofs.the_type.Reads as the-type-reads
-use Rattle.registers.proofs.with_type.Reads as with-type-reads
 
--- src/types.rt:14:26
 enum-told : tie.Need-enum-told
 enum-told c = search needs
 
--- src/types.rt:16:13
 enum-known-step : tie.Need-enum-known-step
 enum-known-step c = search needs
 
--- src/types.rt:27:13
 with-type-requires : tie.Need-with-type-requires
 with-type-requires c κs = (rw (c .before .step .given .1) at (c .before .before .before .pre)) .0
 
--- src/types.rt:35:14
 enum-told-2 : tie.Need-enum-told-2
 enum-told-2 c = search needs
 
--- src/types.rt:41:14
 enum-told-3 : tie.Need-enum-told-3
 enum-told-3 c = search needs
 
--- src/types.rt:43:13
 enum-known-step-2 : tie.Need-enum-known-step-2
 enum-known-step-2 c = search needs
 
--- src/types.rt:50:17
 the-type-requires : tie.Need-the-type-requires
 the-type-requires c κs = (rw (c .before .step2 .given .1) at (c .before .before .before .pre)) .1
 
--- src/types.rt:56:13
 with-type-requires-2 : tie.Need-with-type-requires-2
 with-type-requires-2 c κs = (rw (c .before .before .step2 .given .1) at (c .before .before .before .before .pre)) .0
 
--- src/types.rt:58:27
 enum-known-step-3 : tie.Need-enum-known-step-3
 enum-known-step-3 c = search needs
 
--- src/types.rt:59:17
 the-type-requires-2 : tie.Need-the-type-requires-2
 the-type-requires-2 c κs = (rw (c .before .step3 .given .1) at (c .before .before .before .pre)) .1
 
--- src/types.rt:65:13
 with-type-requires-3 : tie.Need-with-type-requires-3
 with-type-requires-3 c κs = (rw (c .before .before .step3 .given .1) at (c .before .before .before .before .pre)) .0
 
--- src/types.rt:68:13
 enum-known-step-4 : tie.Need-enum-known-step-4
 enum-known-step-4 c = search needs
 
--- src/types.rt:73:17
 the-type-requires-3 : tie.Need-the-type-requires-3
 the-type-requires-3 c κs = (rw (c .before .step4 .given .1) at (c .before .before .before .pre)) .3
 
--- src/types.rt:74:13
 with-type-requires-4 : tie.Need-with-type-requires-4
 with-type-requires-4 c κs = (rw (c .before .before .step4 .given .1) at (c .before .before .before .before .pre)) .0
 
--- src/types.rt:9:1
 returns : tie.Need-returns
 returns c = search needs
 
--- src/types.rt:9:1
 returns-2 : tie.Need-returns-2
 returns-2 c = rw (c .before .before .step .given .1) (c .with-type .ensures)
 
--- src/types.rt:9:1
 returns-3 : tie.Need-returns-3
 returns-3 c = search needs
 
--- src/types.rt:9:1
 returns-4 : tie.Need-returns-4
 returns-4 c = search needs
 
--- src/types.rt:9:1
 returns-5 : tie.Need-returns-5
 returns-5 c = rw (c .before .before .before .step2 .given .1) (cc)
 
--- src/types.rt:9:1
 returns-6 : tie.Need-returns-6
 returns-6 c = rw (c .before .before .before .step3 .given .1) (cc)
 
--- src/types.rt:9:1
 returns-7 : tie.Need-returns-7
 returns-7 c = rw (c .before .before .before .step4 .given .1) (cc)
 
