@@ -58,7 +58,7 @@ fn object_of(register: u8, object: u8) -> u8
     }
 }
 
-fn check_step(sheet: Sheet, types: [MatrixType; 4], memory: usize, step: Step) -> StepCheck
+pub fn check_step(sheet: Sheet, types: [MatrixType; 4], memory: usize, step: Step) -> StepCheck
     requires { ⌜ Within sheet × (memory ≤ memoryLimit) × Sized types × (stepOk (sheet .edition) (sheet .layouts) (sheet .views) step ≡ true) ⌝ }
     ensures { λ r. ⌜ r ≡ checkedStep sheet types memory step ⌝ }
 {

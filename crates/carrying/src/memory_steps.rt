@@ -37,7 +37,7 @@ fn view_named(sheet: Sheet, view: u8) -> View
 }
 
 // A load or a store of a matrix of a type.
-fn access_of(
+pub fn access_of(
     sheet: Sheet,
     load: bool,
     layout: u8,
