@@ -90,3 +90,243 @@ fn write_runs(tape: &mut [i32], start: usize, p: Plan, load: bool, register: u8,
     }
     runs::write_run(tape, at, load, register, held)
 }
+
+// The plan of a load or a store that its check accepts.
+fn plan_access(
+    sheet: Sheet,
+    load: bool,
+    layout: u8,
+    view: u8,
+    base: u32,
+    t: MatrixType,
+    memory: usize,
+) -> Plan
+    requires { ⌜ Within sheet × (layout < sheet .layouts) × (optionOk (sheet .views) view ≡ true) × (memory ≤ memoryLimit) ⌝ }
+    requires { ⌜ Clear t (accessOf sheet load layout view base t memory) ⌝ }
+    ensures { λ p. ⌜ (p ≡ planned (accessOf sheet load layout view base t memory) (t .columns)) × Planned p ⌝ }
+{
+    let a = memory_steps::access_of(sheet, load, layout, view, base, t, memory);
+    addressing::plan_of(a, t.columns as u32)
+}
+
+// How many records the runs of a load or a store of a matrix of type t are.
+fn count_access(
+    sheet: Sheet,
+    load: bool,
+    layout: u8,
+    view: u8,
+    base: u32,
+    t: MatrixType,
+    memory: usize,
+) -> usize
+    requires { ⌜ Within sheet × (layout < sheet .layouts) × (optionOk (sheet .views) view ≡ true) × (memory ≤ memoryLimit) ⌝ }
+    requires { ⌜ SizedType t × Clear t (accessOf sheet load layout view base t memory) ⌝ }
+    ensures { λ r. ⌜ r ≡ length (runs (outcomeOf (accessOf sheet load layout view base t memory) (t .columns)) (t .rows * t .columns)) ⌝ }
+{
+    let p = plan_access(sheet, load, layout, view, base, t, memory);
+    count_runs(p, (t.rows as usize) * (t.columns as usize))
+}
+
+// Writes them from record `at` of a tape on: the next record's number.
+fn write_access(
+    tape: &mut [i32],
+    at: usize,
+    sheet: Sheet,
+    load: bool,
+    register: u8,
+    layout: u8,
+    view: u8,
+    base: u32,
+    t: MatrixType,
+    memory: usize,
+) -> usize
+    requires { ⌜ Within sheet × (layout < sheet .layouts) × (optionOk (sheet .views) view ≡ true) × (memory ≤ memoryLimit) ⌝ }
+    requires { ⌜ SizedType t × Clear t (accessOf sheet load layout view base t memory) ⌝ }
+    requires { ⌜ (register < 4) × ((at + length (accessRecords (accessOf sheet load layout view base t memory) register t)) * 6 ≤ length (now tape)) ⌝ }
+    ensures { λ r. ⌜ (r ≡ at + length (accessRecords (accessOf sheet load layout view base t memory) register t)) × (now (tape .exit) ≡ sets (now (tape .entry)) (at * 6) (tapeNumbers (accessRecords (accessOf sheet load layout view base t memory) register t))) ⌝ }
+{
+    let p = plan_access(sheet, load, layout, view, base, t, memory);
+    write_runs(tape, at, p, load, register, (t.rows as usize) * (t.columns as usize))
+}
+
+// A load: a copy of its object, none for its own register, and its runs.
+fn count_load(
+    sheet: Sheet,
+    types: [MatrixType; 4],
+    memory: usize,
+    register: u8,
+    object: u8,
+    layout: u8,
+    view: u8,
+    base: u32,
+) -> usize
+    requires { ⌜ Within sheet × (memory ≤ memoryLimit) × Sized types × (stepOk (sheet .edition) (sheet .layouts) (sheet .views) (Step.Load register object layout view base) ≡ true) ⌝ }
+    requires { ⌜ checkedStep sheet types memory (Step.Load register object layout view base) .stop .number ≡ 0 ⌝ }
+    ensures { λ r. ⌜ r ≡ length (stepRecords sheet types memory 0 (Step.Load register object layout view base)) ⌝ }
+{
+    if object == sizes::NONE {
+        let own = registers::the_type(types, register);
+        return count_access(sheet, true, layout, view, base, own, memory);
+    }
+    let t = registers::the_type(types, object);
+    1 + count_access(sheet, true, layout, view, base, t, memory)
+}
+
+fn write_load(
+    tape: &mut [i32],
+    at: usize,
+    sheet: Sheet,
+    types: [MatrixType; 4],
+    memory: usize,
+    register: u8,
+    object: u8,
+    layout: u8,
+    view: u8,
+    base: u32,
+) -> usize
+    requires { ⌜ Within sheet × (memory ≤ memoryLimit) × Sized types × (stepOk (sheet .edition) (sheet .layouts) (sheet .views) (Step.Load register object layout view base) ≡ true) ⌝ }
+    requires { ⌜ checkedStep sheet types memory (Step.Load register object layout view base) .stop .number ≡ 0 ⌝ }
+    requires { ⌜ (at + length (stepRecords sheet types memory 0 (Step.Load register object layout view base))) * 6 ≤ length (now tape) ⌝ }
+    ensures { λ r. ⌜ (r ≡ at + length (stepRecords sheet types memory 0 (Step.Load register object layout view base))) × (now (tape .exit) ≡ sets (now (tape .entry)) (at * 6) (tapeNumbers (stepRecords sheet types memory 0 (Step.Load register object layout view base)))) ⌝ }
+{
+    if object == sizes::NONE {
+        let own = registers::the_type(types, register);
+        return write_access(tape, at, sheet, true, register, layout, view, base, own, memory);
+    }
+    records::put_record(tape, at * records::NUMBERS, Record::Copy { register, object });
+    let t = registers::the_type(types, object);
+    write_access(tape, at + 1, sheet, true, register, layout, view, base, t, memory)
+}
+
+// One step: how many records it becomes.
+fn count_step(sheet: Sheet, types: [MatrixType; 4], memory: usize, step: Step) -> usize
+    requires { ⌜ Within sheet × (memory ≤ memoryLimit) × Sized types × (stepOk (sheet .edition) (sheet .layouts) (sheet .views) step ≡ true) ⌝ }
+    requires { ⌜ checkedStep sheet types memory step .stop .number ≡ 0 ⌝ }
+    ensures { λ r. ⌜ r ≡ length (stepRecords sheet types memory 0 step) ⌝ }
+{
+    match step {
+        Step::Nothing => 0,
+        Step::Fill {
+            register: _,
+            rows: _,
+            columns: _,
+            kind: _,
+            value: _,
+        } => 1,
+        Step::Load {
+            register,
+            object,
+            layout,
+            view,
+            base,
+        } => count_load(sheet, types, memory, register, object, layout, view, base),
+        Step::Store {
+            register,
+            layout,
+            view,
+            base,
+        } => {
+            let t = registers::the_type(types, register);
+            count_access(sheet, false, layout, view, base, t, memory)
+        }
+        Step::Reduce {
+            result: _,
+            source: _,
+            rows: _,
+            columns: _,
+            mode: _,
+            combine: _,
+        } => 1,
+        Step::Transpose {
+            result: _,
+            source: _,
+        } => 1,
+        Step::MultiplyAdd {
+            result: _,
+            a: _,
+            b: _,
+            c: _,
+        } => 1,
+    }
+}
+
+// A whole step's record as record `at` of a tape: the next record's number.
+fn write_whole(tape: &mut [i32], at: usize, step: usize) -> usize
+    requires { ⌜ ((at + 1) * 6 ≤ length (now tape)) × (step < 32) ⌝ }
+    ensures { λ r. ⌜ (r ≡ at + 1) × (now (tape .exit) ≡ sets (now (tape .entry)) (at * 6) (tapeNumbers (Record.Whole step ∷ []))) ⌝ }
+{
+    records::put_record(tape, at * records::NUMBERS, Record::Whole { step });
+    at + 1
+}
+
+// Writes the records of step k from record `at` of a tape on: the next record's number.
+fn write_step(
+    tape: &mut [i32],
+    at: usize,
+    sheet: Sheet,
+    types: [MatrixType; 4],
+    memory: usize,
+    k: usize,
+    step: Step,
+) -> usize
+    requires { ⌜ Within sheet × (memory ≤ memoryLimit) × Sized types × (stepOk (sheet .edition) (sheet .layouts) (sheet .views) step ≡ true) ⌝ }
+    requires { ⌜ (checkedStep sheet types memory step .stop .number ≡ 0) × (k < 32) ⌝ }
+    requires { ⌜ (at + length (stepRecords sheet types memory k step)) * 6 ≤ length (now tape) ⌝ }
+    ensures { λ r. ⌜ (r ≡ at + length (stepRecords sheet types memory k step)) × (now (tape .exit) ≡ sets (now (tape .entry)) (at * 6) (tapeNumbers (stepRecords sheet types memory k step))) ⌝ }
+{
+    match step {
+        Step::Nothing => at,
+        Step::Fill {
+            register: _,
+            rows: _,
+            columns: _,
+            kind: _,
+            value: _,
+        } => write_whole(tape, at, k),
+        Step::Load {
+            register,
+            object,
+            layout,
+            view,
+            base,
+        } => write_load(
+            tape,
+            at,
+            sheet,
+            types,
+            memory,
+            register,
+            object,
+            layout,
+            view,
+            base,
+        ),
+        Step::Store {
+            register,
+            layout,
+            view,
+            base,
+        } => {
+            let t = registers::the_type(types, register);
+            write_access(tape, at, sheet, false, register, layout, view, base, t, memory)
+        }
+        Step::Reduce {
+            result: _,
+            source: _,
+            rows: _,
+            columns: _,
+            mode: _,
+            combine: _,
+        } => write_whole(tape, at, k),
+        Step::Transpose {
+            result: _,
+            source: _,
+        } => write_whole(tape, at, k),
+        Step::MultiplyAdd {
+            result: _,
+            a: _,
+            b: _,
+            c: _,
+        } => write_whole(tape, at, k),
+    }
+}
