@@ -5,7 +5,7 @@ use mathlib.Core.Bool.{Bool, true, false}
 use mathlib.Core.List.{List, [], _∷_, _++_}
 use mathlib.Core.Logic.{_⊎_, ⊎-elim}
 use native.Mathlib.Omega.{arith}
-use borrow.Author.Tests.{ltb-true, leb-true, eqb-true, eq-eqb, ne-eqb}
+use borrow.Author.Tests.{ltb-true, leb-true, eqb-true, eqb-false, eq-eqb, ne-eqb}
 use lib.Dec.{eqb, leb}
 use lib.IntN.{ℤ}
 use lib.ListN.{length, length-append}
@@ -21,24 +21,34 @@ use Rattle.accesses.specs.Accepted.{element-sound}
 use Rattle.transfers.specs.Laws.{access-size}
 use Rattle.transfers.specs.Transfers.{outcomeOf}
 use Rattle.runs.specs.Ranges.{Near}
-use native.Mathlib.Nat.{mul-le-mul}
-use Rattle.registers.specs.Sized.{SizedType}
+use native.Mathlib.Nat.{mul-le-mul, sub-zero}
+use Rattle.registers.specs.Registers.{emptyRegisters}
+use Rattle.registers.specs.Sized.{SizedType, Sized, sized-empty}
 use Rattle.runs.specs.Runs.{held, runs}
-use Rattle.runs.specs.Writing.{count-all, count-few, emit-one}
+use Rattle.runs.specs.Writing.{count-all, count-few, count-records, emit-one}
 use Rattle.sheet.specs.Sizes.{optionOk}
-use Rattle.sheet.specs.Steps.{loadOk, storeOk}
+use Rattle.sheet.specs.Steps.{theStep, loadOk, storeOk, stepOk}
 use Rattle.sheet.specs.declared.Sheet.{Sheet}
 use Rattle.sheet.specs.declared.Step.{Step}
 use Rattle.sheet.specs.declared.Step.the-variants.{Nothing, Fill, Load, Store, Reduce, Transpose, MultiplyAdd}
-use Rattle.registers.specs.Types.{theType}
+use Rattle.registers.specs.Types.{noType, theType}
 use Rattle.registers.specs.declared.MatrixType.{MatrixType}
-use Rattle.carrying.specs.Steps.{accessOf, checkedStep}
+use Rattle.carrying.specs.Steps.{accessOf, objectOf, checkedStep}
+use Rattle.carrying.specs.Carrying.{checkedFrom, checked, checkedSheet, memoryLimit, refusalAt}
+use Rattle.carrying.specs.Types.{check-sized}
+use Rattle.carrying.specs.declared.StepCheck.{StepCheck}
+use Rattle.carrying.specs.declared.CheckAnswer.{CheckAnswer}
 use Rattle.carrying.specs.Accesses.{Clear, load-accepted, store-accepted}
 use Rattle.records.specs.declared.Record.{Record}
 use Rattle.records.specs.declared.Record.the-variants.{Copy}
 use Rattle.records.specs.Records.{recordNumbers, tapeNumbers}
-use Rattle.records.specs.Laws.{length-numbers}
-use Rattle.tape.specs.Tapes.{accessRecords, stepRecords}
+use Rattle.records.specs.Laws.{length-numbers, length-tape, tape-append}
+use Rattle.sheet_reader.specs.Reading.{readSheet}
+use Rattle.sheet_reader.specs.declared.ReadAnswer.{ReadAnswer}
+use Rattle.round_trip.specs.Sheets.{Within}
+use Rattle.round_trip.specs.Theorems.{not-refused, read-within}
+use Rattle.tape.specs.Translating.{recordsFit, translateAnswer, fitsRoom, translated, translatedRoom}
+use Rattle.tape.specs.Tapes.{copyRecords, accessRecords, stepRecords, tapeFrom, tapeOf}
 
 -- ---- outcomes
 
@@ -132,3 +142,177 @@ pub one-more : (out : List ℤ) (at : ℕ) (r : Record) (rs : List Record) {out�
 one-more out at r rs p q =
     let e : (at + 1) * 6 ≡ at * 6 + length (recordNumbers r) = omega (arith, length-numbers r) in
     puts-after out (at * 6) (recordNumbers r) (tapeNumbers rs) p (rw e at q)
+
+pub records-after : (out : List ℤ) (at : ℕ) (rs qs : List Record) {out₁ : List ℤ} {at₁ : ℕ} → at₁ ≡ at + length rs
+    → out₁ ≡ sets out (at * 6) (tapeNumbers rs) → sets out₁ (at₁ * 6) (tapeNumbers qs) ≡ sets out (at * 6) (tapeNumbers (rs ++ qs))
+records-after out at rs qs {out₁} {at₁} e p =
+    let here : at₁ * 6 ≡ at * 6 + length (tapeNumbers rs) = omega (arith, length-tape rs, e) in
+    rw (tape-append rs qs, here) (puts-after out (at * 6) (tapeNumbers rs) (tapeNumbers qs) p refl)
+
+-- ---- the turns over the steps
+
+one-less : (n k : ℕ) → k < n → n - k ≡ suc (n - (k + 1))
+one-less n k h = omega arith
+
+-- types from which the check of n steps more, the next of which is number k, refuses none
+pub record Rest (n : ℕ) (sh : Sheet) (len k : ℕ) (ts : List MatrixType) : Type 0 where
+  pub sized : Sized ts
+  pub counted : ℕ
+  pub clear : checkedFrom n sh len k ts counted .refusal .number ≡ 0
+
+pub rest-start : (sh : Sheet) (len : ℕ) → checked sh len .refusal .number ≡ 0 → Rest (sh .steps - 0) sh len 0 (emptyRegisters .types)
+unfolding checked
+rest-start sh len h = rw sub-zero (record { sized = sized-empty; counted = 0; clear = h })
+
+module _ (n : ℕ) (sh : Sheet) (len k : ℕ) (ts : List MatrixType) where
+  abbrev check : StepCheck
+  check = checkedStep sh ts len (theStep (sh .step) k)
+
+  first-clear : (count : ℕ) → checkedFrom (suc n) sh len k ts count .refusal .number ≡ 0 → check .stop .number ≡ 0
+  unfolding checkedFrom
+  first-clear count =
+      pick-case (λ (r : CheckAnswer). r .refusal .number ≡ 0 → check .stop .number ≡ 0) (eqb (check .stop .number) 0) _ _
+      (λ e h. eqb-true (check .stop .number) 0 e) (λ e h. h)
+
+  rest-clear : (count : ℕ) → check .stop .number ≡ 0 → checkedFrom (suc n) sh len k ts count .refusal .number ≡ 0
+      → checkedFrom n sh len (k + 1) (check .types) (count + check .placed) .refusal .number ≡ 0
+  unfolding checkedFrom pick
+  rest-clear count e h = rw (eq-eqb (check .stop .number) 0 e) at h
+
+module _ (n : ℕ) (sh : Sheet) (len k : ℕ) (ts : List MatrixType) (h : k < n) where
+  abbrev step : Step
+  step = theStep (sh .step) k
+
+  module _ (r : Rest (n - k) sh len k ts) where
+    clear : checkedFrom (suc (n - (k + 1))) sh len k ts (r .counted) .refusal .number ≡ 0
+    clear = rw (one-less n k h) at (r .clear)
+
+    pub rest-first : checkedStep sh ts len (theStep (sh .step) k) .stop .number ≡ 0
+    rest-first = first-clear (n - (k + 1)) sh len k ts (r .counted) clear
+
+    pub rest-next : stepOk (sh .edition) (sh .layouts) (sh .views) (theStep (sh .step) k) ≡ true → {c : StepCheck} → c ≡ checkedStep sh ts len (theStep (sh .step) k)
+        → Rest (n - (k + 1)) sh len (k + 1) (c .types)
+    rest-next ok e =
+        rw e
+        (record {
+          sized = check-sized sh ts len step (sh .edition) (sh .layouts) (sh .views) ok (r .sized);
+          counted = r .counted + checkedStep sh ts len step .placed;
+          clear = rest-clear (n - (k + 1)) sh len k ts (r .counted) rest-first clear;
+        })
+
+  -- the records of the next step, and the others
+  pub tape-go : {c : StepCheck} → c ≡ checkedStep sh ts len (theStep (sh .step) k)
+      → tapeFrom (n - k) sh len k ts ≡ stepRecords sh ts len k (theStep (sh .step) k) ++ tapeFrom (n - (k + 1)) sh len (k + 1) (c .types)
+  unfolding tapeFrom
+  tape-go e = rw (one-less n k h, e) refl
+
+pub tape-end : (n : ℕ) (sh : Sheet) (len k : ℕ) (ts : List MatrixType) → n ≤ k → tapeFrom (n - k) sh len k ts ≡ []
+unfolding tapeFrom
+tape-end n sh len k ts h = let e : n - k ≡ 0 = omega arith in rw e refl
+
+pub tape-start : (sh : Sheet) (len : ℕ) → tapeFrom (sh .steps - 0) sh len 0 (emptyRegisters .types) ≡ tapeOf sh len
+unfolding tapeOf
+tape-start sh len = rw sub-zero refl
+
+pub empty-types : (none : MatrixType) → none ≡ noType → none ∷ none ∷ none ∷ none ∷ [] ≡ emptyRegisters .types
+unfolding emptyRegisters
+empty-types none e = rw e
+
+-- how many records a step becomes does not depend on its number, and they are few
+pub step-records : (sh : Sheet) (ts : List MatrixType) (len k : ℕ) (st : Step) → length (stepRecords sh ts len k st) ≡ length (stepRecords sh ts len 0 st)
+unfolding stepRecords
+step-records sh ts len k Nothing = refl
+step-records sh ts len k (Fill register rows columns kind value) = refl
+step-records sh ts len k (Load register object layout view base) = refl
+step-records sh ts len k (Store register layout view base) = refl
+step-records sh ts len k (Reduce result source rows columns mode combine) = refl
+step-records sh ts len k (Transpose result source) = refl
+step-records sh ts len k (MultiplyAdd result a b c) = refl
+
+matrix-few : (a : Access) (register : ℕ) (t : MatrixType) → SizedType t → length (accessRecords a register t) ≤ 257
+matrix-few a register t s =
+    rw (count-records (a .load) register (outcomeOf a (t .columns)) (t .rows * t .columns)) (access-few (outcomeOf a (t .columns)) t s)
+
+copy-few : (register object : ℕ) → length (copyRecords register object) ≤ 1
+copy-few register object =
+    pick-case (λ (rs : List Record). length rs ≤ 1) (eqb object 255) [] (Copy register object ∷ []) (λ e. omega arith) (λ e. omega arith)
+
+pub step-few : (sh : Sheet) (ts : List MatrixType) (len k : ℕ) (st : Step) → Sized ts → length (stepRecords sh ts len k st) ≤ 258
+unfolding stepRecords
+step-few sh ts len k Nothing s = omega arith
+step-few sh ts len k (Fill register rows columns kind value) s = omega arith
+step-few sh ts len k (Load register object layout view base) s =
+    let t = theType ts (objectOf register object) in
+    let a = accessOf sh true layout view base (theType ts (objectOf register object)) len in
+    let few = matrix-few (accessOf sh true layout view base (theType ts (objectOf register object)) len) register (theType ts (objectOf register object)) (s .each (objectOf register object)) in
+    rw (length-append (copyRecords register object) (accessRecords a register t)) (omega (arith, copy-few register object, few))
+step-few sh ts len k (Store register layout view base) s =
+    let few = matrix-few (accessOf sh false layout view base (theType ts register) len) register (theType ts register) (s .each register) in
+    omega (arith, few)
+step-few sh ts len k (Reduce result source rows columns mode combine) s = omega arith
+step-few sh ts len k (Transpose result source) s = omega arith
+step-few sh ts len k (MultiplyAdd result a b c) s = omega arith
+
+-- ---- the answer
+
+module _ (s : List ℕ) (len : ℕ) where
+  -- what the check accepts is read, and fits memory
+  pub record Readable : Type 0 where
+    pub few : len ≤ memoryLimit
+    pub within : Within (readSheet s .sheet)
+    pub clear : checked (readSheet s .sheet) len .refusal .number ≡ 0
+
+  pub sheet-readable : checkedSheet s len .refusal .number ≡ 0 → Readable
+  unfolding checkedSheet
+  sheet-readable =
+      pick-case (λ (c : CheckAnswer). c .refusal .number ≡ 0 → Readable) (leb len memoryLimit) _ _
+      (λ l. pick-case (λ (c : CheckAnswer). c .refusal .number ≡ 0 → Readable) (eqb (readSheet s .refusal .number) 0) _ _
+      (λ e h.
+      record {
+        few = leb-true len memoryLimit l;
+        within = read-within s (readSheet s .sheet) (not-refused s (eqb-true (readSheet s .refusal .number) 0 e));
+        clear = h;
+      })
+      (λ e h. absurd (eqb-false (readSheet s .refusal .number) 0 e h))) (λ l h. absurd (omega arith))
+
+  module _ {c : CheckAnswer} (is : c ≡ checkedSheet s len) where
+    -- refused by the check
+    pub refused-answer : (room : ℕ) → 0 < c .refusal .number → translateAnswer (c .refusal) 0 0 ≡ translated s len room
+    unfolding translated pick
+    refused-answer room n = rw (← is, ne-eqb (c .refusal .number) 0 (λ e. omega arith)) refl
+
+    pub refused-room : (tape : List ℤ) → 0 < c .refusal .number → tape ≡ translatedRoom s len tape
+    unfolding translatedRoom pick
+    refused-room tape n = rw (← is, ne-eqb (c .refusal .number) 0 (λ e. omega arith)) refl
+
+    module _ (fine : c .refusal .number ≡ 0) where
+      -- 16
+      pub long-answer : (room : ℕ) → fitsRoom s len room ≡ false → translateAnswer (refusalAt 16 0 0) 0 0 ≡ translated s len room
+      unfolding translated pick
+      long-answer room e = rw (← is, eq-eqb (c .refusal .number) 0 fine, e) refl
+
+      pub long-room : (tape : List ℤ) → fitsRoom s len (length tape) ≡ false → tape ≡ translatedRoom s len tape
+      unfolding translatedRoom pick
+      long-room tape e = rw (← is, eq-eqb (c .refusal .number) 0 fine, e) refl
+
+      -- the tape
+      pub tape-answer : (room : ℕ) → fitsRoom s len room ≡ true
+          → translateAnswer (refusalAt 0 0 0) (c .count) (length (tapeOf (readSheet s .sheet) len)) ≡ translated s len room
+      unfolding translated pick
+      tape-answer room e = rw (← is, eq-eqb (c .refusal .number) 0 fine, e) refl
+
+      pub tape-room : (tape : List ℤ) → fitsRoom s len (length tape) ≡ true
+          → sets tape 0 (tapeNumbers (tapeOf (readSheet s .sheet) len)) ≡ translatedRoom s len tape
+      unfolding translatedRoom pick
+      tape-room tape e = rw (← is, eq-eqb (c .refusal .number) 0 fine, e) refl
+
+  -- the numbers of a tape that fits
+  pub fits-room : (room : ℕ) → fitsRoom s len room ≡ true → length (tapeOf (readSheet s .sheet) len) * 6 ≤ room
+  unfolding fitsRoom recordsFit
+  fits-room room e = leb-true _ room (both-right _ _ e)
+
+  -- whether it fits, of the sheet that was read and the records that were counted
+  pub room-tested : {read : ReadAnswer} {n : ℕ} {b : Bool} (room : ℕ) → read ≡ readSheet s → n ≡ length (tapeOf (read .sheet) len)
+      → b ≡ recordsFit (read .sheet .edition) room n → b ≡ fitsRoom s len room
+  unfolding fitsRoom
+  room-tested room e f g = g ∙ rw (f, e) refl

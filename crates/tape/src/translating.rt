@@ -330,3 +330,81 @@ fn write_step(
         } => write_whole(tape, at, k),
     }
 }
+
+// How many records the tape of an accepted sheet has.
+fn count_tape(sheet: Sheet, memory: usize) -> usize
+    requires { ⌜ Within sheet × (memory ≤ memoryLimit) × (checked sheet memory .refusal .number ≡ 0) ⌝ }
+    ensures { λ r. ⌜ r ≡ length (tapeOf sheet memory) ⌝ }
+{
+    let none = registers::no_type();
+    let steps = sheet.steps;
+    let mut types = [none; 4];
+    let mut records: usize = 0;
+    let mut k: usize = 0;
+    while k < steps {
+        let c = sheet.step[k];
+        let step = c.step;
+        records += count_step(sheet, types, memory, step);
+        let got = checks::check_step(sheet, types, memory, step);
+        let after = got.types;
+        types = after;
+        k += 1;
+    }
+    records
+}
+
+// Writes the tape of an accepted sheet from the start of the room on.
+fn write_tape(tape: &mut [i32], sheet: Sheet, memory: usize)
+    requires { ⌜ Within sheet × (memory ≤ memoryLimit) × (checked sheet memory .refusal .number ≡ 0) ⌝ }
+    requires { ⌜ length (tapeOf sheet memory) * 6 ≤ length (now tape) ⌝ }
+    ensures { λ _. ⌜ now (tape .exit) ≡ sets (now (tape .entry)) 0 (tapeNumbers (tapeOf sheet memory)) ⌝ }
+{
+    let none = registers::no_type();
+    let steps = sheet.steps;
+    let mut types = [none; 4];
+    let mut at: usize = 0;
+    let mut k: usize = 0;
+    while k < steps {
+        let c = sheet.step[k];
+        let step = c.step;
+        at = write_step(tape, at, sheet, types, memory, k, step);
+        let got = checks::check_step(sheet, types, memory, step);
+        let after = got.types;
+        types = after;
+        k += 1;
+    }
+}
+
+fn translate_refused(refusal: Refusal) -> TranslateAnswer
+    ensures { λ r. ⌜ r ≡ translateAnswer refusal 0 0 ⌝ }
+{
+    TranslateAnswer {
+        refusal,
+        count: 0,
+        records: 0,
+    }
+}
+
+// Translates a sheet for a memory of a length into the lent room. Refused: the room is unchanged.
+pub fn translate(sheet: &[u8], memory_len: usize, tape: &mut [i32]) -> TranslateAnswer
+    ensures { λ r. ⌜ r ≡ translated (now (sheet .entry)) «memory_len» (length (now (tape .entry))) ⌝ }
+    ensures { λ _. ⌜ now (tape .exit) ≡ translatedRoom (now (sheet .entry)) «memory_len» (now (tape .entry)) ⌝ }
+{
+    let found = carrying::check_sheet(sheet, memory_len);
+    let refused = found.refusal;
+    if 0 < refused.number {
+        return translate_refused(refused);
+    }
+    let read = sheet_reader::read_sheet(sheet);
+    let model = read.sheet;
+    let records = count_tape(model, memory_len);
+    if !records_fit(model.edition, tape.len(), records) {
+        return translate_refused(checks::refusal_at(TAPE_TOO_LONG, 0, 0));
+    }
+    write_tape(tape, model, memory_len);
+    TranslateAnswer {
+        refusal: checks::refusal_at(0, 0, 0),
+        count: found.count,
+        records,
+    }
+}
