@@ -96,6 +96,7 @@ module _ (sh : Sheet) (register : ℕ) where
       → ranAll sh (runsRecords load register f n) m
       ≡ machineOf (m .registers .types) (transferred (elementDone load (bytesOf (theType (m .registers .types) register .kind)) register) f n (stateOf m))
   runs-done load f n m h =
-      same-records (acted load register) (ranRecord sh) load register
-      (λ first count byte up down s. moved-crosses load first count byte up down s ∙ crosses load first count byte up down s) (pours load) f n m
+      same-records (acted load register) (ranRecord sh) load register f n
+      (λ first count byte up down s. moved-crosses load first count byte up down s ∙ crosses load first count byte up down s)
+      (λ first count value s i l e. pours load first count value s) m
       ∙ elements-done load f n m h

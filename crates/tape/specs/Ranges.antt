@@ -27,7 +27,8 @@ use Rattle.carrying.specs.Steps.{accessOf, objectOf}
 use Rattle.carrying.specs.Carrying.{memoryLimit}
 use Rattle.carrying.specs.Types.{check-sized, within-step}
 use Rattle.records.specs.declared.Record.the-variants.{Copy}
-use Rattle.records.specs.Laws.{AllWithin, within-append}
+use Rattle.records.specs.Laws.{AllWithin, all-append}
+use Rattle.records.specs.Ranges as ranges
 use Rattle.runs.specs.Ranges.{Near, runs-within}
 use Rattle.tape.specs.Tapes.{copyRecords, accessRecords, stepRecords, tapeFrom, tapeOf}
 use Rattle.tape.specs.InRange.{Passable}
@@ -67,7 +68,7 @@ module _ (len : ℕ) (most : len ≤ memoryLimit) where
     step-within ts k (Load register object layout view base) edition layouts views l ok s =
         let few : register < 4 = ltb-true register 4 (both-left _ _ ok) in
         let t = theType ts (objectOf register object) in
-        within-append (copyRecords register object) (accessRecords (accessOf sh true layout view base t len) register t)
+        all-append ranges.Within (copyRecords register object) (accessRecords (accessOf sh true layout view base t len) register t)
         (copies-within register object few (both-left _ _ (both-right _ _ ok)))
         (access-within true register layout view base t few (s .each (objectOf register object)))
     step-within ts k (Store register layout view base) edition layouts views l ok s =
@@ -83,7 +84,7 @@ module _ (len : ℕ) (most : len ≤ memoryLimit) where
       from-within (suc n) k ts l s =
           let st = theStep (sh .step) k in
           let ok = within-step sh w k (omega arith) in
-          within-append (stepRecords sh ts len k st) _
+          all-append ranges.Within (stepRecords sh ts len k st) _
           (step-within ts k st (sh .edition) (sh .layouts) (sh .views) (omega (arith, w .steps)) ok s)
           (from-within n (k + 1) _ (omega arith) (check-sized sh ts len st (sh .edition) (sh .layouts) (sh .views) ok s))
 

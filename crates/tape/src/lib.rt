@@ -1,4 +1,6 @@
 // Tapes: a sheet translated into records, and a tape run with its sheet.
+pub mod moving;
+
 use sheet::Refusal;
 
 // The answer of translating: a refusal, or how many elements of loads and stores have a byte and how many records were written.
