@@ -2,11 +2,12 @@
 use Prim.Native.Nat.{ℕ, zero, suc, _+_, _-_, _*_, _<_, _≤_}
 use mathlib.Core.Path.{_≡_, refl, sym, ap, _∙_}
 use mathlib.Core.Bool.{Bool, true, false, not, true≢false}
-use mathlib.Core.List.{List}
+use mathlib.Core.List.{List, [], _∷_}
 use native.Mathlib.Numerals.{add-one}
-use native.Mathlib.Nat.{mul-le-mul, add-zero}
+use native.Mathlib.Nat.{mul-le-mul, add-zero, sub-zero}
 use native.Mathlib.Omega.{arith}
-use borrow.Author.Tests.{leb-true, ltb-true, eqb-true}
+use borrow.Author.Tests.{leb-true, ltb-true, eqb-true, le-leb, lt-leb, eq-eqb, ne-eqb}
+use lib.IntN.{ℤ}
 use lib.ListN.{length, length-set}
 use Rattle.numbers.specs.Choice.{pick, pick-case, both-left, both-right}
 use Rattle.numbers.specs.All.{all-at}
@@ -18,24 +19,29 @@ use Rattle.sheet.specs.declared.Refusal.{Refusal}
 use Rattle.sheet.specs.declared.Step.{Step}
 use Rattle.sheet.specs.declared.Step.the-variants as step
 use Rattle.round_trip.specs.Sheets.{Within}
+use Rattle.memory.specs.Elements.{elementAt, withElement}
 use Rattle.memory.specs.Laws.{length-with}
-use Rattle.registers.specs.Types.{theType, isEmpty}
-use Rattle.registers.specs.Registers.{placeOf, elementOf, room}
+use Rattle.sheet_reader.specs.Reading.{readSheet}
+use Rattle.registers.specs.Types.{noType, theType, isEmpty}
+use Rattle.registers.specs.Registers.{placeOf, elementOf, withElementOf, room, emptyRegisters}
 use Rattle.registers.specs.Sized.{SizedType, Sized, sized-with}
 use Rattle.registers.specs.declared.MatrixType.{MatrixType}
+use Rattle.registers.specs.declared.Registers.{Registers}
 use Rattle.whole_steps.specs.Refusals.{wholeRefusal, isWhole}
 use Rattle.whole_steps.specs.Whole.{wholeTypes}
 use Rattle.whole_steps.specs.Within.{WholeOk, whole-ok, sized-whole}
 use Rattle.transfers.specs.Acts.{State, state, took, gave, put}
 use Rattle.carrying.specs.Steps.{Machine, machine, stateOf, performedStep, wholeStepDone}
-use Rattle.carrying.specs.Types.{Formed, step-places, within-step}
+use Rattle.carrying.specs.Carrying.{refusalAt, memoryLimit, started, carryAnswer}
+use Rattle.carrying.specs.Types.{Formed, started-formed, step-places, within-step}
 use Rattle.records.specs.Ranges.{Elements, Bytes, Sound}
 use Rattle.records.specs.declared.Record.{Record}
 use Rattle.records.specs.declared.Record.the-variants.{Copy, Take, Put, Fill, Whole}
 use Rattle.records.specs.declared.Decoded.{Decoded}
 use Rattle.records.specs.declared.Decoded.the-variants.{Good, Bad}
 use Rattle.tape.specs.Records.{elementsOk, byteAt, byteInside, bytesInside, bytesRecordOk, fillRecordOk, wholeRecordOk, recordOk, recordTypes, inOrder, ranRecord}
-use Rattle.tape.specs.Running.{decodedOk, decodedTypes, rangeFrom, ranDecoded, ranFrom}
+use Rattle.tape.specs.Translating.{recordLimit, recordsFit}
+use Rattle.tape.specs.Running.{tapeRecord, decodedOk, decodedTypes, rangeFrom, rangeRefusal, ranDecoded, ranFrom, ran, tapeRefusal, runRefusal, runTape, ranMemory}
 use Rattle.tape.specs.Passing.{whole-keeps, whole-named, record-types}
 
 -- ---- elements
@@ -69,6 +75,45 @@ module _ (act : ℕ → State → State) where
   order-counts h zero s = omega arith
   order-counts h (suc n) s = omega (arith, h n (inOrder act n s), order-counts h n s)
 
+  order-turn : (i : ℕ) (s : State) {t u : State} → t ≡ inOrder act i s → u ≡ act i t → u ≡ inOrder act (i + 1) s
+  order-turn i s p q = q ∙ ap (act i) p ∙ sym (order-more i s)
+
+  pub order-start : (es m : List ℕ) (n : ℕ) → state es m (n + 0) ≡ inOrder act 0 (state es m n)
+  unfolding inOrder
+  order-start es m n = rw (add-zero n)
+
+-- one turn of the loop over the elements of a take, a put and a fill
+module _ (register first i : ℕ) where
+  module _ (size byte up down : ℕ) where
+    abbrev TakenSo : List ℕ → List ℕ → List ℕ → ℕ → Type 0
+    TakenSo es₀ m es k = (n : ℕ) → state es m (n + k) ≡ inOrder (taking size register first byte up down) k (state es₀ m n)
+
+    abbrev PutSo : List ℕ → List ℕ → List ℕ → ℕ → Type 0
+    PutSo es m₀ m k = (n : ℕ) → state es m (n + k) ≡ inOrder (putting size register first byte up down) k (state es m₀ n)
+
+    pub take-turn : (es₀ : List ℕ) {m es es′ : List ℕ} {at x : ℕ} → TakenSo es₀ m es i → at ≡ byteAt byte up down i → x ≡ elementAt m at size → es′ ≡ withElementOf es register (first + i) x → TakenSo es₀ m es′ (i + 1)
+    take-turn es₀ {m = m} inv p q r n =
+        let k : n + (i + 1) ≡ n + i + 1 = omega arith in
+        order-turn (taking size register first byte up down) i (state es₀ m n) (inv n) (rw (r, q, p, k) refl)
+
+    pub put-turn : (m₀ : List ℕ) {es m m′ : List ℕ} {at x : ℕ} → PutSo es m₀ m i → at ≡ byteAt byte up down i → x ≡ elementOf es register (first + i) → m′ ≡ withElement m at size x → PutSo es m₀ m′ (i + 1)
+    put-turn m₀ {es = es} inv p q r n =
+        let k : n + (i + 1) ≡ n + i + 1 = omega arith in
+        order-turn (putting size register first byte up down) i (state es m₀ n) (inv n) (rw (r, q, p, k) refl)
+
+  pub fill-turn : (value : ℕ) (es₀ : List ℕ) {es es′ : List ℕ} → ((m : List ℕ) (n : ℕ) → state es m n ≡ inOrder (filling register first value) i (state es₀ m n)) → es′ ≡ withElementOf es register (first + i) value
+      → (m : List ℕ) (n : ℕ) → state es′ m n ≡ inOrder (filling register first value) (i + 1) (state es₀ m n)
+  fill-turn value es₀ inv r m n = order-turn (filling register first value) i (state es₀ m n) (inv m n) (rw r refl)
+
+-- a test that a call made, turned over
+pub not-on : {r t : Bool} → r ≡ t → r ≡ true → not t ≡ false
+not-on p q = ap not (sym p ∙ q)
+
+pub not-off : {r t : Bool} → r ≡ t → r ≡ false → not t ≡ true
+not-off p q = ap not (sym p ∙ q)
+
+pub ruleset turned = (not-on, not-off)
+
 -- every byte of element i lies in memory
 pub record Lies (size len byte up down i : ℕ) : Type 0 where
   pub above : i * down ≤ byte + i * up
@@ -101,7 +146,14 @@ module _ (t : MatrixType) (first count : ℕ) where
   unfolding fillRecordOk
   fill-elements value e = both-left _ _ (both-right _ _ e)
 
+-- the way of an element from a record's byte
+pub stride-small : (i step : ℕ) → i < 256 → step ≤ 65535 → i * step ≤ 256 * 65536
+stride-small i step h l = let k : i ≤ 256 = omega arith in mul-le-mul {n₂ = 256} {m₂ = 65536} k (omega arith)
+
 -- op 4
+pub step-whole : (sh : Sheet) → Within sh → (k : ℕ) → k < sh .steps → WholeOk (theStep (sh .step) k)
+step-whole sh w k h = whole-ok (sh .edition) (sh .layouts) (sh .views) (theStep (sh .step) k) (within-step sh w k h)
+
 module _ (sh : Sheet) (ts : List MatrixType) (k : ℕ) (e : wholeRecordOk sh ts k ≡ true) where
   pub whole-given : k < sh .steps
   unfolding wholeRecordOk
@@ -112,7 +164,7 @@ module _ (sh : Sheet) (ts : List MatrixType) (k : ℕ) (e : wholeRecordOk sh ts 
   whole-clear = eqb-true _ _ (both-right _ _ (both-right _ _ e))
 
   pub whole-within : Within sh → WholeOk (theStep (sh .step) k)
-  whole-within w = whole-ok _ _ _ _ (within-step sh w k whole-given)
+  whole-within w = step-whole sh w k whole-given
 
 pub whole-does : (sh : Sheet) (st : Step) (m : Machine) → isWhole st ≡ true → performedStep sh st m ≡ wholeStepDone st m
 unfolding performedStep
@@ -235,17 +287,26 @@ one-less n k h = omega arith
 
 -- the records from number k on are looked at, over types
 module _ (n : ℕ) (sh : Sheet) (len : ℕ) (the : ℕ → Decoded) (k : ℕ) (ts : List MatrixType) where
-  pub range-end : n ≤ k → record { number = 0; place = 0; element = 0 } ≡ rangeFrom (n - k) sh len the k ts
+  pub range-end : n ≤ k → refusalAt 0 0 0 ≡ rangeFrom (n - k) sh len the k ts
   unfolding rangeFrom
   range-end h = let e : n - k ≡ 0 = omega arith in rw e
 
-  pub range-go : k < n → decodedOk sh ts len (the k) ≡ true → rangeFrom (n - (k + 1)) sh len the (k + 1) (decodedTypes sh ts (the k)) ≡ rangeFrom (n - k) sh len the k ts
-  unfolding rangeFrom pick
-  range-go h e = rw (one-less n k h, e)
+  module _ (h : k < n) {d : Decoded} (q : d ≡ the k) where
+    pub range-go : decodedOk sh ts len d ≡ true → rangeFrom (n - (k + 1)) sh len the (k + 1) (decodedTypes sh ts d) ≡ rangeFrom (n - k) sh len the k ts
+    unfolding rangeFrom pick
+    range-go e = rw (one-less n k h, ← q, e)
 
-  pub range-stop : k < n → decodedOk sh ts len (the k) ≡ false → record { number = 17; place = k; element = 0 } ≡ rangeFrom (n - k) sh len the k ts
-  unfolding rangeFrom pick
-  range-stop h e = rw (one-less n k h, e)
+    pub range-stop : decodedOk sh ts len d ≡ false → refusalAt 17 k 0 ≡ rangeFrom (n - k) sh len the k ts
+    unfolding rangeFrom pick
+    range-stop e = rw (one-less n k h, ← q, e)
+
+-- the look begins with registers that have no type
+pub empty-types : (none : MatrixType) → none ≡ noType → none ∷ none ∷ none ∷ none ∷ [] ≡ emptyRegisters .types
+unfolding emptyRegisters
+empty-types none e = rw e
+
+pub range-start : (n : ℕ) (sh : Sheet) (len : ℕ) (the : ℕ → Decoded) → rangeFrom (n - 0) sh len the 0 (emptyRegisters .types) ≡ rangeRefusal n sh len the
+range-start n sh len the = rw (sub-zero n)
 
 -- a machine before record k of n more: well formed, few elements counted, the rest in range, and the rest leaves the goal
 pub record Ready (n : ℕ) (sh : Sheet) (len : ℕ) (the : ℕ → Decoded) (k : ℕ) (m goal : Machine) : Type 0 where
@@ -254,6 +315,11 @@ pub record Ready (n : ℕ) (sh : Sheet) (len : ℕ) (the : ℕ → Decoded) (k :
   pub kept : length (m .memory) ≡ len
   pub clear : rangeFrom n sh len the k (m .registers .types) .number ≡ 0
   pub rest : ranFrom n sh the k m ≡ goal
+
+pub ready-start : (n : ℕ) (sh : Sheet) (the : ℕ → Decoded) (memory : List ℕ) → rangeRefusal n sh (length memory) the .number ≡ 0
+    → Ready n sh (length memory) the 0 (started memory) (ran n sh the (started memory))
+ready-start n sh the memory h =
+    record { formed = started-formed memory; few = omega arith; kept = refl; clear = h; rest = refl }
 
 module _ (n : ℕ) (sh : Sheet) (len : ℕ) (the : ℕ → Decoded) (k : ℕ) (m goal : Machine) where
   first-in-range : rangeFrom (suc n) sh len the k (m .registers .types) .number ≡ 0 → decodedOk sh (m .registers .types) len (the k) ≡ true
@@ -290,3 +356,62 @@ module _ (n : ℕ) (sh : Sheet) (len : ℕ) (the : ℕ → Decoded) (k : ℕ) (m
   pub turns-end : n ≤ k → m ≡ goal
   unfolding ranFrom
   turns-end h = let e : n - k ≡ 0 = omega arith in (rw e at r) .rest
+
+-- ---- which answer a tape gets, by the ways that the code takes
+
+module _ (edition room records : ℕ) (e : recordsFit edition room records ≡ true) where
+  pub fit-few : records ≤ 1024
+  unfolding recordsFit recordLimit
+  fit-few = leb-true _ _ (both-left _ _ e)
+
+  pub fit-room : records * 6 ≤ room
+  unfolding recordsFit
+  fit-room = leb-true _ _ (both-right _ _ e)
+
+module _ (sh : Sheet) (tape : List ℤ) (records len : ℕ) where
+  pub tape-fit : tapeRefusal sh tape records len .number ≡ 0 → recordsFit (sh .edition) (length tape) records ≡ true
+  unfolding tapeRefusal
+  tape-fit =
+      pick-case (λ (r : Refusal). r .number ≡ 0 → recordsFit (sh .edition) (length tape) records ≡ true) (recordsFit (sh .edition) (length tape) records) _ _
+      (λ e h. e) (λ e h. absurd (omega arith))
+
+  pub tape-clear : tapeRefusal sh tape records len .number ≡ 0 → rangeRefusal records sh len (tapeRecord tape) .number ≡ 0
+  unfolding tapeRefusal
+  tape-clear =
+      pick-case (λ (r : Refusal). r .number ≡ 0 → rangeRefusal records sh len (tapeRecord tape) .number ≡ 0) (recordsFit (sh .edition) (length tape) records) _ _
+      (λ e h. h) (λ e h. absurd (omega arith))
+
+module _ (s : List ℕ) (tape : List ℤ) (records : ℕ) where
+  module _ (len : ℕ) where
+    pub run-large : memoryLimit < len → runRefusal s tape records len ≡ refusalAt 18 0 0
+    unfolding runRefusal pick
+    run-large h = rw (lt-leb len memoryLimit h)
+
+    pub run-unread : len ≤ memoryLimit → 0 < readSheet s .refusal .number → runRefusal s tape records len ≡ readSheet s .refusal
+    unfolding runRefusal pick
+    run-unread h n = rw (le-leb len memoryLimit h, ne-eqb (readSheet s .refusal .number) 0 (λ e. omega arith))
+
+    pub run-readable : len ≤ memoryLimit → readSheet s .refusal .number ≡ 0 → runRefusal s tape records len ≡ tapeRefusal (readSheet s .sheet) tape records len
+    unfolding runRefusal pick
+    run-readable h n = rw (le-leb len memoryLimit h, eq-eqb (readSheet s .refusal .number) 0 n)
+
+  module _ (memory : List ℕ) where
+    -- refused: empty registers, memory unchanged
+    pub run-refused : {r : Refusal} → runRefusal s tape records (length memory) ≡ r → 0 < r .number → carryAnswer r emptyRegisters 0 ≡ runTape s tape records memory
+    unfolding runTape pick
+    run-refused {r} e n = rw (e, ne-eqb (r .number) 0 (λ q. omega arith))
+
+    pub ran-refused : {r : Refusal} → runRefusal s tape records (length memory) ≡ r → 0 < r .number → memory ≡ ranMemory s tape records memory
+    unfolding ranMemory pick
+    ran-refused {r} e n = rw (e, ne-eqb (r .number) 0 (λ q. omega arith))
+
+    -- accepted: what the records leave
+    pub run-accepted : {registers : Registers} {after : List ℕ} {count : ℕ} → runRefusal s tape records (length memory) .number ≡ 0
+        → machine registers after count ≡ ran records (readSheet s .sheet) (tapeRecord tape) (started memory) → carryAnswer (refusalAt 0 0 0) registers count ≡ runTape s tape records memory
+    unfolding runTape pick
+    run-accepted n e = rw (eq-eqb (runRefusal s tape records (length memory) .number) 0 n, ← e)
+
+    pub ran-accepted : {registers : Registers} {after : List ℕ} {count : ℕ} → runRefusal s tape records (length memory) .number ≡ 0
+        → machine registers after count ≡ ran records (readSheet s .sheet) (tapeRecord tape) (started memory) → after ≡ ranMemory s tape records memory
+    unfolding ranMemory pick
+    ran-accepted n e = rw (eq-eqb (runRefusal s tape records (length memory) .number) 0 n, ← e)
