@@ -13,7 +13,7 @@ use Rattle.numbers.specs.Choice.{pick, pick-case, both-left, both-right}
 use Rattle.numbers.specs.All.{all-at}
 use Rattle.numbers.specs.Lists.{length-line}
 use Rattle.kinds.specs.Widths.{bytesOf}
-use Rattle.sheet.specs.Steps.{theStep, stepOk}
+use Rattle.sheet.specs.Steps.{theStep}
 use Rattle.sheet.specs.declared.Sheet.{Sheet}
 use Rattle.sheet.specs.declared.Refusal.{Refusal}
 use Rattle.sheet.specs.declared.Step.{Step}
@@ -22,7 +22,7 @@ use Rattle.round_trip.specs.Sheets.{Within}
 use Rattle.memory.specs.Elements.{elementAt, withElement}
 use Rattle.memory.specs.Laws.{length-with}
 use Rattle.sheet_reader.specs.Reading.{readSheet}
-use Rattle.registers.specs.Types.{noType, theType, isEmpty}
+use Rattle.registers.specs.Types.{noType, theType}
 use Rattle.registers.specs.Registers.{placeOf, elementOf, withElementOf, room, emptyRegisters}
 use Rattle.registers.specs.Sized.{SizedType, Sized, sized-with}
 use Rattle.registers.specs.declared.MatrixType.{MatrixType}
@@ -34,7 +34,6 @@ use Rattle.transfers.specs.Acts.{State, state, took, gave, put}
 use Rattle.carrying.specs.Steps.{Machine, machine, stateOf, performedStep, wholeStepDone}
 use Rattle.carrying.specs.Carrying.{refusalAt, memoryLimit, started, carryAnswer}
 use Rattle.carrying.specs.Types.{Formed, started-formed, step-places, within-step}
-use Rattle.records.specs.Ranges.{Elements, Bytes, Sound}
 use Rattle.records.specs.declared.Record.{Record}
 use Rattle.records.specs.declared.Record.the-variants.{Copy, Take, Put, Fill, Whole}
 use Rattle.records.specs.declared.Decoded.{Decoded}

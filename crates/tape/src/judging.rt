@@ -1,12 +1,11 @@
 // Which records of a tape are out of range, over the registers' types and the memory's length: refusal 17.
 ghost use mathlib.Core.Path.{_≡_};
 ghost use mathlib.Core.Bool.{true};
-ghost use mathlib.Core.List.{List};
-ghost use Prim.Native.Nat.{ℕ, _+_, _*_, _<_, _≤_, _^_};
+ghost use Prim.Native.Nat.{_+_, _*_, _<_, _≤_, _^_};
 ghost use lib.ListN.{length};
 ghost use Rattle.registers.specs.Sized.{Sized, SizedType};
 ghost use Rattle.round_trip.specs.Sheets.{Within};
-ghost use Rattle.records.specs.Ranges.{Elements, Bytes, Sound};
+ghost use Rattle.records.specs.Ranges.{Bytes, Sound};
 ghost use Rattle.records.specs.declared.Decoded.the-variants.{Good};
 ghost use Rattle.records.specs.declared.Record.the-variants.{Whole};
 ghost use Rattle.tape.specs.Records.{elementsOk, byteInside, bytesInside, bytesRecordOk, fillRecordOk, wholeRecordOk, recordOk, recordTypes};
@@ -39,14 +38,7 @@ fn byte_inside(size: usize, len: usize, byte: usize, up: usize, down: usize, i: 
     above - below + size <= len
 }
 
-fn bytes_inside(
-    size: usize,
-    len: usize,
-    count: usize,
-    byte: usize,
-    up: usize,
-    down: usize,
-) -> bool
+fn bytes_inside(size: usize, len: usize, count: usize, byte: usize, up: usize, down: usize) -> bool
     requires { ⌜ (size ≤ 4) × (count ≤ 256) × Bytes byte up down ⌝ }
     ensures { λ r. ⌜ r ≡ bytesInside size len count byte up down ⌝ }
 {

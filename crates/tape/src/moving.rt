@@ -2,7 +2,7 @@
 ghost use mathlib.Core.Path.{_≡_};
 ghost use mathlib.Core.Bool.{true};
 ghost use mathlib.Core.List.{List};
-ghost use Prim.Native.Nat.{ℕ, _+_, _*_, _<_, _≤_, _^_};
+ghost use Prim.Native.Nat.{ℕ, _+_, _*_, _<_, _≤_};
 ghost use lib.ListN.{length};
 ghost use Rattle.kinds.specs.Laws.{ElementSize};
 ghost use Rattle.registers.specs.Registers.{room};
@@ -13,7 +13,6 @@ ghost use Rattle.carrying.specs.Steps.{machine};
 ghost use Rattle.records.specs.Ranges.{Elements, Bytes};
 ghost use Rattle.tape.specs.Records.{byteAt, bytesInside, bytesRecordOk, fillRecordOk, inOrder, onElements};
 ghost use Rattle.tape.specs.Turns.{taking, putting, filling};
-use carrying::Performed;
 use registers::Registers;
 
 fn byte_at(byte: usize, up: usize, down: usize, i: usize) -> usize

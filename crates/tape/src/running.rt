@@ -1,7 +1,7 @@
 // A tape run with its sheet: every record's range first, then the records, which cannot fail.
 ghost use mathlib.Core.Path.{_≡_};
 ghost use mathlib.Core.Bool.{true};
-ghost use Prim.Native.Nat.{ℕ, _+_, _*_, _<_, _≤_, _^_};
+ghost use Prim.Native.Nat.{_+_, _*_, _<_, _≤_, _^_};
 ghost use lib.ListN.{length};
 ghost use Rattle.sheet.specs.Steps.{theStep};
 ghost use Rattle.registers.specs.Registers.{emptyRegisters};
@@ -9,8 +9,7 @@ ghost use Rattle.registers.specs.Sized.{Sized};
 ghost use Rattle.whole_steps.specs.Whole.{wholeDone};
 ghost use Rattle.round_trip.specs.Sheets.{Within};
 ghost use Rattle.carrying.specs.Steps.{machine};
-ghost use Rattle.carrying.specs.Carrying.{refusalAt, memoryLimit, started, carryAnswer};
-ghost use Rattle.carrying.specs.Types.{Formed};
+ghost use Rattle.carrying.specs.Carrying.{started, carryAnswer};
 ghost use Rattle.records.specs.Ranges.{Sound};
 ghost use Rattle.records.specs.declared.Decoded.the-variants.{Good};
 ghost use Rattle.tape.specs.Translating.{recordLimit, recordsFit};

@@ -8,9 +8,6 @@ use borrow.Author.Needs.{needs}
 use native.Mathlib.Omega.{arith}
 use Rattle.tape.proofs.judging.bytes_inside.Statement.{statement}
 use Rattle.tape.proofs.judging.bytes_inside.Tie as tie
-use Rattle.tape.proofs.judging.bytes_inside.Reads as reads
-use Rattle.tape.proofs.judging.bytes_inside.Lts as lts
-use Rattle.tape.proofs.judging.byte_inside.Reads as byte-inside-reads
 
 abbrev Inv-loop : tie.InvT-loop
 Inv-loop size len count byte up down i₀ i = (i ≤ count) × (all i (byteInside size len byte up down) ≡ true)
@@ -18,31 +15,24 @@ Inv-loop size len count byte up down i₀ i = (i ≤ count) × (all i (byteInsid
 abbrev μ-loop : tie.MeasureT-loop
 μ-loop size len count byte up down i₀ i = count - i
 
--- src/judging.rt:54:5
 loop-holds : tie.Need-loop-holds Inv-loop μ-loop
 loop-holds c = (search needs, all-none _)
 
--- src/judging.rt:55:13
 byte-inside-requires : tie.Need-byte-inside-requires Inv-loop μ-loop
 byte-inside-requires c κs = let q = c .before .before .pre in (q .0, omega (arith, q .1, c .loop-test .taken), q .2)
 
--- src/judging.rt:56:13
 returns : tie.Need-returns Inv-loop μ-loop
 returns c = sym (all-false _ _ (c .before .before .before .loop .i) (c .before .before .loop-test .taken) (went-not (c .before .byte-inside .ensures) (c .if1 .taken)))
 
--- src/judging.rt:58:9
 add-i : tie.Need-add-i Inv-loop μ-loop
 add-i c = search needs
 
--- src/judging.rt:54:5
 loop-less : tie.Need-loop-less Inv-loop μ-loop
 loop-less c = search needs
 
--- src/judging.rt:54:5
 loop-again : tie.Need-loop-again Inv-loop μ-loop
 loop-again c = (search needs, all-more _ _ (c .before .before .before .loop .inv .1) (went-past (c .before .byte-inside .ensures) (c .if1 .left)))
 
--- src/judging.rt:42:1
 returns-2 : tie.Need-returns-2 Inv-loop μ-loop
 returns-2 c =
     let i = c .before .loop in

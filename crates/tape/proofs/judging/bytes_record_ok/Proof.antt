@@ -1,49 +1,35 @@
-use Rattle.numbers.specs.Choice.{went-past}
+use Rattle.numbers.specs.Choice.{went-past, tests, stop, pass}
 use Rattle.tape.specs.Turns.{turned, elements-fit}
 use Rattle.kinds.specs.Laws.{bytes-high}
-use Rattle.numbers.specs.Choice.{tests, stop, pass}
 use Rattle.tape.specs.Records.{bytesRecordOk}
 use native.Mathlib.Omega.{arith}
 use borrow.Author.Needs.{needs}
 use Rattle.tape.proofs.judging.bytes_record_ok.Statement.{statement}
 use Rattle.tape.proofs.judging.bytes_record_ok.Tie as tie
-use Rattle.tape.proofs.judging.bytes_record_ok.Reads as reads
-use Rattle.tape.proofs.judging.bytes_record_ok.Lts as lts
-use Rattle.kinds.proofs.bytes.Reads as bytes-reads
-use Rattle.registers.proofs.is_empty.Reads as is-empty-reads
-use Rattle.tape.proofs.judging.bytes_inside.Reads as bytes-inside-reads
-use Rattle.tape.proofs.judging.elements_ok.Reads as elements-ok-reads
 
--- src/judging.rt:76:8
 is-empty-requires : tie.Need-is-empty-requires
 is-empty-requires c κs = search needs
 
--- src/judging.rt:77:9
 returns : tie.Need-returns
 unfolding bytesRecordOk
 returns c = stop _ (search turned)
 
--- src/judging.rt:79:9
 elements-ok-requires : tie.Need-elements-ok-requires
 elements-ok-requires c κs = search needs
 
--- src/judging.rt:80:9
 returns-2 : tie.Need-returns-2
 unfolding bytesRecordOk
 returns-2 c = pass (search turned) (stop _ (search tests))
 
--- src/judging.rt:82:18
 bytes-requires : tie.Need-bytes-requires
 bytes-requires c κs = search needs
 
--- src/judging.rt:82:5
 bytes-inside-requires : tie.Need-bytes-inside-requires
 bytes-inside-requires c κs =
     let s = c .before .before .before .before .before in
     let a = s .args in
     (rw (c .bytes .ensures) (bytes-high (a .t .kind)), omega (arith, elements-fit (a .t) (a .first) (a .count) (s .pre .0) (went-past (c .before .before .elements-ok .ensures) (c .before .if2 .left))), s .pre .3)
 
--- src/judging.rt:64:1
 returns-3 : tie.Need-returns-3
 unfolding bytesRecordOk
 returns-3 c = pass (search turned) (pass (search tests) (rw (c .before .bytes .ensures) at (c .bytes-inside .ensures)))

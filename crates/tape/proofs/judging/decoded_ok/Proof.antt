@@ -1,28 +1,19 @@
-use native.Mathlib.Omega.{arith}
 use borrow.Author.Needs.{needs}
 use Rattle.tape.proofs.judging.decoded_ok.Statement.{statement}
 use Rattle.tape.proofs.judging.decoded_ok.Tie as tie
-use Rattle.tape.proofs.judging.decoded_ok.Reads as reads
-use Rattle.tape.proofs.judging.decoded_ok.Lts as lts
-use Rattle.tape.proofs.judging.record_ok.Reads as record-ok-reads
 
--- src/judging.rt:208:23
 enum-known-d : tie.Need-enum-known-d
 enum-known-d c = search needs
 
--- src/judging.rt:208:29
 record-ok-requires : tie.Need-record-ok-requires
 record-ok-requires c κs = let s = c .before .before .before in (s .pre .0, s .pre .1, rw (c .before .d .given .1) at (s .pre .2))
 
--- src/judging.rt:209:25
 enum-told : tie.Need-enum-told
 enum-told c = search needs
 
--- src/judging.rt:203:1
 returns : tie.Need-returns
 returns c = rw (c .before .before .d .given .1) (c .record-ok .ensures)
 
--- src/judging.rt:203:1
 returns-2 : tie.Need-returns-2
 returns-2 c = rw (c .enum-told .given .1)
 

@@ -1,28 +1,19 @@
-use native.Mathlib.Omega.{arith}
 use borrow.Author.Needs.{needs}
 use Rattle.tape.proofs.judging.decoded_types.Statement.{statement}
 use Rattle.tape.proofs.judging.decoded_types.Tie as tie
-use Rattle.tape.proofs.judging.decoded_types.Reads as reads
-use Rattle.tape.proofs.judging.decoded_types.Lts as lts
-use Rattle.tape.proofs.judging.record_types.Reads as record-types-reads
 
--- src/judging.rt:218:23
 enum-known-d : tie.Need-enum-known-d
 enum-known-d c = search needs
 
--- src/judging.rt:218:29
 record-types-requires : tie.Need-record-types-requires
 record-types-requires c κs = let s = c .before .before .before in let e = c .before .d .given .1 in (s .pre .0, rw e at (s .pre .1), rw e at (s .pre .2))
 
--- src/judging.rt:219:25
 enum-told : tie.Need-enum-told
 enum-told c = search needs
 
--- src/judging.rt:213:1
 returns : tie.Need-returns
 returns c = rw (c .before .before .d .given .1) (c .record-types .ensures)
 
--- src/judging.rt:213:1
 returns-2 : tie.Need-returns-2
 returns-2 c = rw (c .enum-told .given .1)
 

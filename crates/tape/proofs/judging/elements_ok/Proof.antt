@@ -3,26 +3,19 @@ use native.Mathlib.Omega.{arith}
 use borrow.Author.Needs.{needs}
 use Rattle.tape.proofs.judging.elements_ok.Statement.{statement}
 use Rattle.tape.proofs.judging.elements_ok.Tie as tie
-use Rattle.tape.proofs.judging.elements_ok.Reads as reads
-use Rattle.tape.proofs.judging.elements_ok.Lts as lts
 
--- src/judging.rt:27:5
 add-result : tie.Need-add-result
 add-result c = search needs
 
--- src/judging.rt:27:23
 cast-result : tie.Need-cast-result
 cast-result c = search needs
 
--- src/judging.rt:27:43
 cast-result-2 : tie.Need-cast-result-2
 cast-result-2 c = search needs
 
--- src/judging.rt:27:22
 mul-result : tie.Need-mul-result
 mul-result c = omega (arith, sized-room _ (c .before .before .pre .0))
 
--- src/judging.rt:23:1
 returns : tie.Need-returns
 returns c = search needs
 

@@ -9,13 +9,6 @@ use borrow.Author.Needs.{needs}
 use native.Mathlib.Omega.{arith}
 use Rattle.tape.proofs.judging.range.Statement.{statement}
 use Rattle.tape.proofs.judging.range.Tie as tie
-use Rattle.tape.proofs.judging.range.Reads as reads
-use Rattle.tape.proofs.judging.range.Lts as lts
-use Rattle.carrying.proofs.checks.refusal_at.Reads as refusal-at-reads
-use Rattle.records.proofs.read_record.Reads as read-record-reads
-use Rattle.registers.proofs.no_type.Reads as no-type-reads
-use Rattle.tape.proofs.judging.decoded_ok.Reads as decoded-ok-reads
-use Rattle.tape.proofs.judging.decoded_types.Reads as decoded-types-reads
 
 abbrev Inv-loop : tie.InvT-loop
 Inv-loop sheet tape records len types₀ k₀ types k = (k ≤ records) × Sized types × (rangeFrom (records - k) sheet len (tapeRecord tape) k types ≡ rangeRefusal records sheet len (tapeRecord tape))
@@ -23,34 +16,27 @@ Inv-loop sheet tape records len types₀ k₀ types k = (k ≤ records) × Sized
 abbrev μ-loop : tie.MeasureT-loop
 μ-loop sheet tape records len types₀ k₀ types k = records - k
 
--- src/judging.rt:228:9
 no-type-requires : tie.Need-no-type-requires Inv-loop μ-loop
 no-type-requires c κs = search needs
 
--- src/judging.rt:231:5
 loop-holds : tie.Need-loop-holds Inv-loop μ-loop
 loop-holds c =
     let a = c .before .args in
     let e = empty-types (c .no-type .result) (c .no-type .ensures) in
     (omega arith, rw e sized-empty, rw e (range-start (a .records) (a .sheet) (a .len) (tapeRecord (now (a .tape)))))
 
--- src/judging.rt:232:44
 mul-read-record : tie.Need-mul-read-record Inv-loop μ-loop
 mul-read-record c = omega (arith, c .loop-test .taken, c .before .before .before .pre .1)
 
--- src/judging.rt:232:13
 read-record-requires : tie.Need-read-record-requires Inv-loop μ-loop
 read-record-requires c κs = omega (arith, c .loop-test .taken, c .before .before .before .pre .2)
 
--- src/judging.rt:233:13
 decoded-ok-requires : tie.Need-decoded-ok-requires Inv-loop μ-loop
 decoded-ok-requires c κs = (c .before .before .before .before .pre .0, c .before .before .loop .inv .1, c .read-record .ensures .1)
 
--- src/judging.rt:234:13
 refusal-at-requires : tie.Need-refusal-at-requires Inv-loop μ-loop
 refusal-at-requires c κs = search needs
 
--- src/judging.rt:234:13
 returns : tie.Need-returns Inv-loop μ-loop
 returns c =
     let i = c .before .before .before .before .before .loop in
@@ -60,20 +46,16 @@ returns c =
     ∙ range-stop (a .records) (a .sheet) (a .len) (tapeRecord (now (a .tape))) (i .k) (i .types) (c .before .before .before .before .loop-test .taken) (c .before .before .before .read-record .ensures .0) (went-not (c .before .before .decoded-ok .ensures) (c .before .if1 .taken))
     ∙ i .inv .2
 
--- src/judging.rt:236:13
 decoded-types-requires : tie.Need-decoded-types-requires Inv-loop μ-loop
 decoded-types-requires c κs =
     (c .before .before .before .before .before .before .pre .0, c .before .before .read-record .ensures .1, went-past (c .before .decoded-ok .ensures) (c .if1 .left))
 
--- src/judging.rt:238:9
 add-k : tie.Need-add-k Inv-loop μ-loop
 add-k c = omega (arith, c .before .before .before .before .loop-test .taken, c .before .before .before .before .before .before .before .pre .1)
 
--- src/judging.rt:231:5
 loop-less : tie.Need-loop-less Inv-loop μ-loop
 loop-less c = omega (arith, c .before .before .before .before .loop-test .taken)
 
--- src/judging.rt:231:5
 loop-again : tie.Need-loop-again Inv-loop μ-loop
 loop-again c =
     let i = c .before .before .before .before .before .loop in
@@ -83,11 +65,9 @@ loop-again c =
     let ok = went-past (c .before .before .decoded-ok .ensures) (c .before .if1 .left) in
     (omega (arith, h), rw (c .decoded-types .ensures) (decoded-sized (a .sheet) (s .pre .0) (i .types) (a .len) (c .before .before .before .read-record .result) ok (i .inv .1)), rw (c .decoded-types .ensures) (range-go (a .records) (a .sheet) (a .len) (tapeRecord (now (a .tape))) (i .k) (i .types) h (c .before .before .before .read-record .ensures .0) ok ∙ i .inv .2))
 
--- src/judging.rt:240:5
 refusal-at-requires-2 : tie.Need-refusal-at-requires-2 Inv-loop μ-loop
 refusal-at-requires-2 c κs = search needs
 
--- src/judging.rt:224:1
 returns-2 : tie.Need-returns-2 Inv-loop μ-loop
 returns-2 c =
     let i = c .before .before .loop in

@@ -2,100 +2,73 @@ use mathlib.Core.Path.{ap, _∙_}
 use mathlib.Core.Bool.{not}
 use Rattle.registers.specs.Types.{isEmpty}
 use Rattle.registers.specs.declared.MatrixType.{MatrixType}
-use native.Mathlib.Omega.{arith}
 use borrow.Author.Needs.{needs}
 use Rattle.tape.proofs.judging.record_ok.Statement.{statement}
 use Rattle.tape.proofs.judging.record_ok.Tie as tie
-use Rattle.tape.proofs.judging.record_ok.Reads as reads
-use Rattle.tape.proofs.judging.record_ok.Lts as lts
-use Rattle.registers.proofs.is_empty.Reads as is-empty-reads
-use Rattle.registers.proofs.the_type.Reads as the-type-reads
-use Rattle.tape.proofs.judging.bytes_record_ok.Reads as bytes-record-ok-reads
-use Rattle.tape.proofs.judging.fill_record_ok.Reads as fill-record-ok-reads
-use Rattle.tape.proofs.judging.whole_record_ok.Reads as whole-record-ok-reads
 
--- src/judging.rt:121:13
 enum-known-r : tie.Need-enum-known-r
 enum-known-r c = search needs
 
--- src/judging.rt:122:35
 the-type-requires : tie.Need-the-type-requires
 the-type-requires c κs = (rw (c .before .r .given .1) at (c .before .before .before .pre .2)) .1
 
--- src/judging.rt:122:15
 is-empty-requires : tie.Need-is-empty-requires
 is-empty-requires c κs = search needs
 
--- src/judging.rt:124:13
 enum-known-r-2 : tie.Need-enum-known-r-2
 enum-known-r-2 c = search needs
 
--- src/judging.rt:131:17
 the-type-requires-2 : tie.Need-the-type-requires-2
 the-type-requires-2 c κs = (rw (c .before .r2 .given .1) at (c .before .before .before .pre .2)) .0 .register
 
--- src/judging.rt:132:13
 bytes-record-ok-requires : tie.Need-bytes-record-ok-requires
 bytes-record-ok-requires c κs =
     let s = c .before .before .before .before in
     let q = rw (c .before .before .r2 .given .1) at (s .pre .2) in
     (rw (c .the-type2 .ensures) (s .pre .1 .each _), q .0 .first, q .0 .count, q .1)
 
--- src/judging.rt:135:13
 enum-known-r-3 : tie.Need-enum-known-r-3
 enum-known-r-3 c = search needs
 
--- src/judging.rt:142:17
 the-type-requires-3 : tie.Need-the-type-requires-3
 the-type-requires-3 c κs = (rw (c .before .r3 .given .1) at (c .before .before .before .pre .2)) .0 .register
 
--- src/judging.rt:143:13
 bytes-record-ok-requires-2 : tie.Need-bytes-record-ok-requires-2
 bytes-record-ok-requires-2 c κs =
     let s = c .before .before .before .before in
     let q = rw (c .before .before .r3 .given .1) at (s .pre .2) in
     (rw (c .the-type3 .ensures) (s .pre .1 .each _), q .0 .first, q .0 .count, q .1)
 
--- src/judging.rt:146:13
 enum-known-r-4 : tie.Need-enum-known-r-4
 enum-known-r-4 c = search needs
 
--- src/judging.rt:151:17
 the-type-requires-4 : tie.Need-the-type-requires-4
 the-type-requires-4 c κs = (rw (c .before .r4 .given .1) at (c .before .before .before .pre .2)) .0 .register
 
--- src/judging.rt:152:13
 fill-record-ok-requires : tie.Need-fill-record-ok-requires
 fill-record-ok-requires c κs =
     let s = c .before .before .before .before in
     let q = rw (c .before .before .r4 .given .1) at (s .pre .2) in
     (rw (c .the-type4 .ensures) (s .pre .1 .each _), q .0 .first, q .0 .count)
 
--- src/judging.rt:154:25
 enum-known-r-5 : tie.Need-enum-known-r-5
 enum-known-r-5 c = search needs
 
--- src/judging.rt:154:35
 whole-record-ok-requires : tie.Need-whole-record-ok-requires
 whole-record-ok-requires c κs = c .before .before .before .pre .0
 
--- src/judging.rt:114:1
 returns : tie.Need-returns
 returns c = rw (c .before .before .before .r .given .1) (ap not (c .is-empty .ensures) ∙ ap (λ (t : MatrixType). not (isEmpty t)) (c .before .the-type .ensures))
 
--- src/judging.rt:114:1
 returns-2 : tie.Need-returns-2
 returns-2 c = rw (c .before .before .before .r2 .given .1) (rw (c .before .the-type2 .ensures) at (c .bytes-record-ok .ensures))
 
--- src/judging.rt:114:1
 returns-3 : tie.Need-returns-3
 returns-3 c = rw (c .before .before .before .r3 .given .1) (rw (c .before .the-type3 .ensures) at (c .bytes-record-ok2 .ensures))
 
--- src/judging.rt:114:1
 returns-4 : tie.Need-returns-4
 returns-4 c = rw (c .before .before .before .r4 .given .1) (rw (c .before .the-type4 .ensures) at (c .fill-record-ok .ensures))
 
--- src/judging.rt:114:1
 returns-5 : tie.Need-returns-5
 returns-5 c = rw (c .before .before .r5 .given .1) (c .whole-record-ok .ensures)
 

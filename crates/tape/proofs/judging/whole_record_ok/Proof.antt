@@ -5,38 +5,27 @@ use native.Mathlib.Omega.{arith}
 use borrow.Author.Needs.{needs}
 use Rattle.tape.proofs.judging.whole_record_ok.Statement.{statement}
 use Rattle.tape.proofs.judging.whole_record_ok.Tie as tie
-use Rattle.tape.proofs.judging.whole_record_ok.Reads as reads
-use Rattle.tape.proofs.judging.whole_record_ok.Lts as lts
-use Rattle.whole_steps.proofs.refusals.is_whole.Reads as is-whole-reads
-use Rattle.whole_steps.proofs.refusals.whole_refusal.Reads as whole-refusal-reads
 
--- src/judging.rt:104:9
 returns : tie.Need-returns
 unfolding wholeRecordOk
 returns c = stop _ (search tests)
 
--- src/judging.rt:106:13
 mul-c : tie.Need-mul-c
 mul-c c = search needs
 
--- src/judging.rt:106:13
 element-copy-out-c : tie.Need-element-copy-out-c
 element-copy-out-c c = search needs
 
--- src/judging.rt:108:9
 is-whole-requires : tie.Need-is-whole-requires
 is-whole-requires c κs = search needs
 
--- src/judging.rt:109:9
 returns-2 : tie.Need-returns-2
 unfolding wholeRecordOk
 returns-2 c = pass (search tests) (stop _ (search tests))
 
--- src/judging.rt:111:5
 whole-refusal-requires : tie.Need-whole-refusal-requires
 whole-refusal-requires c κs = let s = c .before .before .before .before in step-whole (s .args .t1) (s .pre) (s .args .step) (omega arith)
 
--- src/judging.rt:99:1
 returns-3 : tie.Need-returns-3
 unfolding wholeRecordOk
 returns-3 c = pass (search tests) (pass (search tests) (cc))

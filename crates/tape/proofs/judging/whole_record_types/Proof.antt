@@ -3,23 +3,16 @@ use native.Mathlib.Omega.{arith}
 use borrow.Author.Needs.{needs}
 use Rattle.tape.proofs.judging.whole_record_types.Statement.{statement}
 use Rattle.tape.proofs.judging.whole_record_types.Tie as tie
-use Rattle.tape.proofs.judging.whole_record_types.Reads as reads
-use Rattle.tape.proofs.judging.whole_record_types.Lts as lts
-use Rattle.whole_steps.proofs.types.whole_types.Reads as whole-types-reads
 
--- src/judging.rt:162:13
 mul-c : tie.Need-mul-c
 mul-c c = omega (arith, whole-given (c .args .t1) (c .args .types) (c .args .step) (c .pre .1), c .pre .0 .steps)
 
--- src/judging.rt:162:13
 element-copy-out-c : tie.Need-element-copy-out-c
 element-copy-out-c c = omega (arith, whole-given (c .args .t1) (c .args .types) (c .args .step) (c .pre .1), c .pre .0 .steps)
 
--- src/judging.rt:164:5
 whole-types-requires : tie.Need-whole-types-requires
 whole-types-requires c κs = let s = c .before in whole-within (s .args .t1) (s .args .types) (s .args .step) (s .pre .1) (s .pre .0)
 
--- src/judging.rt:158:1
 returns : tie.Need-returns
 returns c = search needs
 

@@ -2,15 +2,9 @@ use mathlib.Core.Path.{ap}
 use Rattle.registers.specs.Types.{theType}
 use Rattle.carrying.specs.Steps.{machineOf}
 use Rattle.tape.specs.Turns.{elements-fit, fill-elements}
-use borrow.Author.Needs.{needs}
-use native.Mathlib.Omega.{arith}
 use Rattle.tape.proofs.moving.fill.Statement.{statement}
 use Rattle.tape.proofs.moving.fill.Tie as tie
-use Rattle.tape.proofs.moving.fill.Reads as reads
-use Rattle.tape.proofs.moving.fill.Lts as lts
-use Rattle.tape.proofs.moving.fill_elements.Reads as fill-elements-reads
 
--- src/moving.rt:156:5
 fill-elements-requires : tie.Need-fill-elements-requires
 fill-elements-requires c κs =
     let s = c .before .before .before in
@@ -18,7 +12,6 @@ fill-elements-requires c κs =
     let t = theType (a .registers .types) (a .register) in
     (s .pre .0 .1 .register, elements-fit t (a .first) (a .count) (s .pre .0 .0 .each (a .register)) (fill-elements t (a .first) (a .count) (a .value) (s .pre .1)))
 
--- src/moving.rt:149:1
 returns : tie.Need-returns
 returns c = λ memory n. ap (machineOf (c .before .before .before .before .args .registers .types)) (c .fill-elements .ensures memory n)
 

@@ -1,7 +1,7 @@
 use denote.Ref.{now}
 use mathlib.Core.Path.{_≡_, sym}
 use mathlib.Core.List.{List}
-use Prim.Native.Nat.{ℕ, _+_, _-_, _≤_}
+use Prim.Native.Nat.{ℕ, _-_, _≤_}
 use Rattle.transfers.specs.Acts.{state}
 use Rattle.tape.specs.Records.{inOrder}
 use Rattle.tape.specs.Turns.{filling, order-none, fill-turn}
@@ -9,9 +9,6 @@ use borrow.Author.Needs.{needs}
 use native.Mathlib.Omega.{arith}
 use Rattle.tape.proofs.moving.fill_elements.Statement.{statement}
 use Rattle.tape.proofs.moving.fill_elements.Tie as tie
-use Rattle.tape.proofs.moving.fill_elements.Reads as reads
-use Rattle.tape.proofs.moving.fill_elements.Lts as lts
-use Rattle.registers.proofs.put_element_of.Reads as put-element-of-reads
 
 abbrev Inv-loop : tie.InvT-loop
 Inv-loop elements₀ register first count value i₀ elements i = (i ≤ count) × ((m : List ℕ) (n : ℕ) → state elements m n ≡ inOrder (filling register first value) i (state elements₀ m n))
@@ -19,34 +16,27 @@ Inv-loop elements₀ register first count value i₀ elements i = (i ≤ count) 
 abbrev μ-loop : tie.MeasureT-loop
 μ-loop elements₀ register first count value i₀ elements i = count - i
 
--- src/moving.rt:79:5
 loop-holds : tie.Need-loop-holds Inv-loop μ-loop
 loop-holds c = (search needs, λ m n. sym (order-none _ _))
 
--- src/moving.rt:80:55
 add-put-element-of : tie.Need-add-put-element-of Inv-loop μ-loop
 add-put-element-of c = omega (arith, c .before .before .before .pre .1, c .before .loop-test .taken)
 
--- src/moving.rt:80:9
 put-element-of-requires : tie.Need-put-element-of-requires Inv-loop μ-loop
 put-element-of-requires c κs = (c .before .before .before .pre .0, omega (arith, c .before .before .before .pre .1, c .before .loop-test .taken))
 
--- src/moving.rt:81:9
 add-i : tie.Need-add-i Inv-loop μ-loop
 add-i c = search needs
 
--- src/moving.rt:79:5
 loop-less : tie.Need-loop-less Inv-loop μ-loop
 loop-less c = search needs
 
--- src/moving.rt:79:5
 loop-again : tie.Need-loop-again Inv-loop μ-loop
 loop-again c =
     let i = c .before .before .before .loop in
     let a = c .before .before .before .before .args in
     (search needs, fill-turn (a .register) (a .first) (i .i) (a .value) (now (a .elements)) (i .inv .1) (c .put-element-of .ensures))
 
--- src/moving.rt:74:1
 returns : tie.Need-returns Inv-loop μ-loop
 returns c =
     let i = c .before .loop in

@@ -9,25 +9,16 @@ use Rattle.transfers.specs.Acts.{state}
 use Rattle.carrying.specs.Steps.{machineOf}
 use Rattle.tape.specs.Records.{inOrder}
 use Rattle.tape.specs.Turns.{putting, elements-fit, bytes-elements, bytes-inside}
-use native.Mathlib.Omega.{arith}
 use borrow.Author.Needs.{needs}
 use Rattle.tape.proofs.moving.put.Statement.{statement}
 use Rattle.tape.proofs.moving.put.Tie as tie
-use Rattle.tape.proofs.moving.put.Reads as reads
-use Rattle.tape.proofs.moving.put.Lts as lts
-use Rattle.kinds.proofs.bytes.Reads as bytes-reads
-use Rattle.registers.proofs.the_type.Reads as the-type-reads
-use Rattle.tape.proofs.moving.put_elements.Reads as put-elements-reads
 
--- src/moving.rt:133:9
 the-type-requires : tie.Need-the-type-requires
 the-type-requires c κs = c .before .before .pre .0 .1 .register
 
--- src/moving.rt:138:9
 bytes-requires : tie.Need-bytes-requires
 bytes-requires c κs = search needs
 
--- src/moving.rt:135:5
 put-elements-requires : tie.Need-put-elements-requires
 put-elements-requires c κs =
     let s = c .before .before .before .before .before .before .before in
@@ -36,11 +27,9 @@ put-elements-requires c κs =
     let k = c .bytes .ensures ∙ ap (λ (t : MatrixType). bytesOf (t .kind)) (c .before .before .before .before .the-type .ensures) in
     rw k ((bytes-size (t .kind), s .pre .0 .1 .register, elements-fit t (a .first) (a .count) (s .pre .0 .0 .each (a .register)) (bytes-elements t (a .first) (a .count) _ _ _ _ (s .pre .1)), s .pre .0 .2), bytes-inside t (a .first) (a .count) _ _ _ _ (s .pre .1))
 
--- src/moving.rt:118:1
 same-length : tie.Need-same-length
 same-length c = search needs
 
--- src/moving.rt:118:1
 returns : tie.Need-returns
 returns c =
     let d = c .before .before in

@@ -9,25 +9,16 @@ use Rattle.transfers.specs.Acts.{state}
 use Rattle.carrying.specs.Steps.{machineOf}
 use Rattle.tape.specs.Records.{inOrder}
 use Rattle.tape.specs.Turns.{taking, elements-fit, bytes-elements, bytes-inside}
-use native.Mathlib.Omega.{arith}
 use borrow.Author.Needs.{needs}
 use Rattle.tape.proofs.moving.take.Statement.{statement}
 use Rattle.tape.proofs.moving.take.Tie as tie
-use Rattle.tape.proofs.moving.take.Reads as reads
-use Rattle.tape.proofs.moving.take.Lts as lts
-use Rattle.kinds.proofs.bytes.Reads as bytes-reads
-use Rattle.registers.proofs.the_type.Reads as the-type-reads
-use Rattle.tape.proofs.moving.take_elements.Reads as take-elements-reads
 
--- src/moving.rt:101:9
 the-type-requires : tie.Need-the-type-requires
 the-type-requires c κs = c .before .before .pre .0 .1 .register
 
--- src/moving.rt:106:9
 bytes-requires : tie.Need-bytes-requires
 bytes-requires c κs = search needs
 
--- src/moving.rt:103:5
 take-elements-requires : tie.Need-take-elements-requires
 take-elements-requires c κs =
     let s = c .before .before .before .before .before .before in
@@ -36,7 +27,6 @@ take-elements-requires c κs =
     let k = c .bytes .ensures ∙ ap (λ (t : MatrixType). bytesOf (t .kind)) (c .before .before .before .the-type .ensures) in
     rw k ((bytes-size (t .kind), s .pre .0 .1 .register, elements-fit t (a .first) (a .count) (s .pre .0 .0 .each (a .register)) (bytes-elements t (a .first) (a .count) _ _ _ _ (s .pre .1)), s .pre .0 .2), bytes-inside t (a .first) (a .count) _ _ _ _ (s .pre .1))
 
--- src/moving.rt:86:1
 returns : tie.Need-returns
 returns c =
     let s = c .before .before .before .before .before .before .before in

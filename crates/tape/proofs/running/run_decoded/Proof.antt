@@ -1,35 +1,25 @@
-use native.Mathlib.Omega.{arith}
 use borrow.Author.Needs.{needs}
 use Rattle.tape.proofs.running.run_decoded.Statement.{statement}
 use Rattle.tape.proofs.running.run_decoded.Tie as tie
-use Rattle.tape.proofs.running.run_decoded.Reads as reads
-use Rattle.tape.proofs.running.run_decoded.Lts as lts
-use Rattle.tape.proofs.running.run_record.Reads as run-record-reads
 
--- src/running.rt:141:23
 enum-known-d : tie.Need-enum-known-d
 enum-known-d c = search needs
 
--- src/running.rt:141:29
 run-record-requires : tie.Need-run-record-requires
 run-record-requires c κs =
     let s = c .before .before .before .before .before in
     let e = c .before .before .d .given .1 in
     ((s .pre .0 .0, s .pre .0 .1, rw e at (s .pre .0 .2), s .pre .0 .3), rw e at (s .pre .1))
 
--- src/running.rt:142:25
 enum-told : tie.Need-enum-told
 enum-told c = search needs
 
--- src/running.rt:129:1
 same-length : tie.Need-same-length
 same-length c = search needs
 
--- src/running.rt:129:1
 returns : tie.Need-returns
 returns c = rw (c .before .before .before .before .before .d .given .1) (c .before .before .run-record .ensures)
 
--- src/running.rt:129:1
 returns-2 : tie.Need-returns-2
 returns-2 c = rw (c .enum-told .given .1)
 

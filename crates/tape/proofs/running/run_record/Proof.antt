@@ -10,27 +10,16 @@ use native.Mathlib.Omega.{arith}
 use borrow.Author.Needs.{needs}
 use Rattle.tape.proofs.running.run_record.Statement.{statement}
 use Rattle.tape.proofs.running.run_record.Tie as tie
-use Rattle.tape.proofs.running.run_record.Reads as reads
-use Rattle.tape.proofs.running.run_record.Lts as lts
-use Rattle.registers.proofs.copied.Reads as copied-reads
-use Rattle.tape.proofs.moving.fill.Reads as fill-reads
-use Rattle.tape.proofs.moving.put.Reads as put-reads
-use Rattle.tape.proofs.moving.take.Reads as take-reads
-use Rattle.tape.proofs.running.run_whole.Reads as run-whole-reads
 
--- src/running.rt:72:24
 enum-known-r : tie.Need-enum-known-r
 enum-known-r c = search needs
 
--- src/running.rt:73:17
 copied-requires : tie.Need-copied-requires
 copied-requires c κs = rw (c .before .r .given .1) at (c .before .before .before .before .pre .0 .2)
 
--- src/running.rt:80:13
 enum-known-r-2 : tie.Need-enum-known-r-2
 enum-known-r-2 c = search needs
 
--- src/running.rt:87:17
 take-requires : tie.Need-take-requires
 take-requires c κs =
     let s = c .before .before .before .before .before in
@@ -38,18 +27,15 @@ take-requires c κs =
     let q = rw e at (s .pre .0 .2) in
     ((s .pre .0 .1, q .0, q .1), rw e at (s .pre .1))
 
--- src/running.rt:90:24
 add-t32 : tie.Need-add-t32
 add-t32 c =
     let s = c .before .before .before .before .before .before in
     let q = rw (c .before .before .before .r2 .given .1) at (s .pre .0 .2) in
     omega (arith, s .pre .0 .3, q .0 .count)
 
--- src/running.rt:94:13
 enum-known-r-3 : tie.Need-enum-known-r-3
 enum-known-r-3 c = search needs
 
--- src/running.rt:101:13
 put-requires : tie.Need-put-requires
 put-requires c κs =
     let s = c .before .before .before .before .before in
@@ -57,65 +43,53 @@ put-requires c κs =
     let q = rw e at (s .pre .0 .2) in
     ((s .pre .0 .1, q .0, q .1), rw e at (s .pre .1))
 
--- src/running.rt:104:24
 add-t36 : tie.Need-add-t36
 add-t36 c =
     let s = c .before .before .before .before .before .before .before .before in
     let q = rw (c .before .before .before .before .before .r3 .given .1) at (s .pre .0 .2) in
     omega (arith, s .pre .0 .3, q .0 .count)
 
--- src/running.rt:108:13
 enum-known-r-4 : tie.Need-enum-known-r-4
 enum-known-r-4 c = search needs
 
--- src/running.rt:113:17
 fill-requires : tie.Need-fill-requires
 fill-requires c κs =
     let s = c .before .before .before .before in
     let e = c .before .r4 .given .1 in
     ((s .pre .0 .1, (rw e at (s .pre .0 .2)) .0), rw e at (s .pre .1))
 
--- src/running.rt:119:25
 enum-known-r-5 : tie.Need-enum-known-r-5
 enum-known-r-5 c = search needs
 
--- src/running.rt:120:17
 run-whole-requires : tie.Need-run-whole-requires
 run-whole-requires c κs =
     let s = c .before .before .before .before in
     (s .pre .0 .0, s .pre .0 .1, rw (c .before .r5 .given .1) at (s .pre .1))
 
--- src/running.rt:60:1
 returns : tie.Need-returns
 unfolding ranRecord
 returns c = rw (c .before .before .r .given .1, c .copied .ensures)
 
--- src/running.rt:60:1
 same-length : tie.Need-same-length
 same-length c = search needs
 
--- src/running.rt:60:1
 returns-2 : tie.Need-returns-2
 unfolding ranRecord
 returns-2 c = rw (c .before .before .before .r2 .given .1) (c .take .ensures (c .before .before .before .before .before .before .args .counted))
 
--- src/running.rt:60:1
 same-length-2 : tie.Need-same-length-2
 same-length-2 c = search needs
 
--- src/running.rt:60:1
 returns-3 : tie.Need-returns-3
 unfolding ranRecord
 returns-3 c = rw (c .before .before .before .before .before .r3 .given .1) (c .before .before .put .ensures (c .before .before .before .before .before .before .before .before .args .counted))
 
--- src/running.rt:60:1
 returns-4 : tie.Need-returns-4
 unfolding ranRecord
 returns-4 c =
     let a = c .before .before .before .before .before .args in
     rw (c .before .before .r4 .given .1) (c .fill .ensures (now (a .memory)) (a .counted))
 
--- src/running.rt:60:1
 returns-5 : tie.Need-returns-5
 unfolding ranRecord
 returns-5 c =

@@ -1,6 +1,6 @@
 use denote.Ref.{now}
 use lib.ListN.{length}
-use Prim.Native.Nat.{ℕ, _<_, _≤_}
+use Prim.Native.Nat.{_<_, _≤_}
 use mathlib.Core.Path.{_≡_, sym, ap, _∙_}
 use Rattle.sheet.specs.declared.Refusal.{Refusal}
 use Rattle.sheet_reader.specs.Reading.{readSheet}
@@ -14,23 +14,13 @@ use native.Mathlib.Omega.{arith}
 use borrow.Author.Needs.{needs}
 use Rattle.tape.proofs.running.run_tape.Statement.{statement}
 use Rattle.tape.proofs.running.run_tape.Tie as tie
-use Rattle.tape.proofs.running.run_tape.Reads as reads
-use Rattle.tape.proofs.running.run_tape.Lts as lts
-use Rattle.carrying.proofs.checks.refusal_at.Reads as refusal-at-reads
-use Rattle.sheet_reader.proofs.read_sheet.Reads as read-sheet-reads
-use Rattle.tape.proofs.running.run_records.Reads as run-records-reads
-use Rattle.tape.proofs.running.run_refused.Reads as run-refused-reads
-use Rattle.tape.proofs.running.tape_refusal.Reads as tape-refusal-reads
 
--- src/running.rt:197:28
 refusal-at-requires : tie.Need-refusal-at-requires
 refusal-at-requires c κs = search needs
 
--- src/running.rt:197:9
 run-refused-requires : tie.Need-run-refused-requires
 run-refused-requires c κs = search needs
 
--- src/running.rt:197:9
 returns : tie.Need-returns
 returns c =
     let a = c .before .before .before .before .before .args in
@@ -40,15 +30,12 @@ returns c =
     let u = run-large s t (a .records) (length m) (c .before .before .if1 .taken) in
     (c .run-refused .ensures ∙ ap (λ (r : Refusal). carryAnswer r emptyRegisters 0) (c .before .refusal-at .ensures) ∙ run-refused s t (a .records) m u (omega arith), ran-refused s t (a .records) m u (omega arith))
 
--- src/running.rt:199:9
 read-sheet-requires : tie.Need-read-sheet-requires
 read-sheet-requires c κs = search needs
 
--- src/running.rt:202:9
 run-refused-requires-2 : tie.Need-run-refused-requires-2
 run-refused-requires-2 c κs = search needs
 
--- src/running.rt:202:9
 returns-2 : tie.Need-returns-2
 returns-2 c =
     let a = c .before .before .before .before .before .before .before .before .args in
@@ -60,7 +47,6 @@ returns-2 c =
     let u = run-unread s t (a .records) (length m) (c .before .before .before .before .before .if1 .left) n in
     (c .run-refused2 .ensures ∙ ap (λ (r : ReadAnswer). carryAnswer (r .refusal) emptyRegisters 0) e ∙ run-refused s t (a .records) m u n, ran-refused s t (a .records) m u n)
 
--- src/running.rt:205:9
 tape-refusal-requires : tie.Need-tape-refusal-requires
 tape-refusal-requires c κs =
     let d = c .before .before .before .before in
@@ -69,11 +55,9 @@ tape-refusal-requires c κs =
     let z : readSheet s .refusal .number ≤ 0 = rw e at (c .before .if2 .left) in
     rw e (read-within s _ (not-refused s (omega arith)))
 
--- src/running.rt:207:9
 run-refused-requires-3 : tie.Need-run-refused-requires-3
 run-refused-requires-3 c κs = search needs
 
--- src/running.rt:207:9
 returns-3 : tie.Need-returns-3
 returns-3 c =
     let d = c .before .before .before .before .before .before .before .before in
@@ -86,7 +70,6 @@ returns-3 c =
     let u = run-readable s t (a .records) (length m) (d .before .if1 .left) (omega arith) ∙ ap (λ (r : ReadAnswer). tapeRefusal (r .sheet) t (a .records) (length m)) (sym e) ∙ sym (c .before .before .before .tape-refusal .ensures) in
     (c .run-refused3 .ensures ∙ run-refused s t (a .records) m u (c .before .if3 .taken), ran-refused s t (a .records) m u (c .before .if3 .taken))
 
--- src/running.rt:209:9
 run-records-requires : tie.Need-run-records-requires
 run-records-requires c κs =
     let d = c .before .before .before .before .before .before .before .before in
@@ -101,15 +84,12 @@ run-records-requires c κs =
     let f = tape-fit sh t (a .records) len (omega arith) in
     ((rw e (read-within s _ (not-refused s (omega arith))), fit-few _ _ _ f, fit-room _ _ _ f), tape-clear sh t (a .records) len (omega arith))
 
--- src/running.rt:212:18
 refusal-at-requires-2 : tie.Need-refusal-at-requires-2
 refusal-at-requires-2 c κs = search needs
 
--- src/running.rt:192:1
 same-length : tie.Need-same-length
 same-length c = search needs
 
--- src/running.rt:192:1
 returns-4 : tie.Need-returns-4
 returns-4 c =
     let q = c .before .before .before .before .before .before .before .before in

@@ -3,23 +3,16 @@ use native.Mathlib.Omega.{arith}
 use borrow.Author.Needs.{needs}
 use Rattle.tape.proofs.running.run_whole.Statement.{statement}
 use Rattle.tape.proofs.running.run_whole.Tie as tie
-use Rattle.tape.proofs.running.run_whole.Reads as reads
-use Rattle.tape.proofs.running.run_whole.Lts as lts
-use Rattle.whole_steps.proofs.perform_whole.Reads as perform-whole-reads
 
--- src/running.rt:55:13
 mul-c : tie.Need-mul-c
 mul-c c = omega (arith, whole-given (c .args .t1) (c .args .registers .types) (c .args .step) (c .pre .2), c .pre .0 .steps)
 
--- src/running.rt:55:13
 element-copy-out-c : tie.Need-element-copy-out-c
 element-copy-out-c c = omega (arith, whole-given (c .args .t1) (c .args .registers .types) (c .args .step) (c .pre .2), c .pre .0 .steps)
 
--- src/running.rt:57:5
 perform-whole-requires : tie.Need-perform-whole-requires
 perform-whole-requires c κs = let s = c .before in (whole-within (s .args .t1) (s .args .registers .types) (s .args .step) (s .pre .2) (s .pre .0), s .pre .1, whole-clear (s .args .t1) (s .args .registers .types) (s .args .step) (s .pre .2))
 
--- src/running.rt:51:1
 returns : tie.Need-returns
 returns c = search needs
 

@@ -4,25 +4,18 @@ use native.Mathlib.Omega.{arith}
 use borrow.Author.Needs.{needs}
 use Rattle.tape.proofs.running.tape_fits.Statement.{statement}
 use Rattle.tape.proofs.running.tape_fits.Tie as tie
-use Rattle.tape.proofs.running.tape_fits.Reads as reads
-use Rattle.tape.proofs.running.tape_fits.Lts as lts
-use Rattle.tape.proofs.running.limit_of.Reads as limit-of-reads
 
--- src/running.rt:44:8
 limit-of-requires : tie.Need-limit-of-requires
 limit-of-requires c κs = search needs
 
--- src/running.rt:45:9
 returns : tie.Need-returns
 unfolding recordsFit
 returns c = stop _ (rw (← c .before .limit-of .ensures) (search tests))
 
--- src/running.rt:47:5
 mul-result : tie.Need-mul-result
 unfolding recordLimit
 mul-result c = omega (arith, c .before .limit-of .ensures)
 
--- src/running.rt:41:1
 returns-2 : tie.Need-returns-2
 unfolding recordsFit
 returns-2 c = pass (rw (← c .before .limit-of .ensures) (search tests)) (search tests)

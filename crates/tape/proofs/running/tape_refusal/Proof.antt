@@ -1,34 +1,23 @@
 use Rattle.numbers.specs.Choice.{taken, left, went-not, went-past}
 use Rattle.tape.specs.Running.{tapeRefusal}
 use Rattle.tape.specs.Turns.{fit-few, fit-room}
-use native.Mathlib.Omega.{arith}
 use borrow.Author.Needs.{needs}
 use Rattle.tape.proofs.running.tape_refusal.Statement.{statement}
 use Rattle.tape.proofs.running.tape_refusal.Tie as tie
-use Rattle.tape.proofs.running.tape_refusal.Reads as reads
-use Rattle.tape.proofs.running.tape_refusal.Lts as lts
-use Rattle.carrying.proofs.checks.refusal_at.Reads as refusal-at-reads
-use Rattle.tape.proofs.judging.range.Reads as range-reads
-use Rattle.tape.proofs.running.tape_fits.Reads as tape-fits-reads
 
--- src/running.rt:185:9
 tape-fits-requires : tie.Need-tape-fits-requires
 tape-fits-requires c κs = search needs
 
--- src/running.rt:186:9
 refusal-at-requires : tie.Need-refusal-at-requires
 refusal-at-requires c κs = search needs
 
--- src/running.rt:186:9
 returns : tie.Need-returns
 unfolding tapeRefusal
 returns c = left _ (went-not (c .before .before .tape-fits .ensures) (c .before .if1 .taken)) (c .refusal-at .ensures)
 
--- src/running.rt:188:5
 range-requires : tie.Need-range-requires
 range-requires c κs = let e = went-past (c .before .tape-fits .ensures) (c .if1 .left) in (c .before .before .pre, fit-few _ _ _ e, fit-room _ _ _ e)
 
--- src/running.rt:181:1
 returns-2 : tie.Need-returns-2
 unfolding tapeRefusal
 returns-2 c = taken _ (went-past (c .before .before .tape-fits .ensures) (c .before .if1 .left)) (c .range .ensures)
