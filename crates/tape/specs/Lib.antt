@@ -3,6 +3,7 @@ pub mod Translating
 pub mod Records
 pub mod Running
 pub mod Passing
+pub mod Turns
 pub mod Moving
 pub mod InRange
 pub mod Stepping

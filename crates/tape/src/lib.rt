@@ -1,4 +1,7 @@
 // Tapes: a sheet translated into records, and a tape run with its sheet.
+pub mod judging;
+pub mod moving;
+pub mod running;
 pub mod translating;
 
 use sheet::Refusal;
