@@ -146,7 +146,14 @@ fn write_access(
     ensures { λ r. ⌜ (r ≡ at + length (accessRecords (accessOf sheet load layout view base t memory) register t)) × (now (tape .exit) ≡ sets (now (tape .entry)) (at * 6) (tapeNumbers (accessRecords (accessOf sheet load layout view base t memory) register t))) ⌝ }
 {
     let p = plan_access(sheet, load, layout, view, base, t, memory);
-    write_runs(tape, at, p, load, register, (t.rows as usize) * (t.columns as usize))
+    write_runs(
+        tape,
+        at,
+        p,
+        load,
+        register,
+        (t.rows as usize) * (t.columns as usize),
+    )
 }
 
 // A load: a copy of its object, none for its own register, and its runs.
@@ -191,11 +198,37 @@ fn write_load(
 {
     if object == sizes::NONE {
         let own = registers::the_type(types, register);
-        return write_access(tape, at, sheet, true, register, layout, view, base, own, memory);
+        return write_access(
+            tape,
+            at,
+            sheet,
+            true,
+            register,
+            layout,
+            view,
+            base,
+            own,
+            memory,
+        );
     }
-    records::put_record(tape, at * records::NUMBERS, Record::Copy { register, object });
+    records::put_record(
+        tape,
+        at * records::NUMBERS,
+        Record::Copy { register, object },
+    );
     let t = registers::the_type(types, object);
-    write_access(tape, at + 1, sheet, true, register, layout, view, base, t, memory)
+    write_access(
+        tape,
+        at + 1,
+        sheet,
+        true,
+        register,
+        layout,
+        view,
+        base,
+        t,
+        memory,
+    )
 }
 
 // One step: how many records it becomes.
@@ -308,7 +341,18 @@ fn write_step(
             base,
         } => {
             let t = registers::the_type(types, register);
-            write_access(tape, at, sheet, false, register, layout, view, base, t, memory)
+            write_access(
+                tape,
+                at,
+                sheet,
+                false,
+                register,
+                layout,
+                view,
+                base,
+                t,
+                memory,
+            )
         }
         Step::Reduce {
             result: _,

@@ -1,38 +1,24 @@
-use mathlib.Core.Path.{_≡_, refl, sym, ap, _∙_}
-use Prim.Native.Nat.{_*_}
-use lib.ListN.{length}
 use Rattle.addressing.specs.Valid.{planned-access, planned-columns}
-use Rattle.runs.specs.Runs.{runs}
-use Rattle.transfers.specs.Transfers.{outcomeOf}
 use Rattle.carrying.specs.Accesses.{shaped}
 use native.Mathlib.Omega.{arith}
 use borrow.Author.Needs.{needs}
 use Rattle.tape.proofs.translating.count_access.Statement.{statement}
 use Rattle.tape.proofs.translating.count_access.Tie as tie
-use Rattle.tape.proofs.translating.count_access.Reads as reads
-use Rattle.tape.proofs.translating.count_access.Lts as lts
-use Rattle.tape.proofs.translating.count_runs.Reads as count-runs-reads
-use Rattle.tape.proofs.translating.plan_access.Reads as plan-access-reads
 
--- src/translating.rt:126:9
 plan-access-requires : tie.Need-plan-access-requires
 plan-access-requires c κs = (c .pre .0, c .pre .1 .1)
 
--- src/translating.rt:127:20
 cast-count-runs : tie.Need-cast-count-runs
 cast-count-runs c = search needs
 
--- src/translating.rt:127:40
 cast-count-runs-2 : tie.Need-cast-count-runs-2
 cast-count-runs-2 c = search needs
 
--- src/translating.rt:127:19
 mul-count-runs : tie.Need-mul-count-runs
 mul-count-runs c =
     let q = c .before .before .before .pre .1 in
     record { fits = omega (arith, shaped _ (q .0) (q .1 .filled) .area) }
 
--- src/translating.rt:127:5
 count-runs-requires : tie.Need-count-runs-requires
 count-runs-requires c κs =
     let q = c .before .before .before .pre .1 in
@@ -41,7 +27,6 @@ count-runs-requires c κs =
     let n = planned-columns _ _ (p .0) in
     (p .1, rw n (s .some), rw n (s .most), s .area)
 
--- src/translating.rt:113:1
 returns : tie.Need-returns
 returns c =
     let p = c .before .before .before .plan-access .ensures .0 in

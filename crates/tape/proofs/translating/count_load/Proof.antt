@@ -1,4 +1,4 @@
-use mathlib.Core.Path.{_≡_, refl, sym, ap, _∙_}
+use mathlib.Core.Path.{sym, ap, _∙_}
 use mathlib.Core.Bool.{true}
 use Prim.Native.Nat.{_*_}
 use lib.ListN.{length}
@@ -6,27 +6,19 @@ use Rattle.transfers.specs.Transfers.{outcomeOf}
 use Rattle.carrying.specs.Steps.{accessOf}
 use Rattle.runs.specs.Writing.{count-records}
 use Rattle.tape.proofs.TranslateLaws.{load-names, object-few, own-records, own-clear, other-records, other-clear, access-few}
-use borrow.Author.Needs.{needs}
 use native.Mathlib.Omega.{arith}
 use Rattle.tape.proofs.translating.count_load.Statement.{statement}
 use Rattle.tape.proofs.translating.count_load.Tie as tie
-use Rattle.tape.proofs.translating.count_load.Reads as reads
-use Rattle.tape.proofs.translating.count_load.Lts as lts
-use Rattle.registers.proofs.the_type.Reads as the-type-reads
-use Rattle.tape.proofs.translating.count_access.Reads as count-access-reads
 
--- src/translating.rt:168:13
 the-type-requires : tie.Need-the-type-requires
 the-type-requires c κs = load-names _ _ _ _ _ _ (c .before .pre .0 .3) .named
 
--- src/translating.rt:169:9
 count-access-requires : tie.Need-count-access-requires
 count-access-requires c κs =
     let s = c .before .before in
     let a = s .args in
     let n = load-names _ _ _ _ _ _ (s .pre .0 .3) in
-    let so = c .the-type .ensures in
-    (
+    let so = c .the-type .ensures in (
       (s .pre .0 .0, n .given, n .option, s .pre .0 .1),
       (
         rw so (s .pre .0 .2 .each _),
@@ -34,7 +26,6 @@ count-access-requires c κs =
       ),
     )
 
--- src/translating.rt:169:9
 returns : tie.Need-returns
 returns c =
     let s = c .before .before .before in
@@ -45,18 +36,15 @@ returns c =
     ∙ sym (count-records true (a .register) (outcomeOf x (t .columns)) (t .rows * t .columns))
     ∙ sym (ap length (own-records (a .sheet) (a .types) (a .memory) (a .register) (a .layout) (a .view) (a .base) t (c .before .the-type .ensures) (a .object) (c .before .before .if1 .taken) 0))
 
--- src/translating.rt:171:9
 the-type-requires-2 : tie.Need-the-type-requires-2
 the-type-requires-2 c κs = object-few _ _ _ _ _ _ (c .if1 .left) (c .before .pre .0 .3)
 
--- src/translating.rt:172:9
 count-access-requires-2 : tie.Need-count-access-requires-2
 count-access-requires-2 c κs =
     let s = c .before .before in
     let a = s .args in
     let n = load-names _ _ _ _ _ _ (s .pre .0 .3) in
-    let so = c .the-type2 .ensures in
-    (
+    let so = c .the-type2 .ensures in (
       (s .pre .0 .0, n .given, n .option, s .pre .0 .1),
       (
         rw so (s .pre .0 .2 .each _),
@@ -64,7 +52,6 @@ count-access-requires-2 c κs =
       ),
     )
 
--- src/translating.rt:172:5
 add-result : tie.Need-add-result
 add-result c =
     let s = c .before .before .before in
@@ -73,7 +60,6 @@ add-result c =
     let f = outcomeOf (accessOf (a .sheet) true (a .layout) (a .view) (a .base) t (a .memory)) (t .columns) in
     omega (arith, c .count-access2 .ensures, access-few f t (rw (c .before .the-type2 .ensures) (s .pre .0 .2 .each (a .object))))
 
--- src/translating.rt:153:1
 returns-2 : tie.Need-returns-2
 returns-2 c =
     let s = c .before .before .before in

@@ -1,5 +1,5 @@
-use mathlib.Core.Path.{_≡_, refl, sym, ap, _∙_}
-use Prim.Native.Nat.{ℕ, _+_, _-_, _≤_}
+use mathlib.Core.Path.{_≡_, sym, ap}
+use Prim.Native.Nat.{_-_, _≤_}
 use lib.ListN.{length}
 use Rattle.addressing.specs.declared.Located.{Located}
 use Rattle.transfers.specs.Transfers.{outcomeOf}
@@ -13,11 +13,6 @@ use borrow.Author.Needs.{needs}
 use native.Mathlib.Omega.{arith}
 use Rattle.tape.proofs.translating.count_runs.Statement.{statement}
 use Rattle.tape.proofs.translating.count_runs.Tie as tie
-use Rattle.tape.proofs.translating.count_runs.Reads as reads
-use Rattle.tape.proofs.translating.count_runs.Lts as lts
-use Rattle.accesses.proofs.element.Reads as element-reads
-use Rattle.runs.proofs.next_run.Reads as next-run-reads
-use Rattle.runs.proofs.records_of.Reads as records-of-reads
 
 abbrev Inv-loop : tie.InvT-loop
 Inv-loop p n held₀ records₀ k₀ held records k =
@@ -26,52 +21,42 @@ Inv-loop p n held₀ records₀ k₀ held records k =
 abbrev μ-loop : tie.MeasureT-loop
 μ-loop p n held₀ records₀ k₀ held records k = n - k
 
--- src/translating.rt:61:5
 loop-holds : tie.Need-loop-holds Inv-loop μ-loop
 loop-holds c = (omega arith, sym (held-none _), sym (count-none _))
 
--- src/translating.rt:62:38
 cast-element : tie.Need-cast-element Inv-loop μ-loop
 cast-element c = search needs
 
--- src/translating.rt:62:13
 element-requires : tie.Need-element-requires Inv-loop μ-loop
 element-requires c κs =
     let q = c .before .before .pre in
     (q .0, q .1, q .2, number-below _ _ _ (c .loop-test .taken) (q .3) (q .1))
 
--- src/translating.rt:64:13
 next-run-requires : tie.Need-next-run-requires Inv-loop μ-loop
 next-run-requires c κs =
     let s = c .before .before .before in
     let p = s .args .p in
     let l = c .before .before .loop in
-    let near = outcome-near (p .access) (s .pre .0 .valid .sized) (p .columns) in
-    (
+    let near = outcome-near (p .access) (s .pre .0 .valid .sized) (p .columns) in (
       rw (l .inv .1) (held-small (outcomeOf (p .access) (p .columns)) (l .k) (λ i h. near i)),
       (omega arith, rw (ap (λ (x : Located). x .outcome) (c .element .ensures)) (near (l .k))),
     )
 
--- src/translating.rt:66:20
 records-of-requires : tie.Need-records-of-requires Inv-loop μ-loop
 records-of-requires c κs = search needs
 
--- src/translating.rt:66:9
 add-records : tie.Need-add-records Inv-loop μ-loop
 add-records c =
     let l = c .before .before .before .before .loop in
     let p = c .before .before .before .before .before .args .p in
     omega (arith, l .inv .2, count-few (outcomeOf (p .access) (p .columns)) (l .k), c .records-of .ensures, emit-one (c .before .next-run .result .done))
 
--- src/translating.rt:68:9
 add-k : tie.Need-add-k Inv-loop μ-loop
 add-k c = search needs
 
--- src/translating.rt:61:5
 loop-less : tie.Need-loop-less Inv-loop μ-loop
 loop-less c = omega arith
 
--- src/translating.rt:61:5
 loop-again : tie.Need-loop-again Inv-loop μ-loop
 loop-again c =
     let p = c .before .before .before .before .before .args .p in
@@ -79,25 +64,21 @@ loop-again c =
     let t = c .before .next-run .ensures in
     let f = outcomeOf (p .access) (p .columns) in
     let o = ap (λ (x : Located). x .outcome) (c .before .before .element .ensures) in
-    let d = ending-is f (l .k) (l .inv .1) o t in
-    (
+    let d = ending-is f (l .k) (l .inv .1) o t in (
       omega arith,
       held-more f (l .k) (l .inv .1) o t,
       omega (arith, count-more f (l .k), l .inv .2, c .records-of .ensures, ap (λ (r : Run). length (emit r)) d),
     )
 
--- src/translating.rt:70:15
 records-of-requires-2 : tie.Need-records-of-requires-2 Inv-loop μ-loop
 records-of-requires-2 c κs = search needs
 
--- src/translating.rt:70:5
 add-result : tie.Need-add-result Inv-loop μ-loop
 add-result c =
     let l = c .before .before .loop in
     let p = c .before .before .before .args .p in
     omega (arith, l .inv .2, count-few (outcomeOf (p .access) (p .columns)) (l .k), c .records-of2 .ensures, emit-one (l .held))
 
--- src/translating.rt:54:1
 returns : tie.Need-returns Inv-loop μ-loop
 returns c =
     let a = c .before .before .before .args in

@@ -1,4 +1,4 @@
-use mathlib.Core.Path.{_≡_, refl, sym, ap, _∙_}
+use mathlib.Core.Path.{refl, sym, ap, _∙_}
 use mathlib.Core.Bool.{false}
 use Prim.Native.Nat.{_*_}
 use lib.ListN.{length}
@@ -7,52 +7,38 @@ use Rattle.carrying.specs.Steps.{accessOf}
 use Rattle.runs.specs.Writing.{count-records}
 use Rattle.tape.specs.Tapes.{stepRecords}
 use Rattle.tape.proofs.TranslateLaws.{store-names, store-records, store-clear}
-use native.Mathlib.Omega.{arith}
 use borrow.Author.Needs.{needs}
 use Rattle.tape.proofs.translating.count_step.Statement.{statement}
 use Rattle.tape.proofs.translating.count_step.Tie as tie
-use Rattle.tape.proofs.translating.count_step.Reads as reads
-use Rattle.tape.proofs.translating.count_step.Lts as lts
-use Rattle.registers.proofs.the_type.Reads as the-type-reads
-use Rattle.tape.proofs.translating.count_access.Reads as count-access-reads
-use Rattle.tape.proofs.translating.count_load.Reads as count-load-reads
 
--- src/translating.rt:208:26
 enum-told : tie.Need-enum-told
 enum-told c = search needs
 
--- src/translating.rt:215:14
 enum-told-2 : tie.Need-enum-told-2
 enum-told-2 c = search needs
 
--- src/translating.rt:217:13
 enum-known-step : tie.Need-enum-known-step
 enum-known-step c = search needs
 
--- src/translating.rt:222:14
 count-load-requires : tie.Need-count-load-requires
 count-load-requires c κs =
     let s = c .before .before .before in
     let e = c .before .step .given .1 in
     ((s .pre .0 .0, s .pre .0 .1, s .pre .0 .2, rw e at (s .pre .0 .3)), rw e at (s .pre .1))
 
--- src/translating.rt:224:13
 enum-known-step-2 : tie.Need-enum-known-step-2
 enum-known-step-2 c = search needs
 
--- src/translating.rt:229:17
 the-type-requires : tie.Need-the-type-requires
 the-type-requires c κs = store-names _ _ _ _ _ (rw (c .before .step2 .given .1) at (c .before .before .before .pre .0 .3)) .named
 
--- src/translating.rt:230:13
 count-access-requires : tie.Need-count-access-requires
 count-access-requires c κs =
     let s = c .before .before .before .before in
     let a = s .args in
     let g = c .before .before .step2 .given in
     let n = store-names _ _ _ _ _ (rw (g .1) at (s .pre .0 .3)) in
-    let so = c .the-type .ensures in
-    (
+    let so = c .the-type .ensures in (
       (s .pre .0 .0, n .given, n .option, s .pre .0 .1),
       (
         rw so (s .pre .0 .2 .each _),
@@ -60,33 +46,26 @@ count-access-requires c κs =
       ),
     )
 
--- src/translating.rt:239:14
 enum-told-3 : tie.Need-enum-told-3
 enum-told-3 c = search needs
 
--- src/translating.rt:243:14
 enum-told-4 : tie.Need-enum-told-4
 enum-told-4 c = search needs
 
--- src/translating.rt:249:14
 enum-told-5 : tie.Need-enum-told-5
 enum-told-5 c = search needs
 
--- src/translating.rt:202:1
 returns : tie.Need-returns
 unfolding stepRecords
 returns c = rw (c .enum-told .given .1) refl
 
--- src/translating.rt:202:1
 returns-2 : tie.Need-returns-2
 unfolding stepRecords
 returns-2 c = rw (c .enum-told2 .given .1) refl
 
--- src/translating.rt:202:1
 returns-3 : tie.Need-returns-3
 returns-3 c = rw (c .before .before .step .given .1) (c .count-load .ensures)
 
--- src/translating.rt:202:1
 returns-4 : tie.Need-returns-4
 returns-4 c =
     let s = c .before .before .before .before .before in
@@ -99,17 +78,14 @@ returns-4 c =
     ∙ sym (count-records false (g .0 .0) (outcomeOf x (t .columns)) (t .rows * t .columns))
     ∙ sym (ap length (store-records (a .sheet) (a .types) (a .memory) (g .0 .0) (g .0 .1 .0) (g .0 .1 .1 .0) (g .0 .1 .1 .1 .0) t (c .before .the-type .ensures) 0)))
 
--- src/translating.rt:202:1
 returns-5 : tie.Need-returns-5
 unfolding stepRecords
 returns-5 c = rw (c .enum-told3 .given .1) refl
 
--- src/translating.rt:202:1
 returns-6 : tie.Need-returns-6
 unfolding stepRecords
 returns-6 c = rw (c .enum-told4 .given .1) refl
 
--- src/translating.rt:202:1
 returns-7 : tie.Need-returns-7
 unfolding stepRecords
 returns-7 c = rw (c .enum-told5 .given .1) refl

@@ -1,5 +1,5 @@
-use mathlib.Core.Path.{_≡_, refl, sym, ap, _∙_}
-use Prim.Native.Nat.{ℕ, _+_, _-_, _*_, _≤_}
+use mathlib.Core.Path.{_≡_, ap}
+use Prim.Native.Nat.{_+_, _-_, _*_, _≤_}
 use lib.ListN.{length, length-append}
 use Rattle.sheet.specs.Steps.{theStep}
 use Rattle.carrying.specs.Types.{within-step}
@@ -9,11 +9,6 @@ use borrow.Author.Needs.{needs}
 use native.Mathlib.Omega.{arith}
 use Rattle.tape.proofs.translating.count_tape.Statement.{statement}
 use Rattle.tape.proofs.translating.count_tape.Tie as tie
-use Rattle.tape.proofs.translating.count_tape.Reads as reads
-use Rattle.tape.proofs.translating.count_tape.Lts as lts
-use Rattle.carrying.proofs.checks.check_step.Reads as check-step-reads
-use Rattle.registers.proofs.no_type.Reads as no-type-reads
-use Rattle.tape.proofs.translating.count_step.Reads as count-step-reads
 
 abbrev Inv-loop : tie.InvT-loop
 Inv-loop memory sheet steps types₀ records₀ k₀ types records k =
@@ -22,11 +17,9 @@ Inv-loop memory sheet steps types₀ records₀ k₀ types records k =
 abbrev μ-loop : tie.MeasureT-loop
 μ-loop memory sheet steps types₀ records₀ k₀ types records k = sheet .steps - k
 
--- src/translating.rt:339:9
 no-type-requires : tie.Need-no-type-requires Inv-loop μ-loop
 no-type-requires c κs = search needs
 
--- src/translating.rt:344:5
 loop-holds : tie.Need-loop-holds Inv-loop μ-loop
 loop-holds c =
     let s = c .before in
@@ -34,26 +27,21 @@ loop-holds c =
     let n = ap length (tape-start (s .args .t1) (s .args .memory)) in
     (omega arith, rw e (rest-start (s .args .t1) (s .args .memory) (s .pre .2)), omega arith, rw e (omega (arith, n)))
 
--- src/translating.rt:345:17
 mul-c : tie.Need-mul-c Inv-loop μ-loop
 mul-c c = omega (arith, c .before .before .before .pre .0 .steps)
 
--- src/translating.rt:345:17
 element-copy-out-c : tie.Need-element-copy-out-c Inv-loop μ-loop
 element-copy-out-c c = omega (arith, c .before .before .before .pre .0 .steps)
 
--- src/translating.rt:347:20
 count-step-requires : tie.Need-count-step-requires Inv-loop μ-loop
 count-step-requires c κs =
     let s = c .before .before .before .before in
     let l = c .before .before .loop in
-    let h = c .before .loop-test .taken in
-    (
+    let h = c .before .loop-test .taken in (
       (s .pre .0, s .pre .1, l .inv .1 .sized, within-step (s .args .t1) (s .pre .0) (l .k) h),
       rest-first (s .args .t1 .steps) (s .args .t1) (s .args .memory) (l .k) (l .types) h (l .inv .1),
     )
 
--- src/translating.rt:347:9
 add-records : tie.Need-add-records Inv-loop μ-loop
 add-records c =
     let s = c .before .before .before .before .before in
@@ -62,24 +50,20 @@ add-records c =
     let few = step-few (s .args .t1) (l .types) (s .args .memory) 0 (theStep (s .args .t1 .step) (l .k)) (l .inv .1 .sized) in
     omega (arith, l .inv .2, c .count-step .ensures, few, h, s .pre .0 .steps)
 
--- src/translating.rt:348:13
 check-step-requires : tie.Need-check-step-requires Inv-loop μ-loop
 check-step-requires c κs =
     let s = c .before .before .before .before .before in
     let l = c .before .before .before .loop in
     (s .pre .0, s .pre .1, l .inv .1 .sized, within-step (s .args .t1) (s .pre .0) (l .k) (c .before .before .loop-test .taken))
 
--- src/translating.rt:351:9
 add-k : tie.Need-add-k Inv-loop μ-loop
 add-k c =
     let s = c .before .before .before .before .before .before .before in
     omega (arith, c .before .before .before .before .loop-test .taken, s .pre .0 .steps)
 
--- src/translating.rt:344:5
 loop-less : tie.Need-loop-less Inv-loop μ-loop
 loop-less c = omega (arith, c .before .before .before .before .loop-test .taken)
 
--- src/translating.rt:344:5
 loop-again : tie.Need-loop-again Inv-loop μ-loop
 loop-again c =
     let s = c .before .before .before .before .before .before .before in
@@ -91,15 +75,13 @@ loop-again c =
     let few = step-few (a .t1) (l .types) (a .memory) 0 (theStep (a .t1 .step) (l .k)) (l .inv .1 .sized) in
     let same = step-records (a .t1) (l .types) (a .memory) (l .k) (theStep (a .t1 .step) (l .k)) in
     let go = ap length (tape-go (a .t1 .steps) (a .t1) (a .memory) (l .k) (l .types) h e) in
-    let both = length-append (stepRecords (a .t1) (l .types) (a .memory) (l .k) (theStep (a .t1 .step) (l .k))) (tapeFrom (a .t1 .steps - (l .k + 1)) (a .t1) (a .memory) (l .k + 1) (c .before .check-step .result .types)) in
-    (
+    let both = length-append (stepRecords (a .t1) (l .types) (a .memory) (l .k) (theStep (a .t1 .step) (l .k))) (tapeFrom (a .t1 .steps - (l .k + 1)) (a .t1) (a .memory) (l .k + 1) (c .before .check-step .result .types)) in (
       omega (arith, h),
       rest-next (a .t1 .steps) (a .t1) (a .memory) (l .k) (l .types) h (l .inv .1) (within-step (a .t1) (s .pre .0) (l .k) h) e,
       omega (arith, l .inv .2, n, few),
       omega (arith, l .inv .3, n, same, go, both),
     )
 
--- src/translating.rt:335:1
 returns : tie.Need-returns Inv-loop μ-loop
 returns c =
     let a = c .before .before .before .args in

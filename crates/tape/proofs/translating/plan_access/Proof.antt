@@ -1,31 +1,22 @@
-use mathlib.Core.Path.{_≡_, refl, sym, ap, _∙_}
+use mathlib.Core.Path.{ap, _∙_}
 use Rattle.addressing.specs.declared.Access.{Access}
 use Rattle.addressing.specs.Rules.{planned}
 use Rattle.accesses.specs.Accepted.{accepted-valid}
-use native.Mathlib.Omega.{arith}
 use borrow.Author.Needs.{needs}
 use Rattle.tape.proofs.translating.plan_access.Statement.{statement}
 use Rattle.tape.proofs.translating.plan_access.Tie as tie
-use Rattle.tape.proofs.translating.plan_access.Reads as reads
-use Rattle.tape.proofs.translating.plan_access.Lts as lts
-use Rattle.addressing.proofs.plan_of.Reads as plan-of-reads
-use Rattle.carrying.proofs.memory_steps.access_of.Reads as access-of-reads
 
--- src/translating.rt:108:9
 access-of-requires : tie.Need-access-of-requires
 access-of-requires c κs = c .pre .0
 
--- src/translating.rt:109:28
 cast-plan-of : tie.Need-cast-plan-of
 cast-plan-of c = search needs
 
--- src/translating.rt:109:5
 plan-of-requires : tie.Need-plan-of-requires
 plan-of-requires c κs =
     let e = c .before .access-of .ensures .0 in
     rw e (accepted-valid _ _ _ (c .before .before .pre .1 .clear) (rw e at (c .before .access-of .ensures .1)))
 
--- src/translating.rt:95:1
 returns : tie.Need-returns
 returns c =
     let a = c .before .before .before .args in

@@ -1,13 +1,8 @@
 use mathlib.Core.Path.{refl}
 use Rattle.tape.specs.Translating.{recordLimit}
-use borrow.Author.Needs.{needs}
-use native.Mathlib.Omega.{arith}
 use Rattle.tape.proofs.translating.record_limit.Statement.{statement}
 use Rattle.tape.proofs.translating.record_limit.Tie as tie
-use Rattle.tape.proofs.translating.record_limit.Reads as reads
-use Rattle.tape.proofs.translating.record_limit.Lts as lts
 
--- src/translating.rt:37:1
 returns : tie.Need-returns
 unfolding recordLimit
 returns c = refl

@@ -1,4 +1,4 @@
-use mathlib.Core.Path.{_≡_, refl, ap, _∙_}
+use mathlib.Core.Path.{refl}
 use borrow.Author.Tests.{lt-leb, le-leb}
 use Rattle.numbers.specs.Choice.{stop, pass}
 use Rattle.tape.specs.Translating.{recordLimit, recordsFit}
@@ -6,27 +6,20 @@ use native.Mathlib.Omega.{arith}
 use borrow.Author.Needs.{needs}
 use Rattle.tape.proofs.translating.records_fit.Statement.{statement}
 use Rattle.tape.proofs.translating.records_fit.Tie as tie
-use Rattle.tape.proofs.translating.records_fit.Reads as reads
-use Rattle.tape.proofs.translating.records_fit.Lts as lts
-use Rattle.tape.proofs.translating.record_limit.Reads as record-limit-reads
 
--- src/translating.rt:47:8
 record-limit-requires : tie.Need-record-limit-requires
 record-limit-requires c κs = search needs
 
--- src/translating.rt:48:9
 returns : tie.Need-returns
 unfolding recordsFit
 returns c =
     let a = c .before .before .args in
     stop _ (rw (← c .before .record-limit .ensures) (lt-leb _ _ (c .if1 .taken)))
 
--- src/translating.rt:50:5
 mul-result : tie.Need-mul-result
 unfolding recordLimit
 mul-result c = omega (arith, c .if1 .left, c .before .record-limit .ensures)
 
--- src/translating.rt:44:1
 returns-2 : tie.Need-returns-2
 unfolding recordsFit
 returns-2 c =

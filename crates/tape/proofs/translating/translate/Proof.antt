@@ -1,5 +1,5 @@
-use mathlib.Core.Path.{_≡_, refl, sym, ap, _∙_}
-use Prim.Native.Nat.{ℕ, _≤_}
+use mathlib.Core.Path.{_≡_, sym, ap, _∙_}
+use Prim.Native.Nat.{ℕ}
 use denote.Ref.{now}
 use lib.ListN.{length}
 use lib.Seq.{sets}
@@ -15,25 +15,13 @@ use native.Mathlib.Omega.{arith}
 use borrow.Author.Needs.{needs}
 use Rattle.tape.proofs.translating.translate.Statement.{statement}
 use Rattle.tape.proofs.translating.translate.Tie as tie
-use Rattle.tape.proofs.translating.translate.Reads as reads
-use Rattle.tape.proofs.translating.translate.Lts as lts
-use Rattle.carrying.proofs.check_sheet.Reads as check-sheet-reads
-use Rattle.carrying.proofs.checks.refusal_at.Reads as refusal-at-reads
-use Rattle.sheet_reader.proofs.read_sheet.Reads as read-sheet-reads
-use Rattle.tape.proofs.translating.count_tape.Reads as count-tape-reads
-use Rattle.tape.proofs.translating.records_fit.Reads as records-fit-reads
-use Rattle.tape.proofs.translating.translate_refused.Reads as translate-refused-reads
-use Rattle.tape.proofs.translating.write_tape.Reads as write-tape-reads
 
--- src/translating.rt:393:9
 check-sheet-requires : tie.Need-check-sheet-requires
 check-sheet-requires c κs = search needs
 
--- src/translating.rt:396:9
 translate-refused-requires : tie.Need-translate-refused-requires
 translate-refused-requires c κs = search needs
 
--- src/translating.rt:396:9
 returns : tie.Need-returns
 returns c =
     let a = c .before .before .before .before .before .before .args in
@@ -42,11 +30,9 @@ returns c =
     let n = c .before .if1 .taken in
     (c .translate-refused .ensures ∙ refused-answer s (a .memory-len) is (length (now (a .tape))) n, refused-room s (a .memory-len) is (now (a .tape)) n)
 
--- src/translating.rt:398:9
 read-sheet-requires : tie.Need-read-sheet-requires
 read-sheet-requires c κs = search needs
 
--- src/translating.rt:400:9
 count-tape-requires : tie.Need-count-tape-requires
 count-tape-requires c κs =
     let d = c .before .before .before .before .before in
@@ -56,19 +42,15 @@ count-tape-requires c κs =
     let r = sheet-readable s (a .memory-len) (ap (λ (x : CheckAnswer). x .refusal .number) (sym (d .check-sheet .ensures)) ∙ fine) in
     rw (c .before .read-sheet .ensures) (r .within, r .few, r .clear)
 
--- src/translating.rt:401:9
 records-fit-requires : tie.Need-records-fit-requires
 records-fit-requires c κs = search needs
 
--- src/translating.rt:402:34
 refusal-at-requires : tie.Need-refusal-at-requires
 refusal-at-requires c κs = search needs
 
--- src/translating.rt:402:9
 translate-refused-requires-2 : tie.Need-translate-refused-requires-2
 translate-refused-requires-2 c κs = search needs
 
--- src/translating.rt:402:9
 returns-2 : tie.Need-returns-2
 returns-2 c =
     let d = c .before .before .before .before .before .before .before .before .before .before in
@@ -78,15 +60,13 @@ returns-2 c =
     let m = c .before .before .before in
     let fine : d .check-sheet .result .refusal .number ≡ 0 = omega (arith, m .before .before .before .before .if1 .left) in
     let tested = room-tested s (a .memory-len) (length (now (a .tape))) (m .before .before .before .read-sheet .ensures) (m .before .count-tape .ensures) (m .records-fit .ensures) in
-    let long = went-not tested (c .before .before .if2 .taken) in
-    (
+    let long = went-not tested (c .before .before .if2 .taken) in (
       c .translate-refused2 .ensures
-      ∙ ap (λ (x : Refusal). translateAnswer x 0 0) (c .before .refusal-at .ensures)
-      ∙ long-answer s (a .memory-len) is fine (length (now (a .tape))) long,
+          ∙ ap (λ (x : Refusal). translateAnswer x 0 0) (c .before .refusal-at .ensures)
+          ∙ long-answer s (a .memory-len) is fine (length (now (a .tape))) long,
       long-room s (a .memory-len) is fine (now (a .tape)) long,
     )
 
--- src/translating.rt:404:5
 write-tape-requires : tie.Need-write-tape-requires
 write-tape-requires c κs =
     let d = c .before .before .before .before .before .before .before .before .before in
@@ -100,15 +80,12 @@ write-tape-requires c κs =
     let room = fits-room s (a .memory-len) (length (now (a .tape))) (went-past tested (c .before .if2 .left)) in
     rw read ((r .within, r .few, r .clear), room)
 
--- src/translating.rt:406:18
 refusal-at-requires-2 : tie.Need-refusal-at-requires-2
 refusal-at-requires-2 c κs = search needs
 
--- src/translating.rt:389:1
 same-length : tie.Need-same-length
 same-length c = c .before .before .write-tape .kept .0
 
--- src/translating.rt:389:1
 returns-3 : tie.Need-returns-3
 returns-3 c =
     let d = c .before .before .before .before .before .before .before .before .before .before .before .before in
@@ -120,14 +97,13 @@ returns-3 c =
     let fine : d .check-sheet .result .refusal .number ≡ 0 = omega (arith, m .before .before .before .before .if1 .left) in
     let tested = room-tested s (a .memory-len) (length (now (a .tape))) read (m .before .count-tape .ensures) (m .records-fit .ensures) in
     let fits = went-past tested (c .before .before .before .before .if2 .left) in
-    let n = m .before .count-tape .ensures ∙ ap (λ (x : ReadAnswer). length (tapeOf (x .sheet) (a .memory-len))) read in
-    (
+    let n = m .before .count-tape .ensures ∙ ap (λ (x : ReadAnswer). length (tapeOf (x .sheet) (a .memory-len))) read in (
       ap (λ (x : Refusal). translateAnswer x (d .check-sheet .result .count) (m .before .count-tape .result)) (c .refusal-at2 .ensures)
-      ∙ ap (λ (x : ℕ). translateAnswer (record { number = 0; place = 0; element = 0 }) (d .check-sheet .result .count) x) n
-      ∙ tape-answer s (a .memory-len) is fine (length (now (a .tape))) fits,
+          ∙ ap (λ (x : ℕ). translateAnswer (record { number = 0; place = 0; element = 0 }) (d .check-sheet .result .count) x) n
+          ∙ tape-answer s (a .memory-len) is fine (length (now (a .tape))) fits,
       c .before .before .write-tape .ensures
-      ∙ ap (λ (x : ReadAnswer). sets (now (a .tape)) 0 (tapeNumbers (tapeOf (x .sheet) (a .memory-len)))) read
-      ∙ tape-room s (a .memory-len) is fine (now (a .tape)) fits,
+          ∙ ap (λ (x : ReadAnswer). sets (now (a .tape)) 0 (tapeNumbers (tapeOf (x .sheet) (a .memory-len)))) read
+          ∙ tape-room s (a .memory-len) is fine (now (a .tape)) fits,
     )
 
 pub translate-spec : {M : Type 1} → statement M

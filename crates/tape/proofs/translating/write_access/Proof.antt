@@ -1,36 +1,24 @@
-use mathlib.Core.Path.{_≡_, refl, sym, ap, _∙_}
-use Prim.Native.Nat.{_*_}
-use lib.ListN.{length}
 use Rattle.addressing.specs.Valid.{planned-access, planned-columns}
 use Rattle.carrying.specs.Accesses.{shaped}
 use native.Mathlib.Omega.{arith}
 use borrow.Author.Needs.{needs}
 use Rattle.tape.proofs.translating.write_access.Statement.{statement}
 use Rattle.tape.proofs.translating.write_access.Tie as tie
-use Rattle.tape.proofs.translating.write_access.Reads as reads
-use Rattle.tape.proofs.translating.write_access.Lts as lts
-use Rattle.tape.proofs.translating.plan_access.Reads as plan-access-reads
-use Rattle.tape.proofs.translating.write_runs.Reads as write-runs-reads
 
--- src/translating.rt:148:9
 plan-access-requires : tie.Need-plan-access-requires
 plan-access-requires c κs = (c .pre .0, c .pre .1 .0 .1)
 
--- src/translating.rt:149:46
 cast-write-runs : tie.Need-cast-write-runs
 cast-write-runs c = search needs
 
--- src/translating.rt:149:66
 cast-write-runs-2 : tie.Need-cast-write-runs-2
 cast-write-runs-2 c = search needs
 
--- src/translating.rt:149:45
 mul-write-runs : tie.Need-mul-write-runs
 mul-write-runs c =
     let q = c .before .before .before .before .pre .1 .0 in
     record { fits = omega (arith, shaped _ (q .0) (q .1 .filled) .area) }
 
--- src/translating.rt:149:5
 write-runs-requires : tie.Need-write-runs-requires
 write-runs-requires c κs =
     let q = c .before .before .before .before .pre in
@@ -39,11 +27,9 @@ write-runs-requires c κs =
     let n = planned-columns _ _ (p .0) in
     ((p .1, rw n (s .some), rw n (s .most), s .area), (q .1 .1 .0, rw (planned-access _ _ (p .0), n) (q .1 .1 .1)))
 
--- src/translating.rt:131:1
 same-length : tie.Need-same-length
 same-length c = c .before .write-runs .kept .0
 
--- src/translating.rt:131:1
 returns : tie.Need-returns
 returns c =
     let p = c .before .before .before .before .before .plan-access .ensures .0 in

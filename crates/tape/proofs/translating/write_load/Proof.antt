@@ -1,4 +1,4 @@
-use mathlib.Core.Path.{_≡_, refl, sym, ap, _∙_}
+use mathlib.Core.Path.{ap, _∙_}
 use denote.Ref.{now}
 use mathlib.Core.Bool.{true}
 use Prim.Native.Nat.{_*_, _+_, _≤_}
@@ -11,17 +11,10 @@ use native.Mathlib.Omega.{arith}
 use borrow.Author.Needs.{needs}
 use Rattle.tape.proofs.translating.write_load.Statement.{statement}
 use Rattle.tape.proofs.translating.write_load.Tie as tie
-use Rattle.tape.proofs.translating.write_load.Reads as reads
-use Rattle.tape.proofs.translating.write_load.Lts as lts
-use Rattle.records.proofs.put_record.Reads as put-record-reads
-use Rattle.registers.proofs.the_type.Reads as the-type-reads
-use Rattle.tape.proofs.translating.write_access.Reads as write-access-reads
 
--- src/translating.rt:193:13
 the-type-requires : tie.Need-the-type-requires
 the-type-requires c κs = load-names _ _ _ _ _ _ (c .before .pre .0 .3) .named
 
--- src/translating.rt:194:9
 write-access-requires : tie.Need-write-access-requires
 write-access-requires c κs =
     let s = c .before .before .before in
@@ -29,8 +22,7 @@ write-access-requires c κs =
     let n = load-names _ _ _ _ _ _ (s .pre .0 .3) in
     let so = c .before .the-type .ensures in
     let t = c .before .the-type .result in
-    let own = c .before .before .if1 .taken in
-    (
+    let own = c .before .before .if1 .taken in (
       (s .pre .0 .0, n .given, n .option, s .pre .0 .1),
       (
         (
@@ -44,11 +36,9 @@ write-access-requires c κs =
       ),
     )
 
--- src/translating.rt:194:9
 same-length : tie.Need-same-length
 same-length c = c .before .write-access .kept .0
 
--- src/translating.rt:194:9
 returns : tie.Need-returns
 returns c =
     let s = c .before .before .before .before .before in
@@ -57,7 +47,6 @@ returns c =
     rw (own-records (a .sheet) (a .types) (a .memory) (a .register) (a .layout) (a .view) (a .base) (d .the-type .result) (d .the-type .ensures) (a .object) (d .before .if1 .taken) 0)
     (c .before .write-access .ensures)
 
--- src/translating.rt:196:31
 mul-put-record : tie.Need-mul-put-record
 mul-put-record c =
     let s = c .before .before in
@@ -66,7 +55,6 @@ mul-put-record c =
     let room : a .at * 6 ≤ length (now (a .tape)) = omega (arith, s .pre .1 .1, some) in
     search needs
 
--- src/translating.rt:196:5
 put-record-requires : tie.Need-put-record-requires
 put-record-requires c κs =
     let s = c .before .before in
@@ -76,13 +64,11 @@ put-record-requires c κs =
     let some = other-some (a .sheet) (a .types) (a .memory) (a .register) (a .object) (a .layout) (a .view) (a .base) o 0 in
     (omega (arith, s .pre .1 .1, some), (n .named, object-few _ _ _ _ _ _ o (s .pre .0 .3)))
 
--- src/translating.rt:197:9
 the-type-requires-2 : tie.Need-the-type-requires-2
 the-type-requires-2 c κs =
     let s = c .before .before .before .before in
     object-few _ _ _ _ _ _ (c .before .before .before .if1 .left) (s .pre .0 .3)
 
--- src/translating.rt:198:24
 add-write-access : tie.Need-add-write-access
 add-write-access c =
     let s = c .before .before .before .before .before .before in
@@ -91,7 +77,6 @@ add-write-access c =
     let room : a .at + 1 ≤ length (now (a .tape)) = omega (arith, s .pre .1 .1, some) in
     search needs
 
--- src/translating.rt:198:5
 write-access-requires-2 : tie.Need-write-access-requires-2
 write-access-requires-2 c κs =
     let s = c .before .before .before .before .before .before in
@@ -99,8 +84,7 @@ write-access-requires-2 c κs =
     let n = load-names _ _ _ _ _ _ (s .pre .0 .3) in
     let so = c .before .the-type2 .ensures in
     let t = c .before .the-type2 .result in
-    let o = c .before .before .before .before .before .if1 .left in
-    (
+    let o = c .before .before .before .before .before .if1 .left in (
       (s .pre .0 .0, n .given, n .option, s .pre .0 .1),
       (
         (
@@ -114,11 +98,9 @@ write-access-requires-2 c κs =
       ),
     )
 
--- src/translating.rt:175:1
 same-length-2 : tie.Need-same-length-2
 same-length-2 c = c .before .write-access2 .kept .0 ∙ c .before .before .before .before .before .put-record .kept .0
 
--- src/translating.rt:175:1
 returns-2 : tie.Need-returns-2
 returns-2 c =
     let p = c .before .before .before .before .before in

@@ -1,11 +1,9 @@
-use mathlib.Core.Path.{_≡_, refl, sym, ap, _∙_}
-use Prim.Native.Nat.{ℕ, _+_, _-_, _≤_}
+use mathlib.Core.Path.{_≡_, sym, ap, _∙_}
+use Prim.Native.Nat.{_-_, _≤_}
 use denote.Ref.{now}
-use lib.ListN.{length}
 use Rattle.addressing.specs.declared.Located.{Located}
 use Rattle.transfers.specs.Transfers.{outcomeOf}
 use Rattle.transfers.specs.Laws.{number-below}
-use Rattle.runs.specs.declared.Run.{Run}
 use Rattle.runs.specs.Runs.{held as theHeld}
 use Rattle.runs.specs.Ranges.{held-small, ending-within, held-within}
 use Rattle.runs.specs.Writing.{Written, held-none, held-more, ending-is, count-records, written-none, written-more, written-length, written-all, written-place, room-more, room-last}
@@ -14,11 +12,6 @@ use borrow.Author.Needs.{needs}
 use native.Mathlib.Omega.{arith}
 use Rattle.tape.proofs.translating.write_runs.Statement.{statement}
 use Rattle.tape.proofs.translating.write_runs.Tie as tie
-use Rattle.tape.proofs.translating.write_runs.Reads as reads
-use Rattle.tape.proofs.translating.write_runs.Lts as lts
-use Rattle.accesses.proofs.element.Reads as element-reads
-use Rattle.runs.proofs.next_run.Reads as next-run-reads
-use Rattle.runs.proofs.write_run.Reads as write-run-reads
 
 abbrev Inv-loop : tie.InvT-loop
 Inv-loop tape₀ start p load register n held₀ at₀ k₀ tape held at k =
@@ -27,33 +20,27 @@ Inv-loop tape₀ start p load register n held₀ at₀ k₀ tape held at k =
 abbrev μ-loop : tie.MeasureT-loop
 μ-loop tape₀ start p load register n held₀ at₀ k₀ tape held at k = n - k
 
--- src/translating.rt:82:5
 loop-holds : tie.Need-loop-holds Inv-loop μ-loop
 loop-holds c = ((omega arith, sym (held-none _)), written-none _ _ _ _ _)
 
--- src/translating.rt:83:38
 cast-element : tie.Need-cast-element Inv-loop μ-loop
 cast-element c = search needs
 
--- src/translating.rt:83:13
 element-requires : tie.Need-element-requires Inv-loop μ-loop
 element-requires c κs =
     let q = c .before .before .pre .0 in
     (q .0, q .1, q .2, number-below _ _ _ (c .loop-test .taken) (q .3) (q .1))
 
--- src/translating.rt:85:13
 next-run-requires : tie.Need-next-run-requires Inv-loop μ-loop
 next-run-requires c κs =
     let s = c .before .before .before in
     let p = s .args .p in
     let l = c .before .before .loop in
-    let near = outcome-near (p .access) (s .pre .0 .0 .valid .sized) (p .columns) in
-    (
+    let near = outcome-near (p .access) (s .pre .0 .0 .valid .sized) (p .columns) in (
       rw (l .inv .0 .1) (held-small (outcomeOf (p .access) (p .columns)) (l .k) (λ i h. near i)),
       (omega (arith, s .pre .0 .3), rw (ap (λ (x : Located). x .outcome) (c .element .ensures)) (near (l .k))),
     )
 
--- src/translating.rt:87:9
 write-run-requires : tie.Need-write-run-requires Inv-loop μ-loop
 write-run-requires c κs =
     let s = c .before .before .before .before .before in
@@ -64,21 +51,17 @@ write-run-requires c κs =
     let o = ap (λ (x : Located). x .outcome) (c .before .before .element .ensures) in
     let h = c .before .before .before .loop-test .taken in
     let room = rw (count-records (a .load) (a .register) f (a .n)) at (s .pre .1 .1) in
-    rw (ending-is f (l .k) (l .inv .0 .1) o (c .before .next-run .ensures))
-    (
+    rw (ending-is f (l .k) (l .inv .0 .1) o (c .before .next-run .ensures)) (
       room-more (a .load) (a .register) f (a .start) (now (a .tape)) (l .k) (l .tape) (l .at) (l .inv .1) (a .n) h room,
       ending-within (a .load) (a .register) (s .pre .1 .0) f (a .n) (omega (arith, s .pre .0 .3)) (λ i q. near i) (l .k) (omega (arith, h)),
     )
 
--- src/translating.rt:89:9
 add-k : tie.Need-add-k Inv-loop μ-loop
 add-k c = search needs
 
--- src/translating.rt:82:5
 loop-less : tie.Need-loop-less Inv-loop μ-loop
 loop-less c = omega (arith, c .before .before .before .before .before .loop-test .taken)
 
--- src/translating.rt:82:5
 loop-again : tie.Need-loop-again Inv-loop μ-loop
 loop-again c =
     let s = c .before .before .before .before .before .before .before in
@@ -88,14 +71,12 @@ loop-again c =
     let t = c .before .before .before .next-run .ensures in
     let o = ap (λ (x : Located). x .outcome) (c .before .before .before .before .element .ensures) in
     let d = ending-is f (l .k) (l .inv .0 .1) o t in
-    let w = c .before .write-run .ensures in
-    (
+    let w = c .before .write-run .ensures in (
       (omega (arith, c .before .before .before .before .before .loop-test .taken), held-more f (l .k) (l .inv .0 .1) o t),
       written-more (a .load) (a .register) f (a .start) (now (a .tape)) (l .k) (l .tape) (l .at) (l .inv .1)
-      (c .before .write-run .last .0) (c .before .write-run .result) (rw d at (w .0)) (rw d at (w .1)),
+          (c .before .write-run .last .0) (c .before .write-run .result) (rw d at (w .0)) (rw d at (w .1)),
     )
 
--- src/translating.rt:91:5
 write-run-requires-2 : tie.Need-write-run-requires-2 Inv-loop μ-loop
 write-run-requires-2 c κs =
     let s = c .before .before .before in
@@ -105,20 +86,17 @@ write-run-requires-2 c κs =
     let near = outcome-near (a .p .access) (s .pre .0 .0 .valid .sized) (a .p .columns) in
     let e : l .k ≡ a .n = omega (arith, l .inv .0 .0, c .before .loop-test .left) in
     let room = rw (count-records (a .load) (a .register) f (a .n)) at (s .pre .1 .1) in
-    rw (l .inv .0 .1)
-    (
+    rw (l .inv .0 .1) (
       room-last (a .load) (a .register) f (a .start) (now (a .tape)) (l .k) (l .tape) (l .at) (l .inv .1) (rw e room),
       held-within (a .load) (a .register) (s .pre .1 .0) f (a .n) (omega (arith, s .pre .0 .3)) (λ i q. near i) (l .k) (omega (arith, e)),
     )
 
--- src/translating.rt:74:1
 same-length : tie.Need-same-length Inv-loop μ-loop
 same-length c =
     let a = c .before .before .before .before .before .args in
     let l = c .before .before .before .before .loop in
     c .before .write-run2 .kept .0 ∙ written-length (a .load) (a .register) (outcomeOf (a .p .access) (a .p .columns)) (a .start) (now (a .tape)) (l .k) (l .tape) (l .at) (l .inv .1)
 
--- src/translating.rt:74:1
 returns : tie.Need-returns Inv-loop μ-loop
 returns c =
     let a = c .before .before .before .before .before .args in
@@ -126,12 +104,11 @@ returns c =
     let f = outcomeOf (a .p .access) (a .p .columns) in
     let e : l .k ≡ a .n = omega (arith, l .inv .0 .0, c .before .before .before .loop-test .left) in
     let w = c .before .write-run2 .ensures in
-    rw (count-records (a .load) (a .register) f (a .n), ← e)
-    (
+    rw (count-records (a .load) (a .register) f (a .n), ← e) (
       written-place (a .load) (a .register) f (a .start) (now (a .tape)) (l .k) (l .tape) (l .at) (l .inv .1)
-      (c .before .write-run2 .result) (rw (l .inv .0 .1) at (w .0)),
+          (c .before .write-run2 .result) (rw (l .inv .0 .1) at (w .0)),
       written-all (a .load) (a .register) f (a .start) (now (a .tape)) (l .k) (l .tape) (l .at) (l .inv .1)
-      (c .before .write-run2 .last .0) (rw (l .inv .0 .1) at (w .1)),
+          (c .before .write-run2 .last .0) (rw (l .inv .0 .1) at (w .1)),
     )
 
 pub write-runs-spec : {M : Type 1} → statement M

@@ -1,7 +1,6 @@
 use mathlib.Core.Path.{_≡_, refl, sym, ap, _∙_}
 use mathlib.Core.List.{List}
-use denote.Ref.{now}
-use Prim.Native.Nat.{ℕ, _+_, _-_, _*_, _≤_}
+use Prim.Native.Nat.{_+_, _-_, _*_, _≤_}
 use lib.ListN.{length, length-append}
 use lib.Seq.{sets}
 use Rattle.sheet.specs.Steps.{theStep}
@@ -15,11 +14,6 @@ use borrow.Author.Needs.{needs}
 use native.Mathlib.Omega.{arith}
 use Rattle.tape.proofs.translating.write_tape.Statement.{statement}
 use Rattle.tape.proofs.translating.write_tape.Tie as tie
-use Rattle.tape.proofs.translating.write_tape.Reads as reads
-use Rattle.tape.proofs.translating.write_tape.Lts as lts
-use Rattle.carrying.proofs.checks.check_step.Reads as check-step-reads
-use Rattle.registers.proofs.no_type.Reads as no-type-reads
-use Rattle.tape.proofs.translating.write_step.Reads as write-step-reads
 
 abbrev Inv-loop : tie.InvT-loop
 Inv-loop tape₀ memory sheet steps types₀ at₀ k₀ tape types at k =
@@ -30,17 +24,14 @@ Inv-loop tape₀ memory sheet steps types₀ at₀ k₀ tape types at k =
 abbrev μ-loop : tie.MeasureT-loop
 μ-loop tape₀ memory sheet steps types₀ at₀ k₀ tape types at k = sheet .steps - k
 
--- src/translating.rt:362:9
 no-type-requires : tie.Need-no-type-requires Inv-loop μ-loop
 no-type-requires c κs = search needs
 
--- src/translating.rt:367:5
 loop-holds : tie.Need-loop-holds Inv-loop μ-loop
 loop-holds c =
     let s = c .before in
     let e = empty-types (c .no-type .result) (c .no-type .ensures) in
-    let t = tape-start (s .args .t2) (s .args .memory) in
-    (
+    let t = tape-start (s .args .t2) (s .args .memory) in (
       omega arith,
       rw e (rest-start (s .args .t2) (s .args .memory) (s .pre .0 .2)),
       refl,
@@ -48,15 +39,12 @@ loop-holds c =
       rw (e, t) refl,
     )
 
--- src/translating.rt:368:17
 mul-c : tie.Need-mul-c Inv-loop μ-loop
 mul-c c = omega (arith, c .before .before .before .pre .0 .0 .steps)
 
--- src/translating.rt:368:17
 element-copy-out-c : tie.Need-element-copy-out-c Inv-loop μ-loop
 element-copy-out-c c = omega (arith, c .before .before .before .pre .0 .0 .steps)
 
--- src/translating.rt:370:9
 write-step-requires : tie.Need-write-step-requires Inv-loop μ-loop
 write-step-requires c κs =
     let s = c .before .before .before .before .before in
@@ -66,8 +54,7 @@ write-step-requires c κs =
     let h = c .before .before .loop-test .taken in
     let step = theStep (a .t2 .step) (l .k) in
     let go = ap length (tape-go (a .t2 .steps) (a .t2) (a .memory) (l .k) (l .types) h {c = checkedStep (a .t2) (l .types) (a .memory) step} refl) in
-    let both = length-append (stepRecords (a .t2) (l .types) (a .memory) (l .k) step) (tapeFrom (a .t2 .steps - (l .k + 1)) (a .t2) (a .memory) (l .k + 1) (checkedStep (a .t2) (l .types) (a .memory) step .types)) in
-    (
+    let both = length-append (stepRecords (a .t2) (l .types) (a .memory) (l .k) step) (tapeFrom (a .t2 .steps - (l .k + 1)) (a .t2) (a .memory) (l .k + 1) (checkedStep (a .t2) (l .types) (a .memory) step .types)) in (
       (q .0, q .1, l .inv .1 .sized, within-step (a .t2) (q .0) (l .k) h),
       (
         (rest-first (a .t2 .steps) (a .t2) (a .memory) (l .k) (l .types) h (l .inv .1), omega (arith, h, q .0 .steps)),
@@ -75,24 +62,20 @@ write-step-requires c κs =
       ),
     )
 
--- src/translating.rt:371:13
 check-step-requires : tie.Need-check-step-requires Inv-loop μ-loop
 check-step-requires c κs =
     let s = c .before .before .before .before .before .before .before in
     let l = c .before .before .before .before .before .loop in
     (s .pre .0 .0, s .pre .0 .1, l .inv .1 .sized, within-step (s .args .t2) (s .pre .0 .0) (l .k) (c .before .before .before .before .loop-test .taken))
 
--- src/translating.rt:374:9
 add-k : tie.Need-add-k Inv-loop μ-loop
 add-k c =
     let s = c .before .before .before .before .before .before .before .before .before in
     omega (arith, c .before .before .before .before .before .before .loop-test .taken, s .pre .0 .0 .steps)
 
--- src/translating.rt:367:5
 loop-less : tie.Need-loop-less Inv-loop μ-loop
 loop-less c = omega (arith, c .before .before .before .before .before .before .loop-test .taken)
 
--- src/translating.rt:367:5
 loop-again : tie.Need-loop-again Inv-loop μ-loop
 loop-again c =
     let s = c .before .before .before .before .before .before .before .before .before in
@@ -106,22 +89,19 @@ loop-again c =
     let rest = tapeFrom (a .t2 .steps - (l .k + 1)) (a .t2) (a .memory) (l .k + 1) (c .before .check-step .result .types) in
     let go = tape-go (a .t2 .steps) (a .t2) (a .memory) (l .k) (l .types) h e in
     let n = ap length go in
-    let both = length-append rs rest in
-    (
+    let both = length-append rs rest in (
       omega (arith, h),
       rest-next (a .t2 .steps) (a .t2) (a .memory) (l .k) (l .types) h (l .inv .1) (within-step (a .t2) (q .0) (l .k) h) e,
       w .kept .0 ∙ l .inv .2,
       omega (arith, l .inv .3, w .ensures .0, n, both),
       records-after (l .tape) (l .at) rs rest (w .ensures .0) (w .ensures .1)
-      ∙ ap (λ (x : List Record). sets (l .tape) (l .at * 6) (tapeNumbers x)) (sym go)
-      ∙ l .inv .4,
+          ∙ ap (λ (x : List Record). sets (l .tape) (l .at * 6) (tapeNumbers x)) (sym go)
+          ∙ l .inv .4,
     )
 
--- src/translating.rt:357:1
 same-length : tie.Need-same-length Inv-loop μ-loop
 same-length c = c .before .loop .inv .2
 
--- src/translating.rt:357:1
 returns : tie.Need-returns Inv-loop μ-loop
 returns c =
     let a = c .before .before .before .args in

@@ -1,0 +1,72 @@
+// Prints the tape of the sheet on standard input for a memory of 65,536: one record a line, six decimal numbers with single blanks. A refusal is one
+// line of three numbers, its number and its place.
+ghost use Prim.Native.Nat.{_<_, _≤_};
+use libc::STDIN_FILENO;
+use libc::STDOUT_FILENO;
+
+const MEMORY: usize = 65_536;
+
+// The most records.
+const RECORDS: usize = 1024;
+
+fn print(x: usize, after: &[u8]) {
+    io::print_decimal(STDOUT_FILENO, x as u64);
+    io::write_all(STDOUT_FILENO, after);
+}
+
+fn print_number(tape: &[i32], at: usize, after: &[u8]) {
+    if at < tape.len() {
+        let below = signed::fall(tape, at);
+        if 0 < below {
+            io::write_all(STDOUT_FILENO, b"-");
+            print(below, after);
+        } else {
+            print(signed::rise(tape, at), after);
+        }
+    }
+}
+
+fn print_record(tape: &[i32], at: usize)
+    requires { ⌜ at < 65536 ⌝ }
+{
+    print_number(tape, at, b" ");
+    print_number(tape, at + 1, b" ");
+    print_number(tape, at + 2, b" ");
+    print_number(tape, at + 3, b" ");
+    print_number(tape, at + 4, b" ");
+    print_number(tape, at + 5, b"\n");
+}
+
+fn print_records(tape: &[i32], records: usize)
+    requires { ⌜ records ≤ 1024 ⌝ }
+{
+    let mut k: usize = 0;
+    while k < records {
+        print_record(tape, k * 6);
+        k += 1;
+    }
+}
+
+fn print_refusal(number: u8, place: usize, element: usize) {
+    print(number as usize, b" ");
+    print(place, b" ");
+    print(element, b"\n");
+}
+
+// The longest accepted sheet has 744 bytes and the longest field 65,538, so what is past 66,282 bytes cannot change the answer (theorem
+// `prefix-reads` of the crate round_trip).
+fn main() {
+    let mut input = [0u8; 66_282];
+    let n = io::read_full(STDIN_FILENO, &mut input);
+    let mut tape = [0i32; 6144];
+    let r = tape::translating::translate(&input[..n], MEMORY, &mut tape);
+    let f = r.refusal;
+    if 0 < f.number {
+        print_refusal(f.number, f.place, f.element);
+        return;
+    }
+    let records = r.records;
+    if records <= RECORDS {
+        print_records(&tape, records);
+    }
+}
