@@ -12,11 +12,11 @@ ghost use Rattle.carrying.specs.Steps.{machine};
 ghost use Rattle.carrying.specs.Carrying.{started, carryAnswer};
 ghost use Rattle.records.specs.Ranges.{Sound};
 ghost use Rattle.records.specs.declared.Decoded.the-variants.{Good};
-ghost use Rattle.tape.specs.Translating.{recordLimit, recordsFit};
 ghost use Rattle.tape.specs.Records.{wholeRecordOk, recordOk, ranRecord};
 ghost use Rattle.tape.specs.Running.{tapeRecord, decodedOk, rangeRefusal, ranDecoded, ran, tapeRefusal, runTape, ranMemory};
 use super::judging;
 use super::moving;
+use super::translating;
 use carrying::CarryAnswer;
 use carrying::Performed;
 use carrying::checks;
@@ -29,22 +29,6 @@ use sheet::Sheet;
 const MEMORY_TOO_LARGE: u8 = 18;
 
 const RECORDS_TOO_MANY: u8 = 17;
-
-fn limit_of(edition: u8) -> usize
-    ensures { λ r. ⌜ r ≡ recordLimit edition ⌝ }
-{
-    1024
-}
-
-// The limit comes first: the product is small then.
-fn tape_fits(edition: u8, room: usize, records: usize) -> bool
-    ensures { λ r. ⌜ r ≡ recordsFit edition room records ⌝ }
-{
-    if limit_of(edition) < records {
-        return false;
-    }
-    records * records::NUMBERS <= room
-}
 
 // Op 4.
 fn run_whole(sheet: Sheet, registers: Registers, step: usize) -> Registers
@@ -181,7 +165,7 @@ fn tape_refusal(sheet: Sheet, tape: &[i32], records: usize, len: usize) -> Refus
     requires { ⌜ Within sheet ⌝ }
     ensures { λ r. ⌜ r ≡ tapeRefusal sheet (now (tape .entry)) records len ⌝ }
 {
-    if !tape_fits(sheet.edition, tape.len(), records) {
+    if !translating::records_fit(sheet.edition, tape.len(), records) {
         return checks::refusal_at(RECORDS_TOO_MANY, 0, 0);
     }
     judging::range(sheet, tape, records, len)

@@ -41,7 +41,7 @@ fn record_limit(edition: u8) -> usize
 }
 
 // The limit first: past it the numbers are not counted.
-fn records_fit(edition: u8, room: usize, records: usize) -> bool
+pub fn records_fit(edition: u8, room: usize, records: usize) -> bool
     ensures { λ r. ⌜ r ≡ recordsFit edition room records ⌝ }
 {
     if record_limit(edition) < records {
