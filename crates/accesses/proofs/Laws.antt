@@ -9,20 +9,17 @@ use native.Mathlib.Omega.{arith}
 use lib.Dec.{eqb}
 use lib.ListN.{length, getD, set, length-set}
 use lib.Seq.{getD-set-same, getD-set-other}
-use borrow.Author.Tests.{lt-ltb, le-ltb, eq-eqb, ne-eqb, eqb-true, eqb-false}
+use borrow.Author.Tests.{lt-ltb, le-ltb, lt-leb, eq-eqb, ne-eqb, eqb-true, eqb-false}
 use Rattle.numbers.specs.Choice.{pick}
 use Rattle.numbers.specs.Places.{by-test}
 use Rattle.outcomes.specs.declared.Outcome.{Outcome}
 use Rattle.outcomes.specs.declared.Outcome.the-variants.{Skipped, Filled, Discarded, Placed}
 use Rattle.addressing.specs.declared.Access.{Access}
 use Rattle.addressing.specs.declared.Located.{Located}
-use Rattle.addressing.specs.Valid.{SizedAccess}
-use Rattle.addressing.specs.Sound.{Sound}
 use Rattle.accesses.specs.declared.Stop.{Stop}
 use Rattle.accesses.specs.declared.Survey.{Survey}
 use Rattle.accesses.specs.Refusals.{elementOutcome, stopAt, firstRefused, sameByte, sameAt, meets, clashFrom, clashRefusal, elementsRefusal, placedOne, placedCount, checkedBy, checked, misplaced, ranksDiffer, storeBlocked, accessRefusal, checkedAccess}
-use Rattle.accesses.specs.Entries.{entryOf, hits, sameEntry, Surveyed}
-use Rattle.accesses.specs.Accepted.{element-sound}
+use Rattle.accesses.specs.Entries.{Near, entryOf, hits, sameEntry, Surveyed}
 
 -- The search of refusal 15
 module _ (same : ℕ → ℕ → Bool) where
@@ -83,37 +80,31 @@ module _ (same other : ℕ → ℕ → Bool) (m : ℕ) (agree : (i j : ℕ) → 
   clash-same i (suc n) h = rw (meets-same i i (omega arith) (omega arith), clash-same (suc i) n (omega arith))
 
 -- two entries tell whether their elements have the same byte
-pub entries-same : (o p : Outcome) → hits (entryOf o) (entryOf p) ≡ sameByte o p
+entries-miss : (y b : ℕ) → b < 65536 → (y ≡ b + 1 → ⊥) → hits y (b + 1) ≡ false
 unfolding hits pick
-entries-same Skipped Skipped = refl
-entries-same Skipped (Filled b) = refl
-entries-same Skipped Discarded = refl
-entries-same Skipped (Placed y) = rw (ne-eqb (y + 1) 0 (omega arith), ne-eqb 0 (y + 1) (omega arith))
-entries-same (Filled a) Skipped = refl
-entries-same (Filled a) (Filled b) = refl
-entries-same (Filled a) Discarded = refl
-entries-same (Filled a) (Placed y) = rw (ne-eqb (y + 1) 0 (omega arith), ne-eqb 0 (y + 1) (omega arith))
-entries-same Discarded Skipped = refl
-entries-same Discarded (Filled b) = refl
-entries-same Discarded Discarded = refl
-entries-same Discarded (Placed y) = rw (ne-eqb (y + 1) 0 (omega arith), ne-eqb 0 (y + 1) (omega arith))
-entries-same (Placed x) Skipped = refl
-entries-same (Placed x) (Filled b) = refl
-entries-same (Placed x) Discarded = refl
-entries-same (Placed x) (Placed y) =
-    rw (ne-eqb (y + 1) 0 (omega arith))
+entries-miss y b h d = rw (ne-eqb (b + 1) 0 (omega arith), lt-leb 65537 (b + 1) (omega arith), ne-eqb y (b + 1) d)
+
+pub entries-same : (o p : Outcome) → Near o → Near p → hits (entryOf o) (entryOf p) ≡ sameByte o p
+unfolding hits pick
+entries-same Skipped Skipped n m = refl
+entries-same Skipped (Filled b) n m = refl
+entries-same Skipped Discarded n m = refl
+entries-same Skipped (Placed y) n m = entries-miss 0 y m (λ e. omega arith)
+entries-same (Filled a) Skipped n m = refl
+entries-same (Filled a) (Filled b) n m = refl
+entries-same (Filled a) Discarded n m = refl
+entries-same (Filled a) (Placed y) n m = entries-miss 65537 y m (λ e. omega arith)
+entries-same Discarded Skipped n m = refl
+entries-same Discarded (Filled b) n m = refl
+entries-same Discarded Discarded n m = refl
+entries-same Discarded (Placed y) n m = entries-miss 65538 y m (λ e. omega arith)
+entries-same (Placed x) Skipped n m = refl
+entries-same (Placed x) (Filled b) n m = refl
+entries-same (Placed x) Discarded n m = refl
+entries-same (Placed x) (Placed y) n m =
+    rw (ne-eqb (y + 1) 0 (omega arith), lt-leb 65537 (y + 1) (omega arith))
     (by-test (eqb x y) (λ t. let e : x ≡ y = eqb-true x y t in rw (t, eq-eqb (x + 1) (y + 1) (omega arith)))
     (λ t. let d : x ≡ y → ⊥ = eqb-false x y t in rw (t, ne-eqb (x + 1) (y + 1) (omega arith))))
-
--- an entry is at most the memory's length
-entry-most : (a : Access) → SizedAccess a → (o : Outcome) → Sound a o → entryOf o ≤ 65536
-entry-most a ok Skipped h = zero-le
-entry-most a ok (Filled b) h = zero-le
-entry-most a ok Discarded h = zero-le
-entry-most a ok (Placed b) h = omega (arith, h .0, ok .some, ok .memory)
-
-pub element-entry : (a : Access) → SizedAccess a → (n k : ℕ) → entryOf (elementOutcome a n k .outcome) ≤ 65536
-element-entry a ok n k = entry-most a ok (elementOutcome a n k .outcome) (element-sound a n k)
 
 -- The first m elements of an access, passed up to k without a refusal
 pub record Passed (f : ℕ → Located) (m k placed : ℕ) (entries : List ℕ) : Type 0 where
@@ -175,11 +166,11 @@ module _ (f : ℕ → Located) where
   passed-end {m} {k} inv h = sym (stop-end k (m - k) (omega arith)) ∙ inv .stop
 
 -- the search over the entries is the search over the elements
-pub clash-surveyed : {f : ℕ → Located} {m : ℕ} {r : Survey} → Surveyed f m r → r .stop .number ≡ 0
+pub clash-surveyed : {f : ℕ → Located} {m : ℕ} {r : Survey} → ((i : ℕ) → Near (f i .outcome)) → Surveyed f m r → r .stop .number ≡ 0
     → clashFrom (sameEntry (r .entries)) 0 m ≡ clashFrom (sameAt f) 0 m
-clash-surveyed {f} {m} {r} s z =
+clash-surveyed {f} {m} {r} near s z =
     clash-same (sameEntry (r .entries)) (sameAt f) m
-    (λ i j h l. rw (s .entries z i h, s .entries z j l) (entries-same (f i .outcome) (f j .outcome))) 0 m (omega arith)
+    (λ i j h l. rw (s .entries z i h, s .entries z j l) (entries-same (f i .outcome) (f j .outcome) (near i) (near j))) 0 m (omega arith)
 
 -- Refusals 12 to 15, by the way that the code took
 module _ (load : Bool) (f : ℕ → Located) (m : ℕ) {s : Stop} (e : s ≡ firstRefused f 0 m) where

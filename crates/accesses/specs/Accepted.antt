@@ -14,7 +14,7 @@ use Rattle.outcomes.specs.declared.Outcome.the-variants.{Skipped, Filled, Disca
 use Rattle.addressing.specs.declared.Access.{Access}
 use Rattle.addressing.specs.declared.Located.{Located}
 use Rattle.addressing.specs.Valid.{SizedAccess, ValidAccess}
-use Rattle.addressing.specs.Sound.{Sound, located-sound}
+use Rattle.addressing.specs.Sound.{Sound, located-sound, low-bits-fit}
 use Rattle.accesses.specs.declared.Stop.{Stop}
 use Rattle.accesses.specs.Refusals.{elementOutcome, stopAt, misplaced, ranksDiffer, storeBlocked, firstRefused, sameAt, meets, clashFrom, clashRefusal, elementsRefusal, accessRefusal, placedOne, placedCount}
 
@@ -38,7 +38,7 @@ module _ (a : Access) (n k : ℕ) where
 
   -- a filled element's bits are below 2 to its width
   pub filled-fits : {bits : ℕ} → elementOutcome a n k .outcome ≡ Filled bits → bits < 2 ^ (8 * a .size)
-  filled-fits e = (rw e at (element-sound a n k)) .1
+  filled-fits e = rw ((rw e at (element-sound a n k)) .1) (low-bits-fit a)
 
 one-most : (o : Outcome) → placedOne o ≤ 1
 one-most Skipped = zero-le

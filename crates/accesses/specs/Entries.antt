@@ -1,9 +1,9 @@
--- The table by which the code looks for refusal 15: an element's entry is one more than its byte, or 0 where it has none.
-use Prim.Native.Nat.{ℕ, _+_, _<_}
+-- The table of the elements' outcomes, one number each: by it the code looks for refusal 15, and moves the elements.
+use Prim.Native.Nat.{ℕ, _+_, _-_, _<_}
 use mathlib.Core.Path.{_≡_}
 use mathlib.Core.Bool.{Bool, false}
 use mathlib.Core.List.{List}
-use lib.Dec.{eqb}
+use lib.Dec.{eqb, ltb, leb}
 use lib.ListN.{getD}
 use Rattle.numbers.specs.Choice.{pick}
 use Rattle.outcomes.specs.declared.Outcome.{Outcome}
@@ -12,15 +12,29 @@ use Rattle.addressing.specs.declared.Located.{Located}
 use Rattle.accesses.specs.declared.Survey.{Survey}
 use Rattle.accesses.specs.Refusals.{firstRefused, placedCount}
 
+-- a byte is one of the 65,536 that a memory has at most
+abbrev pub Near : Outcome → Type 0
+Near Skipped = Unit {0}
+Near (Filled b) = Unit {0}
+Near Discarded = Unit {0}
+Near (Placed b) = b < 65536
+
 abbrev pub entryOf : Outcome → ℕ
 entryOf Skipped = 0
-entryOf (Filled b) = 0
-entryOf Discarded = 0
+entryOf (Filled b) = 65537
+entryOf Discarded = 65538
 entryOf (Placed b) = b + 1
+
+-- the outcome that an entry stands for, where filled elements take these bits
+unfoldable pub entryOutcome : ℕ → ℕ → Outcome
+entryOutcome fill x =
+    pick (eqb x 0) Skipped
+    (pick (ltb x 65537) (Placed (x - 1))
+    (pick (eqb x 65537) (Filled fill) Discarded))
 
 -- an entry y is the byte of an entry x
 unfoldable pub hits : ℕ → ℕ → Bool
-hits y x = pick (eqb x 0) false (eqb y x)
+hits y x = pick (eqb x 0) false (pick (leb 65537 x) false (eqb y x))
 
 -- which two elements have the same byte, by their entries
 abbrev pub sameEntry : List ℕ → ℕ → ℕ → Bool

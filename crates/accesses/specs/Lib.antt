@@ -2,3 +2,4 @@ pub mod Refusals
 pub mod Entries
 pub mod Accepted
 pub mod Strips
+pub mod Surveys

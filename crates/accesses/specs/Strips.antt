@@ -150,5 +150,5 @@ strips =
 
 -- each strip's elements and answer are as wanted
 pub strips-right : map found strips ≡ map expected strips
-unfolding strips still eight viewed plain viewOf unclipped shifted layoutOf one dimension refusedAt accepted bad gone kept bits byte noView pick both all Rules.located Rules.reached Rules.addressed Rules.tensorIndex Rules.part Rules.clamped Rules.outside Rules.mirrored Rules.folded Rules.twos Rules.spanCoordinates Rules.viewIndex Rules.weighted Rules.viewCoordinates Rules.coordinates Rules.viewStrides Rules.viewSizes Rules.rowMajor Rules.clipped Rules.outsideClip Refusals.elementOutcome Refusals.ranksDiffer Refusals.blocksOne Refusals.storeBlocked Refusals.firstRefused Refusals.meets Refusals.clashFrom Refusals.clashRefusal Refusals.elementsRefusal Refusals.accessRefusal Refusals.placedCount Refusals.checked
+unfolding strips still eight viewed plain viewOf unclipped shifted layoutOf one dimension refusedAt accepted bad gone kept bits byte noView pick both all Rules.located Rules.reached Rules.addressed Rules.tensorIndex Rules.part Rules.clamped Rules.outside Rules.mirrored Rules.folded Rules.twos Rules.spanCoordinates Rules.viewIndex Rules.weighted Rules.viewCoordinates Rules.coordinates Rules.viewStrides Rules.viewSizes Rules.rowMajor Rules.outsideView Rules.indexed Rules.outsideClip Refusals.elementOutcome Refusals.ranksDiffer Refusals.blocksOne Refusals.storeBlocked Refusals.firstRefused Refusals.meets Refusals.clashFrom Refusals.clashRefusal Refusals.elementsRefusal Refusals.accessRefusal Refusals.placedCount Refusals.checked
 strips-right = refl

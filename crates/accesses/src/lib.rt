@@ -5,15 +5,19 @@ ghost use Prim.Native.Nat.{_*_, _≤_, _<_};
 ghost use Rattle.sheet.specs.Layouts.{theDimension, layoutOk};
 ghost use Rattle.addressing.specs.Valid.{SizedAccess, Planned};
 ghost use Rattle.accesses.specs.Refusals.{elementOutcome, ranksDiffer, blocksOne, storeBlocked, stopAt, clashFrom, elementsRefusal, placedOne, checkedBy, checked, checkedAccess};
-ghost use Rattle.accesses.specs.Entries.{entryOf, hits, sameEntry, Surveyed};
+ghost use Rattle.accesses.specs.Entries.{Near, entryOf, entryOutcome, hits, sameEntry, Surveyed};
 use addressing::Access;
-use addressing::Located;
 use addressing::Plan;
 use outcomes::Outcome;
 use sheet::Layout;
 
 // The most elements of a matrix.
 const ELEMENTS: usize = 256;
+
+// The entries of a filled element and of a discarded one, past those of the 65,536 bytes.
+const FILLED: u32 = 65_537;
+
+const DISCARDED: u32 = 65_538;
 
 // A refusal's number and its element, 0 where it names none. All zero: not refused.
 pub struct Stop {
@@ -34,24 +38,33 @@ pub struct Survey {
     pub entries: [u32; ELEMENTS],
 }
 
-// Element number k.
-pub fn element(p: Plan, k: u32) -> Located
-    requires { ⌜ Planned p × (0 < p .columns) × (p .columns < 256) × (k < 256 * p .columns) ⌝ }
-    ensures { λ r. ⌜ r ≡ elementOutcome (p .access) (p .columns) k ⌝ }
-{
-    addressing::locate(p, k / p.columns, k % p.columns)
-}
-
-// An element's entry is one more than its byte, or 0 where it has none.
+// An element's entry: 0 for a skipped one, one more than its byte for one that has a byte, and two numbers past all bytes.
 fn entry(o: Outcome) -> u32
-    requires { ⌜ entryOf o ≤ 65536 ⌝ }
+    requires { ⌜ Near o ⌝ }
     ensures { λ r. ⌜ r ≡ entryOf o ⌝ }
 {
     match o {
         Outcome::Skipped => 0,
-        Outcome::Filled(_) => 0,
-        Outcome::Discarded => 0,
+        Outcome::Filled(_) => FILLED,
+        Outcome::Discarded => DISCARDED,
         Outcome::Placed(b) => b as u32 + 1,
+    }
+}
+
+// The outcome that an entry stands for, where filled elements take these bits.
+pub fn outcome_of(entry: u32, fill: u32) -> Outcome
+    ensures { λ r. ⌜ r ≡ entryOutcome fill entry ⌝ }
+{
+    if entry == 0 {
+        return Outcome::Skipped;
+    }
+    if entry < FILLED {
+        return Outcome::Placed(entry as usize - 1);
+    }
+    if entry == FILLED {
+        Outcome::Filled(fill)
+    } else {
+        Outcome::Discarded
     }
 }
 
@@ -67,15 +80,20 @@ fn placed_one(o: Outcome) -> usize
 }
 
 // The elements in order, up to the first that is refused.
-fn survey_of(p: Plan, count: usize) -> Survey
+pub fn survey_of(p: Plan, count: usize) -> Survey
     requires { ⌜ Planned p × (0 < p .columns) × (p .columns < 256) × (count ≤ 256) ⌝ }
     ensures { λ r. ⌜ Surveyed (elementOutcome (p .access) (p .columns)) count r ⌝ }
 {
+    let v = p.access.view;
+    let permutation = v.permutation;
+    let sizes = p.sizes;
+    let strides = p.strides;
+    let numbers = p.numbers;
     let mut entries = [0u32; ELEMENTS];
     let mut placed = 0;
     let mut k = 0;
     while k < count {
-        let r = element(p, k as u32);
+        let r = addressing::locate(p, &permutation, &sizes, &strides, &numbers, k as u32);
         if r.refusal != 0 {
             return Survey {
                 stop: Stop {
@@ -105,6 +123,9 @@ fn same_byte(y: u32, x: u32) -> bool
     ensures { λ r. ⌜ r ≡ hits y x ⌝ }
 {
     if x == 0 {
+        return false;
+    }
+    if FILLED <= x {
         return false;
     }
     y == x

@@ -3,33 +3,31 @@ use Prim.Native.Nat.{ℕ, zero, suc, _+_, _-_, _*_, _/_, _%_, _^_, _<_, _≤_, z
 use mathlib.Core.Path.{_≡_, refl, sym, ap, _∙_}
 use mathlib.Core.Bool.{Bool, true, false, true≢false}
 use mathlib.Core.Logic.{_⊎_, ⊎-elim}
-use native.Mathlib.Nat.{mod-lt, mul-le-mul, pow-suc, pow-le-pow-right, le-trans, not-suc-le-zero, div-le-self}
+use native.Mathlib.Nat.{mul-le-mul, pow-suc, pow-le-pow-right, le-trans, not-suc-le-zero, div-le-self}
 use native.Mathlib.Numerals.{add-one}
 use native.Mathlib.Omega.{arith}
 use lib.Dec.{ltb, leb, eqb, lit<, lit≤}
 use lib.IntN.{ℤ, pos, negsuc, _+ℤ_}
-use lib.ListN.{length, getD, set, replicate}
-use lib.Seq.{getD-set-same, getD-set-other, set-out}
+use lib.ListN.{getD, set}
 use mathlib.Core.List.{List, [], _∷_}
-use borrow.Author.Tests.{lt-ltb, le-ltb, le-leb, lt-leb, ltb-true, ltb-false, leb-true, leb-false, eqb-true, eqb-false}
+use borrow.Author.Tests.{lt-ltb, le-ltb, le-leb, lt-leb, ltb-false, leb-true, leb-false, eqb-false}
 use Rattle.numbers.specs.Choice.{pick, pick-case}
-use Rattle.numbers.specs.Places.{by-test}
 use Rattle.sheet.specs.Facts.{InSize, layout-span, view-most, view-size}
 use Rattle.sheet.specs.Views.{theViewDimension}
 use Rattle.addressing.specs.Valid.{ValidAccess, Planned}
 use Rattle.addressing.specs.Remainder.{remainder-lt}
 use Rattle.addressing.specs.declared.Plan.{Plan}
-use Rattle.addressing.specs.declared.Clipped.{Clipped}
 use Rattle.sheet.specs.declared.ClampMode.{ClampMode}
 use Rattle.sheet.specs.declared.ClampMode.the-variants.{Undefined, Constant, ClampToEdge, Repeat, MirrorRepeat}
 use Rattle.sheet.specs.declared.Clip.{Clip}
 use Rattle.sheet.specs.declared.Dimension.{Dimension}
 use Rattle.sheet.specs.declared.Layout.{Layout}
-use Rattle.sheet.specs.Layouts.{theDimension, layoutOk}
+use Rattle.sheet.specs.declared.View.{View}
+use Rattle.sheet.specs.Layouts.{theDimension}
 use Rattle.addressing.specs.declared.Access.{Access}
 use Rattle.addressing.specs.declared.Clamped.{Clamped}
 use Rattle.addressing.specs.declared.Clamped.the-variants.{Refused, Discarded, Filled, At}
-use Rattle.addressing.specs.Rules.{outsideClip, clipWidth, clipped, five, rowMajor, viewSizes, viewStrides, lowBits, throughView, located, planned, coordinates, weighted, twos, remainder, folded, mirrored, onLoad, onStore, outside, clamped, scaled, part, plus, tensorIndex, spanOf, spanCoordinates, refused, settled, reached}
+use Rattle.addressing.specs.Rules.{outsideClip, outsideView, clipWidth, five, rowMajor, viewSizes, viewStrides, layoutNumbers, dimensionAt, planned, coordinates, twos, remainder, folded, mirrored, onLoad, onStore, outside, clamped, scaled, part, tensorIndex, spanOf, spanCoordinates, refused, settled, reached}
 
 -- Rule 1: inside the clip the offset can be subtracted
 pub clip-low : (c : Clip) (x : ℕ) → outsideClip c x ≡ false → c .offset ≤ x
@@ -38,17 +36,23 @@ clip-low c x e =
     pick-case (λ (b : Bool). b ≡ false → c .offset ≤ x) (ltb x (c .offset)) true (leb (c .offset + c .span) x)
     (λ t q. absurd (true≢false q)) (λ t q. ltb-false _ _ t) e
 
+-- a position inside the clip of a view is so in both directions
+module _ (v : View) (row col : ℕ) (e : outsideView v row col ≡ false) where
+  pub inside-rows : outsideClip (v .rows) row ≡ false
+  unfolding outsideView
+  inside-rows =
+      pick-case (λ (b : Bool). b ≡ false → outsideClip (v .rows) row ≡ false) (outsideClip (v .rows) row) true (outsideClip (v .columns) col)
+      (λ t q. absurd (true≢false q)) (λ t q. t) e
+
+  pub inside-columns : outsideClip (v .columns) col ≡ false
+  unfolding outsideView
+  inside-columns =
+      pick-case (λ (b : Bool). b ≡ false → outsideClip (v .columns) col ≡ false) (outsideClip (v .rows) row) true (outsideClip (v .columns) col)
+      (λ t q. absurd (true≢false q)) (λ t q. q) e
+
 -- the product of two sides
 pub sides : (a b : ℕ) → a < 256 → b < 256 → a * b ≤ 65025
 sides a b g h = mul-le-mul {n₁ = a} {m₁ = b} {n₂ = 255} {m₂ = 255} (omega arith) (omega arith)
-
--- a list of numbers below m stays so
-pub set-below : (m : ℕ) (l : List ℕ) (j x : ℕ) → x < m → ((i : ℕ) → getD l i 0 < m) → (i : ℕ) → getD (set l j x) i 0 < m
-set-below m l j x h below i =
-    by-test (eqb i j)
-    (λ t. let q : i ≡ j = eqb-true i j t in
-    by-test (ltb j (length l)) (λ s. rw (q, getD-set-same l j x 0 (ltb-true _ _ s)) h) (λ s. rw (set-out l j x (ltb-false _ _ s)) (below i)))
-    (λ t. rw (getD-set-other l j i x 0 (eqb-false i j t)) (below i))
 
 -- Rule 2: the row-major stride of dimension i of n
 module _ (span : ℕ → ℕ) (i : ℕ) where
@@ -111,28 +115,6 @@ module _ (place size : ℕ → ℕ) where
   coordinates-end zero index cs h = refl
   coordinates-end (suc k) index cs h = absurd (not-suc-le-zero h)
 
-  -- a coordinate is below 4,096 where each size is 1 to 4,096
-  pub coordinates-lt : (n index : ℕ) (cs : List ℕ) → ((k : ℕ) → k < n → InSize (size (place k))) → ((i : ℕ) → getD cs i 0 < 4096)
-      → (i : ℕ) → getD (coordinates place size n index cs) i 0 < 4096
-  unfolding coordinates
-  coordinates-lt zero index cs sized below i = below i
-  coordinates-lt (suc n) index cs sized below i =
-      let s : InSize (size (place n)) = sized n (omega arith) in
-      coordinates-lt n (index / size (place n)) (set cs (place n) (index % size (place n))) (λ k h. sized k (omega arith))
-      (set-below 4096 cs (place n) (index % size (place n)) (omega (arith, mod-lt index (s .some))) below) i
-
-pub zeros-lt : (i : ℕ) → getD (replicate 5 0) i 0 < 4096
-zeros-lt i = omega (arith, five-most 0 {a = 0} {b = 0} {c = 0} {d = 0} {e = 0} zero-le zero-le zero-le zero-le zero-le i)
-
--- Rule 2: one product more
-pub weighted-none : (cs strides : List ℕ) → 0 ≡ weighted cs strides 0
-unfolding weighted
-weighted-none cs strides = refl
-
-pub weighted-more : (cs strides : List ℕ) (n : ℕ) → weighted cs strides n + getD cs n 0 * getD strides n 0 ≡ weighted cs strides (n + 1)
-unfolding weighted
-weighted-more cs strides n = rw add-one
-
 -- Rule 4: a coordinate that is there is below n
 abbrev Under : ℕ → Clamped → Type 0
 Under n Refused = Unit {0}
@@ -186,31 +168,6 @@ part-is load mode d s e = rw e
 pub scaled-le : {x n stride : ℕ} (block : ℕ) → x < n → n ≤ 4096 → stride < 65536 → x / block * stride ≤ 268435456
 scaled-le {x} block h m t = mul-le-mul {n₂ = 4096} {m₂ = 65536} (omega (arith, div-le-self x block)) (omega arith)
 
--- Rules 4 and 5: the dimensions before n, one after the other
-module _ (load : Bool) (l : Layout) (cs : List ℕ) where
-  pub tensor-none : At 0 ≡ tensorIndex load l cs 0
-  unfolding tensorIndex
-  tensor-none = refl
-
-  pub tensor-more : (d sum x : ℕ) → At sum ≡ tensorIndex load l cs d → At x ≡ part load (l .mode) (theDimension (l .dimensions) d) (getD cs d 0)
-      → At (sum + x) ≡ tensorIndex load l cs (d + 1)
-  unfolding tensorIndex
-  tensor-more d sum x e f = rw (add-one, ← e, ← f)
-
-  -- the first dimension with no coordinate decides
-  pub tensor-stop : (x : Clamped) → ((y : Clamped) → plus x y ≡ x) → ((a : ℕ) → plus (At a) x ≡ x) → (d n sum : ℕ) → d < n
-      → At sum ≡ tensorIndex load l cs d → part load (l .mode) (theDimension (l .dimensions) d) (getD cs d 0) ≡ x → x ≡ tensorIndex load l cs n
-  unfolding tensorIndex
-  tensor-stop x before after d zero sum h e f = absurd (not-suc-le-zero h)
-  tensor-stop x before after d (suc n) sum h e f =
-      by-test (eqb d n) (λ t. let q : d ≡ n = eqb-true d n t in rw (← q, ← e, f) (sym (after sum)))
-      (λ t. let q : d ≡ n → ⊥ = eqb-false d n t in
-      rw (← tensor-stop x before after d n sum (omega arith) e f) (sym (before _)))
-
-pub span-coordinates-lt : (l : Layout) → layoutOk l ≡ true → (index i : ℕ) → getD (spanCoordinates l index) i 0 < 4096
-unfolding spanCoordinates
-span-coordinates-lt l ok index i = coordinates-lt (λ (d : ℕ). d) (spanOf l) (l .rank) index (replicate 5 0) (layout-span l ok) zeros-lt i
-
 module _ (a : Access) where
   pub reached-far : (index : ℕ) → 2 ^ 32 ≤ index → refused 12 ≡ reached a index
   unfolding reached pick
@@ -221,15 +178,6 @@ module _ (a : Access) where
   unfolding reached pick
   reached-is index x h e = rw (lt-leb _ _ h, e)
 
-  module _ (n row col : ℕ) where
-    pub located-plain : a .viewed ≡ false → reached a (row * n + col) ≡ located a n row col
-    unfolding located pick
-    located-plain e = rw e
-
-    pub located-through : (x : Clipped) → a .viewed ≡ true → clipped (a .view) (clipWidth (a .view) n) row col ≡ x → throughView a x ≡ located a n row col
-    unfolding located pick
-    located-through x e f = rw (e, f)
-
 -- Rule 2: the sizes of a view's dimensions
 pub view-sizes-in : (a : Access) → ValidAccess a → a .viewed ≡ true → (i : ℕ) → i < a .view .rank
     → InSize (getD (viewSizes (a .layout) (a .view)) i 0)
@@ -239,6 +187,16 @@ view-sizes-in a ok e i h =
     pick-case (λ (l : List ℕ). InSize (getD l i 0)) (a .view .sized) _ _
     (λ t. rw (five-at (λ (k : ℕ). theViewDimension (a .view .dimensions) k .size) i m) (view-size (a .view) (ok .sized .view e) i h t))
     (λ t. rw (five-at (spanOf (a .layout)) i m) (layout-span (a .layout) (ok .sized .layout) i (omega (arith, ok .ranks e t))))
+
+-- the numbers of a layout have its dimensions
+pub numbers-dimension : (l : Layout) (d : ℕ) → d < 5 → dimensionAt (layoutNumbers l) (5 * d) ≡ theDimension (l .dimensions) d
+unfolding layoutNumbers
+numbers-dimension l zero h = refl
+numbers-dimension l (suc zero) h = refl
+numbers-dimension l (suc (suc zero)) h = refl
+numbers-dimension l (suc (suc (suc zero))) h = refl
+numbers-dimension l (suc (suc (suc (suc zero)))) h = refl
+numbers-dimension l (suc (suc (suc (suc (suc d))))) h = absurd (omega arith)
 
 -- the parts of a plan
 module _ (p : Plan) (ok : Planned p) where
@@ -254,9 +212,9 @@ module _ (p : Plan) (ok : Planned p) where
   unfolding planned
   plan-strides = ap (λ (q : Plan). q .strides) (ok .same)
 
-  pub plan-fill : p .fill ≡ lowBits (p .access)
+  pub plan-numbers : p .numbers ≡ layoutNumbers (p .access .layout)
   unfolding planned
-  plan-fill = ap (λ (q : Plan). q .fill) (ok .same)
+  plan-numbers = ap (λ (q : Plan). q .numbers) (ok .same)
 
 -- a fact, and what follows from it
 pub and-so : {P Q : Type 0} → P → (P → Q) → P × Q

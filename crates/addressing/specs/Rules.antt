@@ -18,8 +18,8 @@ use Rattle.outcomes.specs.declared.Outcome.{Outcome}
 use Rattle.outcomes.specs.declared.Outcome.the-variants as outcome
 use Rattle.addressing.specs.declared.Access.{Access}
 use Rattle.addressing.specs.declared.Plan.{Plan}
-use Rattle.addressing.specs.declared.Clipped.{Clipped}
-use Rattle.addressing.specs.declared.Clipped.the-variants as clip
+use Rattle.addressing.specs.declared.Indexed.{Indexed}
+use Rattle.addressing.specs.declared.Indexed.the-variants.{Skipped, Index}
 use Rattle.addressing.specs.declared.Coordinate.{Coordinate}
 use Rattle.addressing.specs.declared.Coordinate.the-variants as coordinate
 use Rattle.addressing.specs.declared.Clamped.{Clamped}
@@ -34,12 +34,13 @@ outsideClip c x = pick (ltb x (c .offset)) true (leb (c .offset + c .span) x)
 abbrev pub clipWidth : View → ℕ → ℕ
 clipWidth v n = min n (v .columns .span)
 
--- Rule 1 with a view: a position outside the clip is skipped; otherwise both offsets are subtracted and index = row*width+col
-unfoldable pub clipped : View → ℕ → ℕ → ℕ → Clipped
-clipped v width row col =
-    pick (outsideClip (v .rows) row) clip.Skipped
-    (pick (outsideClip (v .columns) col) clip.Skipped
-    (clip.Index ((row - v .rows .offset) * width + (col - v .columns .offset))))
+-- Rule 1 with a view: a position whose row or column is outside the clip is skipped
+unfoldable pub outsideView : View → ℕ → ℕ → Bool
+outsideView v row col = pick (outsideClip (v .rows) row) true (outsideClip (v .columns) col)
+
+-- Rule 1 with a view: otherwise both offsets are subtracted and index = row*width+col
+abbrev pub clipIndex : View → ℕ → ℕ → ℕ → ℕ
+clipIndex v width row col = (row - v .rows .offset) * width + (col - v .columns .offset)
 
 -- the list g 0 .. g 4
 abbrev pub five : (ℕ → ℕ) → List ℕ
@@ -193,15 +194,45 @@ reached a index =
     pick (leb (2 ^ 32) index) (refused 12)
     (settled a (tensorIndex (a .load) (a .layout) (spanCoordinates (a .layout) index) (a .layout .rank)))
 
--- Rule 2, for what rule 1 leaves
-abbrev pub throughView : Access → Clipped → Located
-throughView a clip.Skipped = answered outcome.Skipped
-throughView a (clip.Index i) = reached a (viewIndex (a .view) (viewSizes (a .layout) (a .view)) (viewStrides (a .layout) (a .view)) i)
+-- Rules 1 and 2: the index of element (row, col) of a matrix of n columns; without a view it is row*N+col
+unfoldable pub indexed : Access → ℕ → ℕ → ℕ → Indexed
+indexed a n row col =
+    pick (a .viewed)
+    (pick (outsideView (a .view) row col) Skipped
+    (Index (viewIndex (a .view) (viewSizes (a .layout) (a .view)) (viewStrides (a .layout) (a .view)) (clipIndex (a .view) (clipWidth (a .view) n) row col))))
+    (Index (row * n + col))
 
--- Rules 1 to 5: element (row, col) of a matrix of n columns; without a view the index is row*N+col
+-- Rules 3 to 5, for what rules 1 and 2 give
+abbrev pub landed : Access → Indexed → Located
+landed a Skipped = answered outcome.Skipped
+landed a (Index i) = reached a i
+
+-- Rules 1 to 5: element (row, col) of a matrix of n columns
 unfoldable pub located : Access → ℕ → ℕ → ℕ → Located
-located a n row col =
-    pick (a .viewed) (throughView a (clipped (a .view) (clipWidth (a .view) n) row col)) (reached a (row * n + col))
+located a n row col = landed a (indexed a n row col)
+
+-- the numbers of a dimension, written from a place on, and read
+abbrev pub withDimension : List ℕ → ℕ → Dimension → List ℕ
+withDimension ns at d = set (set (set (set (set ns at (d .block)) (at + 1) (d .size)) (at + 2) (d .stride)) (at + 3) (d .offset)) (at + 4) (d .span)
+
+abbrev pub dimensionAt : List ℕ → ℕ → Dimension
+dimensionAt ns at =
+    record {
+      block = getD ns at 0;
+      size = getD ns (at + 1) 0;
+      stride = getD ns (at + 2) 0;
+      offset = getD ns (at + 3) 0;
+      span = getD ns (at + 4) 0;
+    }
+
+-- those of dimension d from place 5*d on
+abbrev pub dimensionPut : Layout → List ℕ → ℕ → List ℕ
+dimensionPut l ns d = withDimension ns (5 * d) (theDimension (l .dimensions) d)
+
+-- the numbers of all five dimensions
+unfoldable pub layoutNumbers : Layout → List ℕ
+layoutNumbers l =
+    dimensionPut l (dimensionPut l (dimensionPut l (dimensionPut l (dimensionPut l (replicate 25 0) 0) 1) 2) 3) 4
 
 -- what the elements of an access to a matrix of n columns share
 unfoldable pub planned : Access → ℕ → Plan
@@ -210,7 +241,8 @@ planned a n =
       access = a;
       columns = n;
       width = clipWidth (a .view) n;
+      fill = lowBits a;
       sizes = viewSizes (a .layout) (a .view);
       strides = viewStrides (a .layout) (a .view);
-      fill = lowBits a;
+      numbers = layoutNumbers (a .layout);
     }

@@ -18,18 +18,18 @@ use Rattle.sheet.specs.declared.Layout.{Layout}
 use Rattle.outcomes.specs.declared.Outcome.{Outcome}
 use Rattle.outcomes.specs.declared.Outcome.the-variants as outcome
 use Rattle.addressing.specs.declared.Access.{Access}
-use Rattle.addressing.specs.declared.Clipped.{Clipped}
-use Rattle.addressing.specs.declared.Clipped.the-variants as clip
+use Rattle.addressing.specs.declared.Indexed.{Indexed}
+use Rattle.addressing.specs.declared.Indexed.the-variants.{Skipped, Index}
 use Rattle.addressing.specs.declared.Clamped.{Clamped}
 use Rattle.addressing.specs.declared.Clamped.the-variants.{Refused, Discarded, Filled, At}
 use Rattle.addressing.specs.declared.Located.{Located}
-use Rattle.addressing.specs.Rules.{onLoad, onStore, outside, clamped, twos, scaled, part, plus, tensorIndex, spanCoordinates, addressed, settled, reached, throughView, clipped, clipWidth, located}
+use Rattle.addressing.specs.Rules.{onLoad, onStore, outside, clamped, twos, scaled, part, plus, tensorIndex, spanCoordinates, lowBits, addressed, settled, reached, indexed, landed, located}
 
--- only a load fills, with bits below 2 to its width, and only a store discards;
+-- only a load fills, with the low bits of the clamp value, and only a store discards;
 -- an element's bytes lie in memory, a multiple of the element size from the base
 abbrev pub Sound : Access → Outcome → Type 0
 Sound a outcome.Skipped = Unit {0}
-Sound a (outcome.Filled bits) = (a .load ≡ true) × (bits < 2 ^ (8 * a .size))
+Sound a (outcome.Filled bits) = (a .load ≡ true) × (bits ≡ lowBits a)
 Sound a outcome.Discarded = a .load ≡ false
 Sound a (outcome.Placed byte) = (byte + a .size ≤ a .memory) × ((t : ℕ) × (byte ≡ a .base + t * a .size))
 
@@ -97,7 +97,7 @@ module _ (a : Access) where
   settled-sound : (x : Clamped) → ByLoad (a .load) x → SoundAt a (settled a x)
   settled-sound Refused h = tt
   settled-sound Discarded h = h
-  settled-sound Filled h = (h, mod-lt (a .layout .clamp) (pow-pos (8 * a .size)))
+  settled-sound Filled h = (h, refl)
   settled-sound (At t) h = addressed-sound t
 
   reached-sound : (index : ℕ) → SoundAt a (reached a index)
@@ -107,11 +107,14 @@ module _ (a : Access) where
       (λ e. let cs = spanCoordinates (a .layout) index in
       settled-sound (tensorIndex (a .load) (a .layout) cs (a .layout .rank)) (tensor-by (a .load) (a .layout) cs (a .layout .rank)))
 
-  through-sound : (x : Clipped) → SoundAt a (throughView a x)
-  through-sound clip.Skipped = tt
-  through-sound (clip.Index i) = reached-sound _
+  landed-sound : (x : Indexed) → SoundAt a (landed a x)
+  landed-sound Skipped = tt
+  landed-sound (Index i) = reached-sound i
 
   pub located-sound : (n row col : ℕ) → Sound a (located a n row col .outcome)
   unfolding located
-  located-sound n row col =
-      pick-case (SoundAt a) (a .viewed) _ _ (λ e. through-sound (clipped (a .view) (clipWidth (a .view) n) row col)) (λ e. reached-sound (row * n + col))
+  located-sound n row col = landed-sound (indexed a n row col)
+
+-- the low bits of the clamp value are an element's
+pub low-bits-fit : (a : Access) → lowBits a < 2 ^ (8 * a .size)
+low-bits-fit a = mod-lt (a .layout .clamp) (pow-pos (8 * a .size))

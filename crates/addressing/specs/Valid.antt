@@ -9,7 +9,7 @@ use Rattle.addressing.specs.declared.Access.{Access}
 use Rattle.addressing.specs.declared.Plan.{Plan}
 use Rattle.addressing.specs.declared.Clamped.{Clamped}
 use Rattle.addressing.specs.declared.Clamped.the-variants.{Refused, Discarded, Filled, At}
-use Rattle.addressing.specs.Rules.{planned}
+use Rattle.addressing.specs.Rules.{lowBits, planned}
 
 -- the layout, the view and the memory keep to Sizes, and an element is 1, 2 or 4 bytes
 pub record SizedAccess (a : Access) : Type 0 where
@@ -38,6 +38,10 @@ planned-access a n e = ap (λ (q : Plan). q .access) e
 pub planned-columns : (a : Access) (n : ℕ) {p : Plan} → p ≡ planned a n → p .columns ≡ n
 unfolding planned
 planned-columns a n e = ap (λ (q : Plan). q .columns) e
+
+pub plan-fill : (p : Plan) → Planned p → p .fill ≡ lowBits (p .access)
+unfolding planned
+plan-fill p ok = ap (λ (q : Plan). q .fill) (ok .same)
 
 -- what rule 5 gives is at most n, where it gives an index
 abbrev pub AtMost : ℕ → Clamped → Type 0

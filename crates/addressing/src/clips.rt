@@ -1,8 +1,8 @@
 // Rule 1 with a view.
 ghost use mathlib.Core.Path.{_≡_};
 ghost use Prim.Native.Nat.{_<_};
-ghost use Rattle.addressing.specs.Rules.{outsideClip, clipped};
-use super::Clipped;
+ghost use mathlib.Core.Bool.{false};
+ghost use Rattle.addressing.specs.Rules.{outsideClip, outsideView, clipIndex};
 use super::wide;
 use sheet::Clip;
 use sheet::View;
@@ -17,18 +17,22 @@ fn outside_clip(c: Clip, x: u32) -> bool
     offset + wide(c.span) <= x
 }
 
+// A position outside the clip of a view.
+pub fn outside_view(v: View, row: u32, col: u32) -> bool
+    ensures { λ r. ⌜ r ≡ outsideView v row col ⌝ }
+{
+    if outside_clip(v.rows, row) {
+        return true;
+    }
+    outside_clip(v.columns, col)
+}
+
 // A side is below 256, so the index is below 65,536.
-pub fn clip_index(v: View, width: u32, row: u32, col: u32) -> Clipped
-    requires { ⌜ (width < 256) × (row < 256) × (col < 256) ⌝ }
-    ensures { λ r. ⌜ r ≡ clipped v width row col ⌝ }
+pub fn clip_index(v: View, width: u32, row: u32, col: u32) -> u32
+    requires { ⌜ (width < 256) × (row < 256) × (col < 256) × (outsideView v row col ≡ false) ⌝ }
+    ensures { λ r. ⌜ r ≡ clipIndex v width row col ⌝ }
 {
     let rows = v.rows;
-    if outside_clip(rows, row) {
-        return Clipped::Skipped;
-    }
     let columns = v.columns;
-    if outside_clip(columns, col) {
-        return Clipped::Skipped;
-    }
-    Clipped::Index((row - wide(rows.offset)) * width + (col - wide(columns.offset)))
+    (row - wide(rows.offset)) * width + (col - wide(columns.offset))
 }

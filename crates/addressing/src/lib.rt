@@ -1,7 +1,7 @@
 // Where one element of a load or a store goes (document 01, "Where an element goes").
 ghost use mathlib.Core.Path.{_≡_};
-ghost use Prim.Native.Nat.{_*_, _^_, _%_, _≤_, _<_, min};
-ghost use Rattle.addressing.specs.Rules.{lowBits, addressed, reached, located, refused, answered, planned};
+ghost use Prim.Native.Nat.{_*_, _/_, _^_, _%_, _≤_, _<_, min};
+ghost use Rattle.addressing.specs.Rules.{lowBits, layoutNumbers, addressed, reached, indexed, located, refused, answered, planned};
 ghost use Rattle.addressing.specs.Valid.{ValidAccess, Planned};
 
 pub mod clamps;
@@ -28,20 +28,27 @@ pub struct Access {
 }
 
 // What the elements of an access to a matrix of `columns` columns share: rule 1's width, rule 2's sizes and strides, rule 4's bits of
-// the clamp value.
+// the clamp value, and the layout's numbers for rules 3 to 5.
 pub struct Plan {
     pub access: Access,
     pub columns: u32,
     pub width: u32,
+    pub fill: u32,
     pub sizes: [u32; 5],
     pub strides: [u64; 5],
-    pub fill: u32,
+    pub numbers: [u16; 25],
 }
 
-// Rule 1's index, or a position outside the clip.
-pub enum Clipped {
+// The index that rules 1 and 2 give, or a position outside the clip.
+pub enum Indexed {
     Skipped,
-    Index(u32),
+    Index(u64),
+}
+
+// A number's remainder and quotient by another.
+pub struct Division {
+    pub rest: u32,
+    pub quotient: u32,
 }
 
 // An integer: At(a) is a, Below(a) is -1-a.
@@ -101,13 +108,15 @@ pub fn plan_of(a: Access, columns: u32) -> Plan
     let clip = v.columns;
     let sizes = views::view_sizes(l, v);
     let strides = views::view_strides(l, v);
+    let numbers = tensors::layout_numbers(l);
     Plan {
         access: a,
         columns,
         width: smaller(columns, wide(clip.span)),
+        fill: low_bits(l.clamp, a.size),
         sizes,
         strides,
-        fill: low_bits(l.clamp, a.size),
+        numbers,
     }
 }
 
@@ -143,17 +152,32 @@ fn address(a: Access, t: u32) -> Located
     }
 }
 
+// A quotient of 0 needs no division, which is the slowest part of an element.
+fn divide(x: u32, size: u32) -> Division
+    requires { ⌜ 0 < size ⌝ }
+    ensures { λ r. ⌜ (r .rest ≡ x % size) × (r .quotient ≡ x / size) ⌝ }
+{
+    if x < size {
+        return Division {
+            rest: x,
+            quotient: 0,
+        };
+    }
+    Division {
+        rest: x % size,
+        quotient: x / size,
+    }
+}
+
 // Refusal 12, then rules 3 to 5.
-fn reach(a: Access, fill: u32, index: u64) -> Located
-    requires { ⌜ ValidAccess a × (fill ≡ lowBits a) ⌝ }
+fn reach(a: Access, numbers: &[u16; 25], fill: u32, index: u64) -> Located
+    requires { ⌜ ValidAccess a × (fill ≡ lowBits a) × (now numbers ≡ layoutNumbers (a .layout)) ⌝ }
     ensures { λ r. ⌜ r ≡ reached a index ⌝ }
 {
     if INDEX_LIMIT <= index {
         return refuse(12);
     }
-    let l = a.layout;
-    let cs = tensors::span_coordinates(l, index as u32);
-    match tensors::tensor_index(a.load, l, cs) {
+    match tensors::tensor_index(a.load, a.layout, numbers, index as u32) {
         Clamped::Refused => refuse(13),
         Clamped::Discarded => answer(Outcome::Discarded),
         Clamped::Filled => answer(Outcome::Filled(fill)),
@@ -161,23 +185,40 @@ fn reach(a: Access, fill: u32, index: u64) -> Located
     }
 }
 
-// Rules 1 to 5: element (row, col).
-pub fn locate(p: Plan, row: u32, col: u32) -> Located
-    requires { ⌜ Planned p × (p .columns < 256) × (row < 256) × (col < 256) ⌝ }
-    ensures { λ r. ⌜ r ≡ located (p .access) (p .columns) row col ⌝ }
+// Rules 1 and 2: element number k. Without a view the index is that number.
+fn index_of(p: Plan, permutation: &[u8; 5], sizes: &[u32; 5], strides: &[u64; 5], k: u32) -> Indexed
+    requires { ⌜ Planned p × (0 < p .columns) × (p .columns < 256) × (k < 256 * p .columns) ⌝ }
+    requires { ⌜ (now permutation ≡ p .access .view .permutation) × (now sizes ≡ p .sizes) × (now strides ≡ p .strides) ⌝ }
+    ensures { λ r. ⌜ r ≡ indexed (p .access) (p .columns) (k / p .columns) (k % p .columns) ⌝ }
 {
-    let a = p.access;
-    if a.viewed {
-        let v = a.view;
-        match clips::clip_index(v, p.width, row, col) {
-            Clipped::Skipped => answer(Outcome::Skipped),
-            Clipped::Index(i) => {
-                let sizes = p.sizes;
-                let strides = p.strides;
-                reach(a, p.fill, views::view_index(v, sizes, strides, i))
-            }
-        }
-    } else {
-        reach(a, p.fill, (row * p.columns + col) as u64)
+    if !p.access.viewed {
+        return Indexed::Index(k as u64);
+    }
+    let v = p.access.view;
+    let row = k / p.columns;
+    let col = k % p.columns;
+    if clips::outside_view(v, row, col) {
+        return Indexed::Skipped;
+    }
+    let index = clips::clip_index(v, p.width, row, col);
+    Indexed::Index(views::view_index(v, permutation, sizes, strides, index))
+}
+
+// Rules 1 to 5: element number k. The arrays are the plan's and its view's, lent so that they are not copied for each element.
+pub fn locate(
+    p: Plan,
+    permutation: &[u8; 5],
+    sizes: &[u32; 5],
+    strides: &[u64; 5],
+    numbers: &[u16; 25],
+    k: u32,
+) -> Located
+    requires { ⌜ Planned p × (0 < p .columns) × (p .columns < 256) × (k < 256 * p .columns) ⌝ }
+    requires { ⌜ (now permutation ≡ p .access .view .permutation) × (now sizes ≡ p .sizes) × (now strides ≡ p .strides) × (now numbers ≡ p .numbers) ⌝ }
+    ensures { λ r. ⌜ r ≡ located (p .access) (p .columns) (k / p .columns) (k % p .columns) ⌝ }
+{
+    match index_of(p, permutation, sizes, strides, k) {
+        Indexed::Skipped => answer(Outcome::Skipped),
+        Indexed::Index(i) => reach(p.access, numbers, p.fill, i),
     }
 }

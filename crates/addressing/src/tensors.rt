@@ -1,35 +1,69 @@
 // Rules 3 to 5.
 ghost use mathlib.Core.Path.{_≡_};
 ghost use mathlib.Core.Bool.{true};
-ghost use Prim.Native.Nat.{ℕ, _*_, _^_, _<_};
-ghost use lib.ListN.{getD};
+ghost use Prim.Native.Nat.{_*_, _/_, _^_, _<_};
 ghost use Rattle.sheet.specs.Layouts.{layoutOk};
 ghost use Rattle.sheet.specs.Facts.{InSize};
-ghost use Rattle.addressing.specs.Rules.{spanCoordinates, part, tensorIndex};
+ghost use Rattle.addressing.specs.Rules.{dimensionPut, layoutNumbers, dimensionAt, spanCoordinates, part, tensorIndex};
 ghost use Rattle.addressing.specs.Valid.{AtMost};
 use super::Clamped;
 use super::clamps;
-use super::views;
+use super::divide;
 use super::wide;
 use sheet::ClampMode;
 use sheet::Dimension;
 use sheet::Layout;
 
-// Rule 3.
-pub fn span_coordinates(l: Layout, index: u32) -> [u32; 5]
-    requires { ⌜ layoutOk l ≡ true ⌝ }
-    ensures { λ r. ⌜ r ≡ spanCoordinates l index ⌝ }
+// Block size, dimension, stride, offset, span.
+const DIMENSION_NUMBERS: usize = 5;
+
+// The five numbers of a dimension, from place 5 * d on.
+fn put_dimension(numbers: &mut [u16; 25], l: Layout, d: usize)
+    requires { ⌜ d < 5 ⌝ }
+    ensures { λ _. ⌜ now (numbers .exit) ≡ dimensionPut l (now (numbers .entry)) d ⌝ }
 {
-    let mut cs = [0u32; 5];
-    let mut left = index;
-    let mut d = l.rank as usize;
-    while 0 < d {
-        d -= 1;
-        let span = views::span_at(l, d);
-        cs[d] = left % span;
-        left /= span;
+    let x = l.dimensions[d];
+    let at = DIMENSION_NUMBERS * d;
+    numbers[at] = x.block;
+    numbers[at + 1] = x.size;
+    numbers[at + 2] = x.stride;
+    numbers[at + 3] = x.offset;
+    numbers[at + 4] = x.span;
+}
+
+// A layout's dimensions as numbers, which can be lent.
+pub fn layout_numbers(l: Layout) -> [u16; 25]
+    ensures { λ r. ⌜ r ≡ layoutNumbers l ⌝ }
+{
+    let mut numbers = [0u16; 25];
+    put_dimension(&mut numbers, l, 0);
+    put_dimension(&mut numbers, l, 1);
+    put_dimension(&mut numbers, l, 2);
+    put_dimension(&mut numbers, l, 3);
+    put_dimension(&mut numbers, l, 4);
+    numbers
+}
+
+fn dimension_at(numbers: &[u16; 25], d: usize) -> Dimension
+    requires { ⌜ d < 5 ⌝ }
+    ensures { λ r. ⌜ r ≡ dimensionAt (now (numbers .entry)) (5 * d) ⌝ }
+{
+    let at = DIMENSION_NUMBERS * d;
+    Dimension {
+        block: numbers[at],
+        size: numbers[at + 1],
+        stride: numbers[at + 2],
+        offset: numbers[at + 3],
+        span: numbers[at + 4],
     }
-    cs
+}
+
+// A block size of 1 needs no division.
+fn block_of(x: u32, size: u32) -> u32
+    requires { ⌜ 0 < size ⌝ }
+    ensures { λ r. ⌜ r ≡ x / size ⌝ }
+{
+    if size == 1 { x } else { x / size }
 }
 
 // Rules 4 and 5 for a dimension at span coordinate s: at most 4,096 times 65,536, 2 to the 28th.
@@ -42,26 +76,30 @@ fn part(load: bool, mode: ClampMode, d: Dimension, s: u32) -> Clamped
         Clamped::Refused => Clamped::Refused,
         Clamped::Discarded => Clamped::Discarded,
         Clamped::Filled => Clamped::Filled,
-        Clamped::At(x) => Clamped::At(x / wide(d.block) * wide(d.stride)),
+        Clamped::At(x) => Clamped::At(block_of(x, wide(d.block)) * wide(d.stride)),
     }
 }
 
-// Rules 4 and 5, for dimensions 0 upward.
-pub fn tensor_index(load: bool, l: Layout, cs: [u32; 5]) -> Clamped
-    requires { ⌜ (layoutOk l ≡ true) × ((i : ℕ) → getD cs i 0 < 4096) ⌝ }
-    ensures { λ r. ⌜ (r ≡ tensorIndex load l cs (l .rank)) × AtMost (5 * 2 ^ 28) r ⌝ }
+// Rules 3 to 5. All dimensions that are outside have the same outcome, so that the last one decides as well as the first.
+pub fn tensor_index(load: bool, l: Layout, numbers: &[u16; 25], index: u32) -> Clamped
+    requires { ⌜ (layoutOk l ≡ true) × (now numbers ≡ layoutNumbers l) ⌝ }
+    ensures { λ r. ⌜ (r ≡ tensorIndex load l (spanCoordinates l index) (l .rank)) × AtMost (5 * 2 ^ 28) r ⌝ }
 {
-    let rank = l.rank as usize;
     let mut sum: u32 = 0;
-    let mut d = 0;
-    while d < rank {
-        match part(load, l.mode, l.dimensions[d], cs[d]) {
+    let mut left = index;
+    let mut d = l.rank as usize;
+    while 0 < d {
+        d -= 1;
+        let x = dimension_at(numbers, d);
+        let s = divide(left, wide(x.span));
+        left = s.quotient;
+        let mode = l.mode;
+        match part(load, mode, x, s.rest) {
             Clamped::Refused => return Clamped::Refused,
             Clamped::Discarded => return Clamped::Discarded,
             Clamped::Filled => return Clamped::Filled,
-            Clamped::At(x) => sum += x,
+            Clamped::At(y) => sum += y,
         }
-        d += 1;
     }
     Clamped::At(sum)
 }

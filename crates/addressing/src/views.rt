@@ -6,7 +6,8 @@ ghost use lib.ListN.{getD};
 ghost use Rattle.sheet.specs.Layouts.{layoutOk};
 ghost use Rattle.sheet.specs.Views.{theViewDimension, viewOk};
 ghost use Rattle.sheet.specs.Facts.{InSize};
-ghost use Rattle.addressing.specs.Rules.{five, spanOf, rowMajor, viewSizes, viewStrides, viewCoordinates, weighted, viewIndex};
+ghost use Rattle.addressing.specs.Rules.{five, spanOf, rowMajor, viewSizes, viewStrides, viewIndex};
+use super::divide;
 use super::wide;
 use sheet::Layout;
 use sheet::View;
@@ -101,49 +102,34 @@ pub fn view_strides(l: Layout, v: View) -> [u64; 5]
     }
 }
 
-// The coordinates within the view. The sizes of the view's dimensions are 1 to 4,096.
-fn view_coordinates(v: View, sizes: [u32; 5], index: u32) -> [u32; 5]
-    requires { ⌜ (viewOk v ≡ true) × ((i : ℕ) → i < v .rank → InSize (getD sizes i 0)) ⌝ }
-    ensures { λ r. ⌜ r ≡ viewCoordinates v sizes index ⌝ }
-{
-    let mut cs = [0u32; 5];
-    let mut left = index;
-    let mut k = v.rank as usize;
-    while 0 < k {
-        k -= 1;
-        let i = v.permutation[k] as usize;
-        let size = sizes[i];
-        cs[i] = left % size;
-        left /= size;
-    }
-    cs
-}
-
 fn long(x: u32) -> u64
     ensures { λ r. ⌜ r ≡ x ⌝ }
 {
     x as u64
 }
 
-// At most five products of at most 4,096 to the fifth, 2 to the 60th, do not wrap.
-fn weighted(cs: [u32; 5], strides: [u64; 5], n: usize) -> u64
-    requires { ⌜ (n ≤ 5) × ((i : ℕ) → getD cs i 0 < 4096) × ((i : ℕ) → getD strides i 0 ≤ 4096 ^ 4) ⌝ }
-    ensures { λ r. ⌜ r ≡ weighted cs strides n ⌝ }
+// Each coordinate is weighed as it is found, since a permutation names each dimension once. The sizes of the view's dimensions are 1 to
+// 4,096: at most five products of at most 4,096 to the fifth, 2 to the 60th, do not wrap.
+pub fn view_index(
+    v: View,
+    permutation: &[u8; 5],
+    sizes: &[u32; 5],
+    strides: &[u64; 5],
+    index: u32,
+) -> u64
+    requires { ⌜ (viewOk v ≡ true) × ((i : ℕ) → i < v .rank → InSize (getD (now sizes) i 0)) × ((i : ℕ) → getD (now strides) i 0 ≤ 4096 ^ 4) ⌝ }
+    requires { ⌜ now permutation ≡ v .permutation ⌝ }
+    ensures { λ r. ⌜ r ≡ viewIndex v (now (sizes .entry)) (now (strides .entry)) index ⌝ }
 {
     let mut sum: u64 = 0;
-    let mut i = 0;
-    while i < n {
-        sum += long(cs[i]) * strides[i];
-        i += 1;
+    let mut left = index;
+    let mut k = v.rank as usize;
+    while 0 < k {
+        k -= 1;
+        let i = permutation[k] as usize;
+        let s = divide(left, sizes[i]);
+        sum += long(s.rest) * strides[i];
+        left = s.quotient;
     }
     sum
-}
-
-pub fn view_index(v: View, sizes: [u32; 5], strides: [u64; 5], index: u32) -> u64
-    requires { ⌜ (viewOk v ≡ true) × ((i : ℕ) → i < v .rank → InSize (getD sizes i 0)) × ((i : ℕ) → getD strides i 0 ≤ 4096 ^ 4) ⌝ }
-    ensures { λ r. ⌜ r ≡ viewIndex v sizes strides index ⌝ }
-{
-    let cs = view_coordinates(v, sizes, index);
-    let rank = v.rank as usize;
-    weighted(cs, strides, rank)
 }

@@ -1,6 +1,6 @@
 -- What a load or a store within Sizes keeps to, and the turns of the check.
 use Prim.Native.Nat.{ℕ, suc, _+_, _-_, _<_, _≤_}
-use mathlib.Core.Path.{_≡_}
+use mathlib.Core.Path.{_≡_, refl}
 use mathlib.Core.Bool.{Bool, true, false}
 use mathlib.Core.List.{List, [], _∷_}
 use native.Mathlib.Omega.{arith}
@@ -11,12 +11,15 @@ use Rattle.numbers.specs.Choice.{pick, both-left, both-right}
 use Rattle.sheet.specs.Sizes.{optionOk}
 use Rattle.sheet.specs.Steps.{theStep, loadOk, storeOk}
 use Rattle.sheet.specs.declared.Sheet.{Sheet}
+use Rattle.sheet.specs.declared.Step.{Step}
+use Rattle.sheet.specs.declared.Step.the-variants.{Nothing, Fill, Load, Store, Reduce, Transpose, MultiplyAdd}
+use Rattle.whole_steps.specs.Whole.{wholeTypes}
 use Rattle.registers.specs.Types.{noType}
 use Rattle.registers.specs.Registers.{emptyRegisters}
 use Rattle.registers.specs.declared.MatrixType.{MatrixType}
 use Rattle.registers.specs.declared.Registers.{Registers}
 use Rattle.sheet_reader.specs.Reading.{readSheet}
-use Rattle.carrying.specs.Steps.{objectOf, checkedStep, machine}
+use Rattle.carrying.specs.Steps.{objectOf, stepTypes, checkedStep, machine}
 use Rattle.carrying.specs.Carrying.{refusalAt, memoryLimit, checkRefused, checkedFrom, checked, checkedSheet, started, performed, carryAnswer, carried, carriedMemory}
 use Rattle.carrying.specs.declared.StepCheck.{StepCheck}
 use Rattle.carrying.specs.declared.CheckAnswer.{CheckAnswer}
@@ -49,6 +52,17 @@ pub load-object : (layouts views register object layout view : ℕ) → loadOk l
 unfolding loadOk optionOk
 load-object layouts views register object layout view e =
     own-small register object (ltb-true register 4 (both-left _ _ e)) (eqb object 255) (both-left _ _ (both-right _ _ e))
+
+-- of a step that is no load the whole step's types are all
+pub rest-types : (ts : List MatrixType) (step : Step) → ((register object layout view base : ℕ) → step ≡ Load register object layout view base → ⊥)
+    → wholeTypes ts step ≡ stepTypes ts step
+rest-types ts Nothing h = refl
+rest-types ts (Fill register rows columns kind value) h = refl
+rest-types ts (Load register object layout view base) h = absurd (h register object layout view base refl)
+rest-types ts (Store register layout view base) h = refl
+rest-types ts (Reduce result source rows columns mode combine) h = refl
+rest-types ts (Transpose result source) h = refl
+rest-types ts (MultiplyAdd result a b c) h = refl
 
 one-less : (n k : ℕ) → k < n → n - k ≡ suc (n - (k + 1))
 one-less n k h = omega arith

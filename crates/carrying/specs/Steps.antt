@@ -80,6 +80,16 @@ checkedStep sh ts len (Reduce result source rows columns mode combine) = wholeCh
 checkedStep sh ts len (Transpose result source) = wholeCheck ts (Transpose result source)
 checkedStep sh ts len (MultiplyAdd result a b c) = wholeCheck ts (MultiplyAdd result a b c)
 
+-- the types that a step leaves where it is not refused
+abbrev pub stepTypes : List MatrixType → Step → List MatrixType
+stepTypes ts Nothing = wholeTypes ts Nothing
+stepTypes ts (Fill register rows columns kind value) = wholeTypes ts (Fill register rows columns kind value)
+stepTypes ts (Load register object layout view base) = withType ts register (theType ts (objectOf register object))
+stepTypes ts (Store register layout view base) = ts
+stepTypes ts (Reduce result source rows columns mode combine) = wholeTypes ts (Reduce result source rows columns mode combine)
+stepTypes ts (Transpose result source) = wholeTypes ts (Transpose result source)
+stepTypes ts (MultiplyAdd result a b c) = wholeTypes ts (MultiplyAdd result a b c)
+
 -- registers, memory, and how many elements of loads and stores had a byte
 pub record Machine : Type 0 where
   pub registers : Registers

@@ -196,5 +196,5 @@ strips =
 
 -- each strip gives what is wanted
 pub strips-right : map found strips ≡ map (λ (s : Strip). s .wanted) strips
-unfolding strips padded cells sheetOf layoutOf dimension viewOf countingFrom counting fill loadStrip storeStrip edged edgeStrip plain pick both between all line width bytesOf fits elementAt withElement Sizes.sideLimit Sizes.stepLimit Sizes.offsetOk Sizes.optionOk Layouts.noLayout Layouts.dimensionOk Layouts.dimensionUnused Layouts.dimensionAtOk Layouts.layoutOk Layouts.layoutUnused Views.noView Views.fresh Views.entryOk Views.viewDimensionUnused Views.viewDimensionAtOk Views.sizedRank Views.viewOk Views.clipUnused Views.viewUnused model.fillOk model.loadOk model.storeOk model.reduceOk model.transposeOk model.multiplyOk Sheets.layoutAtOk Sheets.viewAtOk Sheets.stepAtOk Sheets.countsOk Sheets.writable emptyRegisters Combining.folded Rules.outsideClip Rules.clipped Rules.rowMajor Rules.viewSizes Rules.viewStrides Rules.coordinates Rules.viewCoordinates Rules.weighted Rules.viewIndex Rules.spanCoordinates Rules.twos Rules.folded Rules.mirrored Rules.outside Rules.clamped Rules.part Rules.tensorIndex Rules.addressed Rules.reached Rules.located accesses.elementOutcome accesses.ranksDiffer accesses.blocksOne accesses.storeBlocked accesses.firstRefused accesses.meets accesses.clashFrom accesses.clashRefusal accesses.elementsRefusal accesses.accessRefusal accesses.placedCount accesses.checked Grids.blank Grids.block Reducing.reduced whole.reduceRefusal transferred loadCheck storeCheck checkedStep loadDone storeDone objectDone performedStep checkedFrom checked performedFrom performed
+unfolding strips padded cells sheetOf layoutOf dimension viewOf countingFrom counting fill loadStrip storeStrip edged edgeStrip plain pick both between all line width bytesOf fits elementAt withElement Sizes.sideLimit Sizes.stepLimit Sizes.offsetOk Sizes.optionOk Layouts.noLayout Layouts.dimensionOk Layouts.dimensionUnused Layouts.dimensionAtOk Layouts.layoutOk Layouts.layoutUnused Views.noView Views.fresh Views.entryOk Views.viewDimensionUnused Views.viewDimensionAtOk Views.sizedRank Views.viewOk Views.clipUnused Views.viewUnused model.fillOk model.loadOk model.storeOk model.reduceOk model.transposeOk model.multiplyOk Sheets.layoutAtOk Sheets.viewAtOk Sheets.stepAtOk Sheets.countsOk Sheets.writable emptyRegisters Combining.folded Rules.outsideClip Rules.outsideView Rules.indexed Rules.rowMajor Rules.viewSizes Rules.viewStrides Rules.coordinates Rules.viewCoordinates Rules.weighted Rules.viewIndex Rules.spanCoordinates Rules.twos Rules.folded Rules.mirrored Rules.outside Rules.clamped Rules.part Rules.tensorIndex Rules.addressed Rules.reached Rules.located accesses.elementOutcome accesses.ranksDiffer accesses.blocksOne accesses.storeBlocked accesses.firstRefused accesses.meets accesses.clashFrom accesses.clashRefusal accesses.elementsRefusal accesses.accessRefusal accesses.placedCount accesses.checked Grids.blank Grids.block Reducing.reduced whole.reduceRefusal transferred loadCheck storeCheck checkedStep loadDone storeDone objectDone performedStep checkedFrom checked performedFrom performed
 strips-right = refl

@@ -27,7 +27,7 @@ use Rattle.whole_steps.specs.Whole.{matrixType, reducedType, transposedType}
 use Rattle.transfers.specs.Acts.{State}
 use Rattle.transfers.specs.Laws.{loaded-memory, stored-elements, stored-length}
 use Rattle.transfers.specs.Effects.{transferred-keeps, loaded-places}
-use Rattle.carrying.specs.Steps.{accessOf, objectOf, loadCheck, storeCheck, accessCheck, stepCheck, checkedStep, Machine, machine, stateOf, loadDone, storeDone, objectDone, performedStep}
+use Rattle.carrying.specs.Steps.{accessOf, objectOf, loadCheck, storeCheck, accessCheck, stepCheck, checkedStep, Machine, machine, stateOf, loadDone, storeDone, objectDone, performedStep, stepTypes}
 use Rattle.carrying.specs.Carrying.{checkedFrom, checked, performedFrom, performed, started}
 use Rattle.carrying.specs.declared.StepCheck.{StepCheck}
 use Rattle.carrying.specs.declared.CheckAnswer.{CheckAnswer}
@@ -66,6 +66,21 @@ pub store-access : (sh : Sheet) (ts : List MatrixType) (len : ℕ) (t : MatrixTy
     ≡ accessCheck ts (checkedAccess (accessOf sh false layout view base t len) (t .rows) (t .columns))
 unfolding storeCheck pick
 store-access sh ts len t layout view base e = rw e
+
+-- a step that is not refused leaves its types
+pub check-types : (sh : Sheet) (ts : List MatrixType) (len : ℕ) (step : Step) → checkedStep sh ts len step .stop .number ≡ 0 → checkedStep sh ts len step .types ≡ stepTypes ts step
+unfolding checkedStep
+check-types sh ts len Nothing h = refl
+check-types sh ts len (Fill register rows columns kind value) h = refl
+check-types sh ts len (Load register object layout view base) h =
+    let t = theType ts (objectOf register object) in
+    ap (λ (c : StepCheck). c .types) (load-access sh ts len register t layout view base (load-some sh ts len register t layout view base h))
+check-types sh ts len (Store register layout view base) h =
+    let t = theType ts register in
+    ap (λ (c : StepCheck). c .types) (store-access sh ts len t layout view base (store-some sh ts len t layout view base h))
+check-types sh ts len (Reduce result source rows columns mode combine) h = refl
+check-types sh ts len (Transpose result source) h = refl
+check-types sh ts len (MultiplyAdd result a b c) h = refl
 
 -- a load first gives its register the object: the types have the object's, the rest is as it was
 module _ (register object : ℕ) (m : Machine) where

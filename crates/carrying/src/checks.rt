@@ -1,12 +1,12 @@
 // The check of a sheet's steps, over the registers' types and the memory's length: refusals 7 to 15.
 ghost use mathlib.Core.Path.{_≡_};
 ghost use mathlib.Core.Bool.{true};
-ghost use Prim.Native.Nat.{_≤_, _<_};
+ghost use Prim.Native.Nat.{ℕ, _≤_, _<_};
 ghost use Rattle.sheet.specs.Steps.{stepOk};
 ghost use Rattle.registers.specs.Sized.{Sized};
 ghost use Rattle.whole_steps.specs.Within.{WholeOk};
 ghost use Rattle.round_trip.specs.Sheets.{Within};
-ghost use Rattle.carrying.specs.Steps.{objectOf, wholeCheck, checkedStep};
+ghost use Rattle.carrying.specs.Steps.{objectOf, wholeCheck, stepTypes, checkedStep};
 ghost use Rattle.carrying.specs.Carrying.{refusalAt, checkRefused, checked, memoryLimit};
 use super::CheckAnswer;
 use super::StepCheck;
@@ -108,6 +108,26 @@ pub fn check_step(sheet: Sheet, types: [MatrixType; 4], memory: usize, step: Ste
             b: _,
             c: _,
         } => check_whole(types, step),
+    }
+}
+
+// The types that a step leaves where it is not refused.
+pub fn step_types(types: [MatrixType; 4], step: Step) -> [MatrixType; 4]
+    requires { ⌜ ((edition layouts views : ℕ) × (stepOk edition layouts views step ≡ true)) ⌝ }
+    ensures { λ r. ⌜ r ≡ stepTypes types step ⌝ }
+{
+    match step {
+        Step::Load {
+            register,
+            object,
+            layout: _,
+            view: _,
+            base: _,
+        } => {
+            let t = registers::the_type(types, object_of(register, object));
+            registers::with_type(types, register, t)
+        }
+        _ => whole_steps::types::whole_types(types, step),
     }
 }
 

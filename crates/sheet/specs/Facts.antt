@@ -1,10 +1,10 @@
 -- What is known of the numbers of a layout and of a view that keep to Sizes.
 use Prim.Native.Nat.{ℕ, _<_, _≤_}
 use mathlib.Core.Path.{_≡_, sym, _∙_}
-use mathlib.Core.Bool.{Bool, true}
+use mathlib.Core.Bool.{Bool, true, not}
 use lib.ListN.{getD}
-use lib.Dec.{ltb}
-use borrow.Author.Tests.{lt-ltb, ltb-true}
+use lib.Dec.{ltb, eqb}
+use borrow.Author.Tests.{lt-ltb, ltb-true, eqb-false, not-true}
 use native.Mathlib.Omega.{arith}
 use Rattle.numbers.specs.Choice.{pick, both, both-left, both-right, between-low, between-high}
 use Rattle.numbers.specs.All.{all-at}
@@ -85,14 +85,25 @@ module _ (v : View) (ok : viewOk v ≡ true) where
   past-rank = both-right (rankOk (v .rank)) (both (permutationOk (v .rank) (v .permutation)) sizedOk) ok
 
   module _ (k : ℕ) (h : k < v .rank) where
-    pub view-entry : getD (v .permutation) k 0 < v .rank
+    entry-given : both (ltb (getD (v .permutation) k 0) (v .rank)) (fresh (v .permutation) k) ≡ true
     unfolding entryOk
+    entry-given =
+        sym (taken-way _ _ (lt-ltb k (v .rank) h))
+        ∙ all-at 5 (entryOk (v .rank) (v .permutation)) (both-left (permutationOk (v .rank) (v .permutation)) sizedOk past-rank) k
+        (omega (arith, view-most))
+
+    pub view-entry : getD (v .permutation) k 0 < v .rank
     view-entry =
         ltb-true (getD (v .permutation) k 0) (v .rank)
-        (both-left (ltb (getD (v .permutation) k 0) (v .rank)) (fresh (v .permutation) k)
-        (sym (taken-way _ _ (lt-ltb k (v .rank) h))
-        ∙ all-at 5 (entryOk (v .rank) (v .permutation)) (both-left (permutationOk (v .rank) (v .permutation)) sizedOk past-rank) k
-        (omega (arith, view-most))))
+        (both-left (ltb (getD (v .permutation) k 0) (v .rank)) (fresh (v .permutation) k) entry-given)
+
+    pub view-apart : (j : ℕ) → j < k → getD (v .permutation) j 0 ≡ getD (v .permutation) k 0 → ⊥
+    unfolding fresh
+    view-apart j l =
+        eqb-false (getD (v .permutation) j 0) (getD (v .permutation) k 0)
+        (not-true _
+        (all-at k (λ (i : ℕ). not (eqb (getD (v .permutation) i 0) (getD (v .permutation) k 0)))
+        (both-right (ltb (getD (v .permutation) k 0) (v .rank)) (fresh (v .permutation) k) entry-given) j l))
 
     pub view-size : v .sized ≡ true → InSize (theViewDimension (v .dimensions) k .size)
     unfolding viewDimensionAtOk sizedRank

@@ -1,6 +1,6 @@
 -- What translating keeps to: outcomes in range, the records of a step, the turns over the steps, and the answer.
-use Prim.Native.Nat.{ℕ, zero, suc, _+_, _-_, _*_, _^_, _<_, _≤_}
-use mathlib.Core.Path.{_≡_, refl, sym, ap, _∙_}
+use Prim.Native.Nat.{ℕ, suc, _+_, _-_, _*_, _^_, _<_, _≤_}
+use mathlib.Core.Path.{_≡_, refl, _∙_}
 use mathlib.Core.Bool.{Bool, true, false}
 use mathlib.Core.List.{List, [], _∷_, _++_}
 use mathlib.Core.Logic.{_⊎_, ⊎-elim}
@@ -9,14 +9,15 @@ use borrow.Author.Tests.{ltb-true, leb-true, eqb-true, eqb-false, eq-eqb, ne-eqb
 use lib.Dec.{eqb, leb}
 use lib.IntN.{ℤ}
 use lib.ListN.{length, length-append}
-use lib.Seq.{sets, length-sets}
+use lib.Seq.{sets}
 use Rattle.numbers.specs.Choice.{pick, pick-case, both-left, both-right}
-use Rattle.numbers.specs.Lists.{sets-append, puts-after}
+use Rattle.numbers.specs.Lists.{puts-after}
 use Rattle.outcomes.specs.declared.Outcome.{Outcome}
 use Rattle.outcomes.specs.declared.Outcome.the-variants.{Skipped, Filled, Discarded, Placed}
 use Rattle.addressing.specs.declared.Access.{Access}
 use Rattle.addressing.specs.Valid.{SizedAccess}
-use Rattle.addressing.specs.Sound.{Sound}
+use Rattle.addressing.specs.Rules.{lowBits}
+use Rattle.addressing.specs.Sound.{Sound, low-bits-fit}
 use Rattle.accesses.specs.Accepted.{element-sound}
 use Rattle.transfers.specs.Laws.{access-size}
 use Rattle.transfers.specs.Transfers.{outcomeOf}
@@ -59,7 +60,7 @@ bits-near size v w h =
 
 sound-near : (a : Access) → SizedAccess a → (o : Outcome) → Sound a o → Near o
 sound-near a s Skipped h = tt
-sound-near a s (Filled v) h = bits-near (a .size) v (access-size a s) (h .1)
+sound-near a s (Filled v) h = rw (h .1) (bits-near (a .size) (lowBits a) (access-size a s) (low-bits-fit a))
 sound-near a s Discarded h = tt
 sound-near a s (Placed b) h = omega (arith, h .0, s .some, s .memory)
 
@@ -190,8 +191,8 @@ module _ (n : ℕ) (sh : Sheet) (len k : ℕ) (ts : List MatrixType) (h : k < n)
     pub rest-first : checkedStep sh ts len (theStep (sh .step) k) .stop .number ≡ 0
     rest-first = first-clear (n - (k + 1)) sh len k ts (r .counted) clear
 
-    pub rest-next : stepOk (sh .edition) (sh .layouts) (sh .views) (theStep (sh .step) k) ≡ true → {c : StepCheck} → c ≡ checkedStep sh ts len (theStep (sh .step) k)
-        → Rest (n - (k + 1)) sh len (k + 1) (c .types)
+    pub rest-next : stepOk (sh .edition) (sh .layouts) (sh .views) (theStep (sh .step) k) ≡ true → {after : List MatrixType} → after ≡ checkedStep sh ts len (theStep (sh .step) k) .types
+        → Rest (n - (k + 1)) sh len (k + 1) after
     rest-next ok e =
         rw e
         (record {
@@ -201,8 +202,8 @@ module _ (n : ℕ) (sh : Sheet) (len k : ℕ) (ts : List MatrixType) (h : k < n)
         })
 
   -- the records of the next step, and the others
-  pub tape-go : {c : StepCheck} → c ≡ checkedStep sh ts len (theStep (sh .step) k)
-      → tapeFrom (n - k) sh len k ts ≡ stepRecords sh ts len k (theStep (sh .step) k) ++ tapeFrom (n - (k + 1)) sh len (k + 1) (c .types)
+  pub tape-go : {after : List MatrixType} → after ≡ checkedStep sh ts len (theStep (sh .step) k) .types
+      → tapeFrom (n - k) sh len k ts ≡ stepRecords sh ts len k (theStep (sh .step) k) ++ tapeFrom (n - (k + 1)) sh len (k + 1) after
   unfolding tapeFrom
   tape-go e = rw (one-less n k h, e) refl
 

@@ -21,7 +21,7 @@ use Rattle.registers.specs.Types.{noType, theType, isEmpty, withType}
 use Rattle.registers.specs.Registers.{copied}
 use Rattle.registers.specs.declared.MatrixType.{MatrixType}
 use Rattle.addressing.specs.declared.Access.{Access}
-use Rattle.addressing.specs.Sound.{Sound}
+use Rattle.addressing.specs.Sound.{Sound, low-bits-fit}
 use Rattle.accesses.specs.Accepted.{element-sound}
 use Rattle.whole_steps.specs.Refusals.{wholeRefusal, isWhole}
 use Rattle.whole_steps.specs.Whole.{wholeTypes}
@@ -52,7 +52,7 @@ module _ (sh : Sheet) (load : Bool) (register layout view base : ℕ) where
   outcome-passable : (t : MatrixType) (len : ℕ) (o : Outcome) → Sound (access t len) o → Passable (t .kind) len o
   unfolding fits
   outcome-passable t len Skipped s = tt
-  outcome-passable t len (Filled v) s = lt-ltb v (2 ^ width (t .kind)) (rw (width-bytes (t .kind)) at (s .1))
+  outcome-passable t len (Filled v) s = lt-ltb v (2 ^ width (t .kind)) (rw (s .1, ← width-bytes (t .kind)) (low-bits-fit (access t len)))
   outcome-passable t len Discarded s = tt
   outcome-passable t len (Placed b) s = s .0
 

@@ -11,6 +11,7 @@ ghost use Rattle.round_trip.specs.Sheets.{Within};
 ghost use Rattle.registers.specs.Sized.{Sized, SizedType};
 ghost use Rattle.addressing.specs.Valid.{Planned};
 ghost use Rattle.addressing.specs.Rules.{planned};
+ghost use Rattle.accesses.specs.Refusals.{elementOutcome};
 ghost use Rattle.transfers.specs.Transfers.{outcomeOf};
 ghost use Rattle.carrying.specs.Steps.{accessOf, checkedStep};
 ghost use Rattle.carrying.specs.Carrying.{memoryLimit, checked};
@@ -50,17 +51,18 @@ pub fn records_fit(edition: u8, room: usize, records: usize) -> bool
     records * records::NUMBERS <= room
 }
 
-// How many runs the first `n` elements of a load or a store make.
+// How many runs the first `n` elements of a load or a store make, of which none is refused.
 fn count_runs(p: Plan, n: usize) -> usize
-    requires { ⌜ Planned p × (0 < p .columns) × (p .columns < 256) × (n ≤ 256) ⌝ }
+    requires { ⌜ Planned p × (0 < p .columns) × (p .columns < 256) × (n ≤ 256) × ((k : ℕ) → k < n → elementOutcome (p .access) (p .columns) k .refusal ≡ 0) ⌝ }
     ensures { λ r. ⌜ r ≡ length (runs (outcomeOf (p .access) (p .columns)) n) ⌝ }
 {
+    let s = accesses::survey_of(p, n);
+    let entries = s.entries;
     let mut held = Run::Idle;
     let mut records = 0;
     let mut k = 0;
     while k < n {
-        let e = accesses::element(p, k as u32);
-        let o = e.outcome;
+        let o = accesses::outcome_of(entries[k], p.fill);
         let t = runs::next_run(held, k, o);
         let done = t.done;
         records += runs::records_of(done);
@@ -72,16 +74,17 @@ fn count_runs(p: Plan, n: usize) -> usize
 
 // Writes their records from record `start` of a tape on: the next record's number.
 fn write_runs(tape: &mut [i32], start: usize, p: Plan, load: bool, register: u8, n: usize) -> usize
-    requires { ⌜ Planned p × (0 < p .columns) × (p .columns < 256) × (n ≤ 256) ⌝ }
+    requires { ⌜ Planned p × (0 < p .columns) × (p .columns < 256) × (n ≤ 256) × ((k : ℕ) → k < n → elementOutcome (p .access) (p .columns) k .refusal ≡ 0) ⌝ }
     requires { ⌜ (register < 4) × ((start + length (runsRecords load register (outcomeOf (p .access) (p .columns)) n)) * 6 ≤ length (now tape)) ⌝ }
     ensures { λ r. ⌜ (r ≡ start + length (runsRecords load register (outcomeOf (p .access) (p .columns)) n)) × (now (tape .exit) ≡ sets (now (tape .entry)) (start * 6) (tapeNumbers (runsRecords load register (outcomeOf (p .access) (p .columns)) n))) ⌝ }
 {
+    let s = accesses::survey_of(p, n);
+    let entries = s.entries;
     let mut held = Run::Idle;
     let mut at = start;
     let mut k = 0;
     while k < n {
-        let e = accesses::element(p, k as u32);
-        let o = e.outcome;
+        let o = accesses::outcome_of(entries[k], p.fill);
         let t = runs::next_run(held, k, o);
         let done = t.done;
         at = runs::write_run(tape, at, load, register, done);
@@ -389,8 +392,7 @@ fn count_tape(sheet: Sheet, memory: usize) -> usize
         let c = sheet.step[k];
         let step = c.step;
         records += count_step(sheet, types, memory, step);
-        let got = checks::check_step(sheet, types, memory, step);
-        let after = got.types;
+        let after = checks::step_types(types, step);
         types = after;
         k += 1;
     }
@@ -412,8 +414,7 @@ fn write_tape(tape: &mut [i32], sheet: Sheet, memory: usize)
         let c = sheet.step[k];
         let step = c.step;
         at = write_step(tape, at, sheet, types, memory, k, step);
-        let got = checks::check_step(sheet, types, memory, step);
-        let after = got.types;
+        let after = checks::step_types(types, step);
         types = after;
         k += 1;
     }

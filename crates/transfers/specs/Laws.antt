@@ -1,5 +1,5 @@
 -- What one element's act keeps, and one more element.
-use Prim.Native.Nat.{ℕ, _+_, _*_, _<_, _≤_}
+use Prim.Native.Nat.{ℕ, zero, suc, _+_, _<_, _≤_}
 use mathlib.Core.Path.{_≡_, refl, sym, ap₂, _∙_}
 use mathlib.Core.Bool.{Bool, true, false}
 use mathlib.Core.List.{List}
@@ -18,7 +18,7 @@ use Rattle.addressing.specs.Valid.{SizedAccess}
 use Rattle.addressing.specs.Sound.{Sound}
 use Rattle.memory.specs.Laws.{length-with}
 use Rattle.transfers.specs.Acts.{State, state, loaded, stored, Inside}
-use Rattle.transfers.specs.Transfers.{transferred, outcomeOf, loadedElements, storedElements}
+use Rattle.transfers.specs.Transfers.{transferred}
 
 module _ (size register element : ℕ) where
   -- a load's element changes no memory, a store's no register
@@ -90,19 +90,21 @@ made : (x : State) {es m : List ℕ} {n : ℕ} → es ≡ x .elements → m ≡ 
 made x p q r = rw (p, q, r)
 
 -- one turn of the loop over a load's elements, and over a store's
-module _ (a : Access) (columns register k : ℕ) (s : State) {es m : List ℕ} {n : ℕ} (o : Outcome) (q : o ≡ outcomeOf a columns k) where
-  pub load-turn : {es′ : List ℕ} {n′ : ℕ} → state es m n ≡ loadedElements a columns register k s → es′ ≡ loaded (a .size) register k o (state es m n) .elements → n′ ≡ loaded (a .size) register k o (state es m n) .count → state es′ m n′ ≡ loadedElements a columns register (k + 1) s
+module _ (size register k : ℕ) (f : ℕ → Outcome) (s : State) {es m : List ℕ} {n : ℕ} (o : Outcome) (q : o ≡ f k) where
+  pub load-turn : {es′ : List ℕ} {n′ : ℕ} → state es m n ≡ transferred (loaded size register) f k s → es′ ≡ loaded size register k o (state es m n) .elements → n′ ≡ loaded size register k o (state es m n) .count → state es′ m n′ ≡ transferred (loaded size register) f (k + 1) s
   load-turn inv p r =
-      made (loaded (a .size) register k o (state es m n)) p (sym (loaded-memory (a .size) register k o (state es m n))) r
-      ∙ ap₂ (loaded (a .size) register k) q inv
-      ∙ sym (transferred-more (loaded (a .size) register) (outcomeOf a columns) k s)
+      made (loaded size register k o (state es m n)) p (sym (loaded-memory size register k o (state es m n))) r
+      ∙ ap₂ (loaded size register k) q inv
+      ∙ sym (transferred-more (loaded size register) f k s)
 
-  pub store-turn : {m′ : List ℕ} {n′ : ℕ} → state es m n ≡ storedElements a columns register k s → m′ ≡ stored (a .size) register k o (state es m n) .memory → n′ ≡ stored (a .size) register k o (state es m n) .count → state es m′ n′ ≡ storedElements a columns register (k + 1) s
+  pub store-turn : {m′ : List ℕ} {n′ : ℕ} → state es m n ≡ transferred (stored size register) f k s → m′ ≡ stored size register k o (state es m n) .memory → n′ ≡ stored size register k o (state es m n) .count → state es m′ n′ ≡ transferred (stored size register) f (k + 1) s
   store-turn inv p r =
-      made (stored (a .size) register k o (state es m n)) (sym (stored-elements (a .size) register k o (state es m n))) p r
-      ∙ ap₂ (stored (a .size) register k) q inv
-      ∙ sym (transferred-more (stored (a .size) register) (outcomeOf a columns) k s)
+      made (stored size register k o (state es m n)) (sym (stored-elements size register k o (state es m n))) p r
+      ∙ ap₂ (stored size register k) q inv
+      ∙ sym (transferred-more (stored size register) f k s)
 
--- an element number is below the most that a matrix of so many columns could have
-pub number-below : (k n columns : ℕ) → k < n → n ≤ 256 → 0 < columns → k < 256 * columns
-number-below k n columns h l p = omega arith
+-- elements with the same outcomes act alike
+pub transferred-same : (act : ℕ → Outcome → State → State) {f g : ℕ → Outcome} (n : ℕ) (s : State) → ((k : ℕ) → k < n → f k ≡ g k) → transferred act f n s ≡ transferred act g n s
+unfolding transferred
+transferred-same act zero s h = refl
+transferred-same act (suc n) s h = ap₂ (act n) (h n (omega arith)) (transferred-same act n s (λ k l. h k (omega arith)))

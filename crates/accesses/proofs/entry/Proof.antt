@@ -1,4 +1,4 @@
-use Prim.Native.Nat.{_+_, _≤_}
+use Prim.Native.Nat.{_<_}
 use native.Mathlib.Omega.{arith}
 use borrow.Author.Needs.{needs}
 use Rattle.accesses.proofs.entry.Statement.{statement}
@@ -17,15 +17,13 @@ enum-known-o : tie.Need-enum-known-o
 enum-known-o c = search needs
 
 cast-result : tie.Need-cast-result
-cast-result c =
-    let o = c .before .o in
-    let h : o .given .0 .0 + 1 ≤ 65536 = rw (o .given .1) at (c .before .before .before .pre) in
+cast-result c = let o = c .before .o in
+    let h : o .given .0 .0 < 65536 = rw (o .given .1) at (c .before .before .before .pre) in
     omega arith
 
 add-result : tie.Need-add-result
-add-result c =
-    let o = c .before .o in
-    let h : o .given .0 .0 + 1 ≤ 65536 = rw (o .given .1) at (c .before .before .before .pre) in
+add-result c = let o = c .before .o in
+    let h : o .given .0 .0 < 65536 = rw (o .given .1) at (c .before .before .before .pre) in
     omega arith
 
 returns : tie.Need-returns

@@ -1,44 +1,43 @@
-use Prim.Native.Nat.{_-_}
-use mathlib.Core.Path.{refl, ap, _∙_}
-use native.Mathlib.Omega.{arith}
-use borrow.Author.Needs.{needs}
+use Rattle.accesses.proofs.Laws.{Passed, passed-none, passed-stop, passed-more, passed-end}
+use Rattle.accesses.specs.Surveys.{element-near}
 use Rattle.accesses.specs.Refusals.{elementOutcome, placedCount}
-use Rattle.accesses.proofs.Laws.{Passed, passed-none, passed-stop, passed-more, passed-end, element-entry}
+use mathlib.Core.Path.{refl, ap, _∙_}
+use Prim.Native.Nat.{_-_}
+use borrow.Author.Needs.{needs}
+use native.Mathlib.Omega.{arith}
 use Rattle.accesses.proofs.survey_of.Statement.{statement}
 use Rattle.accesses.proofs.survey_of.Tie as tie
 
 abbrev Inv-loop : tie.InvT-loop
-Inv-loop p count entries₀ placed₀ k₀ entries placed k = Passed (elementOutcome (p .access) (p .columns)) count k placed entries
+Inv-loop p count permutation sizes strides numbers entries₀ placed₀ k₀ entries placed k = Passed (elementOutcome (p .access) (p .columns)) count k placed entries
 
 abbrev μ-loop : tie.MeasureT-loop
-μ-loop p count entries₀ placed₀ k₀ entries placed k = count - k
+μ-loop p count permutation sizes strides numbers entries₀ placed₀ k₀ entries placed k = count - k
 
 loop-holds : tie.Need-loop-holds Inv-loop μ-loop
 loop-holds c = passed-none _ _ _ refl
 
-cast-element : tie.Need-cast-element Inv-loop μ-loop
-cast-element c = search needs
+cast-locate : tie.Need-cast-locate Inv-loop μ-loop
+cast-locate c = search needs
 
-element-requires : tie.Need-element-requires Inv-loop μ-loop
-element-requires c κs =
-    let s = c .before .before in
-    (s .pre .0, s .pre .1, s .pre .2, omega (arith, s .pre .1, s .pre .3))
+locate-requires : tie.Need-locate-requires Inv-loop μ-loop
+locate-requires c κs = let s = c .before .before .before .before .before .before .before .before .before .before .before in
+    ((s .pre .0, s .pre .1, s .pre .2, omega (arith, s .pre .1, s .pre .3)), (refl, refl, refl, refl))
 
 returns : tie.Need-returns Inv-loop μ-loop
-returns c =
-    let i = c .before .before .before .before .loop in
-    let e = c .before .before .element in
+unfolding elementOutcome
+returns c = let i = c .before .before .before .before .before .before .before .before .loop in
+    let e = c .before .before .locate in
     record {
-      stop = passed-stop _ (i .inv) (e .result) (c .before .before .before .loop-test .taken) (e .ensures) (c .if1 .taken);
+      stop = passed-stop _ (i .inv) (e .result) (c .before .before .before .before .before .before .before .loop-test .taken) (e .ensures) (c .if1 .taken);
       placed = λ z. absurd (c .if1 .taken z);
       entries = λ z. absurd (c .if1 .taken z);
     }
 
 entry-requires : tie.Need-entry-requires Inv-loop μ-loop
-entry-requires c κs =
-    let s = c .before .before .before .before .before in
-    rw (c .before .before .element .ensures)
-    (element-entry (s .args .p .access) (s .pre .0 .valid .sized) (s .args .p .columns) (c .before .before .before .before .loop .k))
+unfolding elementOutcome
+entry-requires c κs = let s = c .before .before .before .before .before .before .before .before .before .before .before .before .before .before in
+    rw (c .before .before .locate .ensures) (element-near (s .args .p .access) (s .pre .0 .valid .sized) (s .args .p .columns) (c .before .before .before .before .before .before .before .before .loop .k))
 
 mul-entries : tie.Need-mul-entries Inv-loop μ-loop
 mul-entries c = search needs
@@ -50,9 +49,7 @@ placed-one-requires : tie.Need-placed-one-requires Inv-loop μ-loop
 placed-one-requires c κs = search needs
 
 add-placed : tie.Need-add-placed Inv-loop μ-loop
-add-placed c =
-    let i = c .before .before .before .before .before .before .loop in
-    omega (arith, i .inv .few, i .inv .inside, c .placed-one .ensures .1)
+add-placed c = let i = c .before .before .before .before .before .before .before .before .before .before .loop in omega (arith, i .inv .few, i .inv .inside, c .placed-one .ensures .1)
 
 add-k : tie.Need-add-k Inv-loop μ-loop
 add-k c = search needs
@@ -61,15 +58,13 @@ loop-less : tie.Need-loop-less Inv-loop μ-loop
 loop-less c = omega arith
 
 loop-again : tie.Need-loop-again Inv-loop μ-loop
-loop-again c =
-    let i = c .before .before .before .before .before .before .loop in
-    let e = c .before .before .before .before .element in
-    passed-more _ (i .inv) (e .result) (c .before .before .before .before .before .loop-test .taken) (e .ensures)
-    (c .before .before .before .before .before .before .before .pre .3) (search needs) (c .before .entry .ensures) (c .placed-one .ensures .0) (c .placed-one .ensures .1)
+unfolding elementOutcome
+loop-again c = let i = c .before .before .before .before .before .before .before .before .before .before .loop in
+    let e = c .before .before .before .before .locate in
+    passed-more _ (i .inv) (e .result) (c .before .before .before .before .before .before .before .before .before .loop-test .taken) (e .ensures) (c .before .before .before .before .before .before .before .before .before .before .before .before .before .before .before .before .pre .3) (search needs) (c .before .entry .ensures) (c .placed-one .ensures .0) (c .placed-one .ensures .1)
 
 returns-2 : tie.Need-returns-2 Inv-loop μ-loop
-returns-2 c =
-    let i = c .before .loop in
+returns-2 c = let i = c .before .loop in
     record {
       stop = passed-end _ (i .inv) (c .loop-test .left);
       placed = λ z. i .inv .count ∙ ap (placedCount _) (omega (arith, i .inv .inside));
@@ -83,8 +78,8 @@ survey-of-spec =
     Inv-loop
     μ-loop
     loop-holds
-    cast-element
-    element-requires
+    cast-locate
+    locate-requires
     returns
     entry-requires
     mul-entries

@@ -1,6 +1,6 @@
-use borrow.Author.Needs.{needs}
-use Rattle.addressing.proofs.Laws.{and-so}
 use Rattle.addressing.specs.Rules.{planned}
+use Rattle.addressing.proofs.Laws.{and-so}
+use borrow.Author.Needs.{needs}
 use Rattle.addressing.proofs.plan_of.Statement.{statement}
 use Rattle.addressing.proofs.plan_of.Tie as tie
 
@@ -9,6 +9,9 @@ view-sizes-requires c κs = search needs
 
 view-strides-requires : tie.Need-view-strides-requires
 view-strides-requires c κs = search needs
+
+layout-numbers-requires : tie.Need-layout-numbers-requires
+layout-numbers-requires c κs = search needs
 
 wide-requires : tie.Need-wide-requires
 wide-requires c κs = search needs
@@ -21,8 +24,8 @@ low-bits-requires c κs = search needs
 
 returns : tie.Need-returns
 unfolding planned
-returns c = let s = c .before .before .before .before .before .before .before .before in
-    and-so (cc) (λ e. record { valid = s .pre; same = e; strides = c .before .before .before .view-strides .ensures .1 })
+returns c = let s = c .before .before .before .before .before .before .before .before .before in
+    and-so (cc) (λ e. record { valid = s .pre; same = e; strides = c .before .before .before .before .view-strides .ensures .1 })
 
 pub plan-of-spec : {M : Type 1} → statement M
 plan-of-spec =
@@ -30,6 +33,7 @@ plan-of-spec =
     (tie.spec
     view-sizes-requires
     view-strides-requires
+    layout-numbers-requires
     wide-requires
     smaller-requires
     low-bits-requires

@@ -1,8 +1,8 @@
-use Prim.Native.Nat.{_≤_, _*_, _^_}
-use mathlib.Core.Path.{_∙_}
-use borrow.Author.Needs.{needs}
+use Rattle.addressing.proofs.Laws.{reached-far, reached-is}
 use Rattle.addressing.specs.declared.Clamped.the-variants.{Refused, Discarded, Filled, At}
-use Rattle.addressing.proofs.Laws.{span-coordinates-lt, reached-far, reached-is}
+use mathlib.Core.Path.{_∙_}
+use Prim.Native.Nat.{_≤_, _*_, _^_}
+use borrow.Author.Needs.{needs}
 use Rattle.addressing.proofs.reach.Statement.{statement}
 use Rattle.addressing.proofs.reach.Tie as tie
 
@@ -12,16 +12,11 @@ refuse-requires c κs = search needs
 returns : tie.Need-returns
 returns c = c .refuse .ensures ∙ reached-far _ _ (c .before .if1 .taken)
 
-cast-span-coordinates : tie.Need-cast-span-coordinates
-cast-span-coordinates c = search needs
-
-span-coordinates-requires : tie.Need-span-coordinates-requires
-span-coordinates-requires c κs = search needs
+cast-tensor-index : tie.Need-cast-tensor-index
+cast-tensor-index c = search needs
 
 tensor-index-requires : tie.Need-tensor-index-requires
-tensor-index-requires c κs =
-    let s = c .before .before .before in
-    (s .pre .0 .sized .layout, rw (c .span-coordinates .ensures) (span-coordinates-lt _ (s .pre .0 .sized .layout) _))
+tensor-index-requires c κs = search needs
 
 enum-told : tie.Need-enum-told
 enum-told c = search needs
@@ -45,9 +40,8 @@ enum-known-t : tie.Need-enum-known-t
 enum-known-t c = search needs
 
 address-requires : tie.Need-address-requires
-address-requires c κs =
-    let m : c .before .t .given .0 .0 ≤ 5 * 2 ^ 28 = rw (c .before .t .given .1) at (c .before .before .before .tensor-index .ensures .1) in
-    (c .before .before .before .before .before .before .before .pre .0, m)
+address-requires c κs = let m : c .before .t .given .0 .0 ≤ 5 * 2 ^ 28 = rw (c .before .t .given .1) at (c .before .before .before .tensor-index .ensures .1) in
+    (c .before .before .before .before .before .pre .0, m)
 
 returns-2 : tie.Need-returns-2
 returns-2 c = c .refuse2 .ensures ∙ reached-is _ _ Refused (search needs) (cc)
@@ -56,7 +50,7 @@ returns-3 : tie.Need-returns-3
 returns-3 c = c .answer .ensures ∙ reached-is _ _ Discarded (search needs) (cc)
 
 returns-4 : tie.Need-returns-4
-returns-4 c = c .answer2 .ensures ∙ rw (c .before .before .before .before .before .before .before .pre .1) (reached-is _ _ Filled (search needs) (cc))
+returns-4 c = c .answer2 .ensures ∙ rw (c .before .before .before .before .before .pre .1) (reached-is _ _ Filled (search needs) (cc))
 
 returns-5 : tie.Need-returns-5
 returns-5 c = c .address .ensures ∙ reached-is _ _ (At (c .before .before .t .given .0 .0)) (search needs) (cc)
@@ -67,8 +61,7 @@ reach-spec =
     (tie.spec
     refuse-requires
     returns
-    cast-span-coordinates
-    span-coordinates-requires
+    cast-tensor-index
     tensor-index-requires
     enum-told
     refuse-requires-2

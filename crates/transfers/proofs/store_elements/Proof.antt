@@ -1,43 +1,47 @@
-use Rattle.addressing.specs.declared.Located.{Located}
-use Rattle.transfers.specs.Laws.{store-turn, number-below}
-use denote.Ref.{now}
-use lib.ListN.{length}
-use mathlib.Core.Path.{_≡_, refl, sym, ap, _∙_}
-use Prim.Native.Nat.{_+_, _-_, _≤_}
-use Rattle.transfers.specs.Acts.{State, state}
-use Rattle.transfers.specs.Transfers.{outcomeOf, storedElements}
-use Rattle.transfers.specs.Laws.{stored-length, stored-count, transferred-none, sound-inside, access-size}
+use Rattle.transfers.specs.Laws.{store-turn, stored-count, stored-length, transferred-none, transferred-same, sound-inside, access-size}
+use Rattle.transfers.specs.Transfers.{transferred, outcomeOf}
+use Rattle.transfers.specs.Acts.{State, state, stored}
+use Rattle.accesses.specs.Surveys.{surveyed-outcome}
+use Rattle.accesses.specs.Entries.{entryOutcome}
 use Rattle.accesses.specs.Accepted.{element-sound}
+use lib.ListN.{length, getD}
+use denote.Ref.{now}
+use mathlib.Core.Path.{_≡_, refl, sym, ap, _∙_}
+use Prim.Native.Nat.{ℕ, _+_, _-_, _≤_}
 use borrow.Author.Needs.{needs}
 use native.Mathlib.Omega.{arith}
 use Rattle.transfers.proofs.store_elements.Statement.{statement}
 use Rattle.transfers.proofs.store_elements.Tie as tie
 
 abbrev Inv-loop : tie.InvT-loop
-Inv-loop elements memory₀ p register n counted size count₀ k₀ memory count k = (k ≤ n) × (count ≤ counted + k) × (length memory ≡ length memory₀) × (state elements memory count ≡ storedElements (p .access) (p .columns) register k (state elements memory₀ counted))
+Inv-loop elements memory₀ register n counted size fill entries count₀ k₀ memory count k = (k ≤ n) × (count ≤ counted + k) × (length memory ≡ length memory₀) × (state elements memory count ≡ transferred (stored size register) (λ (j : ℕ). entryOutcome fill (getD entries j 0)) k (state elements memory₀ counted))
 
 abbrev μ-loop : tie.MeasureT-loop
-μ-loop elements memory₀ p register n counted size count₀ k₀ memory count k = n - k
+μ-loop elements memory₀ register n counted size fill entries count₀ k₀ memory count k = n - k
+
+survey-of-requires : tie.Need-survey-of-requires Inv-loop μ-loop
+survey-of-requires c κs = let q = c .before .pre in (q .0 .0, q .0 .1, q .0 .2, q .1 .1)
 
 loop-holds : tie.Need-loop-holds Inv-loop μ-loop
 loop-holds c = (search needs, search needs, refl, sym (transferred-none _ _ _))
 
-cast-element : tie.Need-cast-element Inv-loop μ-loop
-cast-element c = search needs
+mul-outcome-of : tie.Need-mul-outcome-of Inv-loop μ-loop
+mul-outcome-of c = search needs
 
-element-requires : tie.Need-element-requires Inv-loop μ-loop
-element-requires c κs =
-    let q = c .before .before .before .pre in
-    (q .0 .0, q .0 .1, q .0 .2, number-below _ _ _ (c .loop-test .taken) (q .1 .1) (q .0 .1))
+array-read-outcome-of : tie.Need-array-read-outcome-of Inv-loop μ-loop
+array-read-outcome-of c = search needs
+
+outcome-of-requires : tie.Need-outcome-of-requires Inv-loop μ-loop
+outcome-of-requires c κs = search needs
 
 store-element-requires : tie.Need-store-element-requires Inv-loop μ-loop
-store-element-requires c κs =
-    let q = c .before .before .before .before .before .pre in
+store-element-requires c κs = let s = c .before .before .before .before .before .before .before in
     let i = c .before .before .before .loop in
-    let p = c .before .before .before .before .before .args .p in
-    let a = p .access in
-    let s = sound-inside a (outcomeOf a (p .columns) (i .k)) (element-sound a (p .columns) (i .k)) in
-    ((q .1 .0, omega (arith, q), omega (arith, q), access-size a (q .0 .0 .valid .sized)), rw (i .inv .2, ← q .0 .3, ap (λ (l : Located). l .outcome) (c .before .element .ensures)) s)
+    let p = s .args .p in
+    let o = surveyed-outcome p (s .pre .0 .0) (c .before .before .before .before .before .survey-of .ensures) (s .pre .1 .3) (i .k) (c .before .before .loop-test .taken) in (
+      (s .pre .1 .0, omega (arith, s .pre .1 .1), omega (arith, s .pre .1 .1, s .pre .1 .2, i .inv .1), access-size (p .access) (s .pre .0 .0 .valid .sized)),
+      rw (i .inv .2, c .before .outcome-of .ensures, o, ← s .pre .0 .3) (sound-inside (p .access) (outcomeOf (p .access) (p .columns) (i .k)) (element-sound (p .access) (p .columns) (i .k))),
+    )
 
 add-k : tie.Need-add-k Inv-loop μ-loop
 add-k c = search needs
@@ -46,27 +50,25 @@ loop-less : tie.Need-loop-less Inv-loop μ-loop
 loop-less c = search needs
 
 loop-again : tie.Need-loop-again Inv-loop μ-loop
-loop-again c =
-    let d = c .before .before in
+loop-again c = let d = c .before .before in
     let i = d .before .before .before .before .loop in
-    let a = d .before .before .before .before .before .before .args in
-    let r = d .before .before .element .result .outcome in
-    let o = ap (λ (l : Located). l .outcome) (d .before .before .element .ensures) in
+    let a = d .before .before .before .before .before .before .before .before .args in
+    let o = d .before .before .outcome-of in
     let s = state (now (a .elements)) (i .memory) (i .count) in
-    let n = stored-count (a .p .access .size) (a .register) (i .k) r s in
-    let l = stored-length (a .p .access .size) (a .register) (i .k) r s in
-    (search needs, omega (arith, n, i .inv, d .store-element .ensures .1), ap length (d .store-element .ensures .0) ∙ l ∙ i .inv .2, store-turn (a .p .access) (a .p .columns) (a .register) (i .k) _ r o (i .inv .3) (d .store-element .ensures .0) (d .store-element .ensures .1))
+    let n = stored-count (a .p .access .size) (a .register) (i .k) (o .result) s in
+    let l = stored-length (a .p .access .size) (a .register) (i .k) (o .result) s in
+    (search needs, omega (arith, n, i .inv, d .store-element .ensures .1), ap length (d .store-element .ensures .0) ∙ l ∙ i .inv .2, store-turn (a .p .access .size) (a .register) (i .k) _ _ (o .result) (o .ensures) (i .inv .3) (d .store-element .ensures .0) (d .store-element .ensures .1))
 
 same-length : tie.Need-same-length Inv-loop μ-loop
 same-length c = c .before .loop .inv .2
 
 returns : tie.Need-returns Inv-loop μ-loop
-returns c =
-    let i = c .before .loop in
-    let a = c .before .before .before .args in
+returns c = let i = c .before .loop in
+    let s = c .before .before .before .before .before in
+    let a = s .args in
     let e : i .k ≡ a .n = omega arith in
-    let s = rw e at (i .inv .3) in
-    (ap (λ (x : State). x .memory) s, ap (λ (x : State). x .count) s)
+    let d = (rw e at (i .inv .3)) ∙ transferred-same _ (a .n) _ (surveyed-outcome (a .p) (s .pre .0 .0) (c .before .before .before .survey-of .ensures) (s .pre .1 .3)) in
+    (ap (λ (x : State). x .memory) d, ap (λ (x : State). x .count) d)
 
 pub store-elements-spec : {M : Type 1} → statement M
 store-elements-spec =
@@ -74,9 +76,11 @@ store-elements-spec =
     (tie.spec
     Inv-loop
     μ-loop
+    survey-of-requires
     loop-holds
-    cast-element
-    element-requires
+    mul-outcome-of
+    array-read-outcome-of
+    outcome-of-requires
     store-element-requires
     add-k
     loop-less

@@ -1,8 +1,8 @@
+use Rattle.addressing.proofs.Laws.{clamped-lt, part-is, scaled-le}
+use Rattle.addressing.specs.declared.Clamped.the-variants.{Refused, Discarded, Filled, At}
 use mathlib.Core.Path.{sym, _∙_}
 use native.Mathlib.Omega.{arith}
 use borrow.Author.Needs.{needs}
-use Rattle.addressing.specs.declared.Clamped.the-variants.{Refused, Discarded, Filled, At}
-use Rattle.addressing.proofs.Laws.{clamped-lt, part-is, scaled-le}
 use Rattle.addressing.proofs.tensors.part.Statement.{statement}
 use Rattle.addressing.proofs.tensors.part.Tie as tie
 
@@ -33,19 +33,19 @@ enum-known-x c = search needs
 wide-requires-3 : tie.Need-wide-requires-3
 wide-requires-3 c κs = search needs
 
-div-t11 : tie.Need-div-t11
-div-t11 c = search needs
+block-of-requires : tie.Need-block-of-requires
+block-of-requires c κs = search needs
 
 wide-requires-4 : tie.Need-wide-requires-4
 wide-requires-4 c κs = search needs
 
 mul-t13 : tie.Need-mul-t13
-mul-t13 c =
-    omega (
+mul-t13 c = rw (c .before .block-of .ensures)
+    (omega (
       arith,
-      scaled-le (c .before .wide3 .result)
-          (clamped-lt _ _ _ (c .before .before .before .before .before .before .wide2 .result) (omega arith) (sym (c .before .before .before .before .before .clamp .ensures) ∙ c .before .before .before .x .given .1)) (omega arith) (c .wide4 .ensures .1),
-    )
+      scaled-le (c .before .before .wide3 .result)
+          (clamped-lt _ _ _ (c .before .before .before .before .before .before .before .wide2 .result) (omega arith) (sym (c .before .before .before .before .before .before .clamp .ensures) ∙ c .before .before .before .before .x .given .1)) (omega arith) (c .wide4 .ensures .1),
+    ))
 
 returns : tie.Need-returns
 returns c = (part-is _ _ _ _ {x = Refused} (cc), tt)
@@ -57,10 +57,10 @@ returns-3 : tie.Need-returns-3
 returns-3 c = (part-is _ _ _ _ {x = Filled} (cc), tt)
 
 returns-4 : tie.Need-returns-4
-returns-4 c = (
-  rw (c .before .wide3 .ensures .0, c .wide4 .ensures .0) (part-is _ _ _ _ {x = At (c .before .before .before .x .given .0 .0)} (cc)),
-  scaled-le (c .before .wide3 .result)
-      (clamped-lt _ _ _ (c .before .before .before .before .before .before .wide2 .result) (omega arith) (sym (c .before .before .before .before .before .clamp .ensures) ∙ c .before .before .before .x .given .1)) (omega arith) (c .wide4 .ensures .1),
+returns-4 c = rw (c .before .block-of .ensures) (
+  rw (c .before .before .wide3 .ensures .0, c .wide4 .ensures .0) (part-is _ _ _ _ {x = At (c .before .before .before .before .x .given .0 .0)} (cc)),
+  scaled-le (c .before .before .wide3 .result)
+      (clamped-lt _ _ _ (c .before .before .before .before .before .before .before .wide2 .result) (omega arith) (sym (c .before .before .before .before .before .before .clamp .ensures) ∙ c .before .before .before .before .x .given .1)) (omega arith) (c .wide4 .ensures .1),
 )
 
 pub part-spec : {M : Type 1} → statement M
@@ -76,7 +76,7 @@ part-spec =
     enum-told-3
     enum-known-x
     wide-requires-3
-    div-t11
+    block-of-requires
     wide-requires-4
     mul-t13
     returns

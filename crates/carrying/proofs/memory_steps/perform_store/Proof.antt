@@ -1,5 +1,5 @@
 use mathlib.Core.Path.{ap, _∙_}
-use Rattle.accesses.specs.Accepted.{accepted-valid}
+use Rattle.accesses.specs.Accepted.{accepted-valid, element-accepted}
 use Rattle.addressing.specs.Valid.{planned-access, planned-columns}
 use Rattle.carrying.specs.Accesses.{shaped}
 use Rattle.carrying.specs.Done.{store-performed}
@@ -56,8 +56,9 @@ store-elements-requires c κs =
     let s = shaped _ (q .0 .1 .each (a .register)) (g .filled) in
     let e = ap (λ (t : MatrixType). t .columns) (d .the-type .ensures) in
     let n = planned-columns _ _ (p .plan-of .ensures .0) ∙ e in
+    let r = planned-access _ _ (p .plan-of .ensures .0) ∙ p .before .before .access-of .ensures .0 ∙ ap (λ (t : MatrixType). accessOf (a .sheet) false (a .layout) (a .view) (a .base) t (length (now (a .memory)))) (d .the-type .ensures) in
     let m = ap (λ (x : Access). x .memory) (planned-access _ _ (p .plan-of .ensures .0) ∙ p .before .before .access-of .ensures .0) in
-    ((p .plan-of .ensures .1, rw n (s .some), rw n (s .most), m), (q .0 .2, rw (d .the-type .ensures) (s .area), q .0 .4))
+    ((p .plan-of .ensures .1, rw n (s .some), rw n (s .most), m), (q .0 .2, rw (d .the-type .ensures) (s .area), q .0 .4, rw (r, n, d .the-type .ensures) (element-accepted _ _ _ (g .clear))))
 
 same-length : tie.Need-same-length
 same-length c = search needs

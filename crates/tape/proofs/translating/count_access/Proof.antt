@@ -1,3 +1,4 @@
+use Rattle.accesses.specs.Accepted.{element-accepted}
 use Rattle.addressing.specs.Valid.{planned-access, planned-columns}
 use Rattle.carrying.specs.Accesses.{shaped}
 use native.Mathlib.Omega.{arith}
@@ -25,7 +26,7 @@ count-runs-requires c κs =
     let s = shaped _ (q .0) (q .1 .filled) in
     let p = c .before .before .plan-access .ensures in
     let n = planned-columns _ _ (p .0) in
-    (p .1, rw n (s .some), rw n (s .most), s .area)
+    (p .1, rw n (s .some), rw n (s .most), s .area, rw (planned-access _ _ (p .0), n) (element-accepted _ _ _ (q .1 .clear)))
 
 returns : tie.Need-returns
 returns c =

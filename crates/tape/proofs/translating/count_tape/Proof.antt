@@ -1,8 +1,8 @@
-use mathlib.Core.Path.{_≡_, ap}
+use mathlib.Core.Path.{_≡_, sym, ap, _∙_}
 use Prim.Native.Nat.{_+_, _-_, _*_, _≤_}
 use lib.ListN.{length, length-append}
 use Rattle.sheet.specs.Steps.{theStep}
-use Rattle.carrying.specs.Types.{within-step}
+use Rattle.carrying.specs.Types.{within-step, check-types}
 use Rattle.tape.specs.Tapes.{stepRecords, tapeFrom, tapeOf}
 use Rattle.tape.proofs.TranslateLaws.{Rest, rest-start, rest-first, rest-next, tape-start, tape-go, tape-end, empty-types, step-records, step-few}
 use borrow.Author.Needs.{needs}
@@ -50,32 +50,33 @@ add-records c =
     let few = step-few (s .args .t1) (l .types) (s .args .memory) 0 (theStep (s .args .t1 .step) (l .k)) (l .inv .1 .sized) in
     omega (arith, l .inv .2, c .count-step .ensures, few, h, s .pre .0 .steps)
 
-check-step-requires : tie.Need-check-step-requires Inv-loop μ-loop
-check-step-requires c κs =
+step-types-requires : tie.Need-step-types-requires Inv-loop μ-loop
+step-types-requires c κs =
     let s = c .before .before .before .before .before in
     let l = c .before .before .before .loop in
-    (s .pre .0, s .pre .1, l .inv .1 .sized, within-step (s .args .t1) (s .pre .0) (l .k) (c .before .before .loop-test .taken))
+    (s .args .t1 .edition, s .args .t1 .layouts, s .args .t1 .views, within-step (s .args .t1) (s .pre .0) (l .k) (c .before .before .loop-test .taken))
 
 add-k : tie.Need-add-k Inv-loop μ-loop
 add-k c =
-    let s = c .before .before .before .before .before .before .before in
-    omega (arith, c .before .before .before .before .loop-test .taken, s .pre .0 .steps)
+    let s = c .before .before .before .before .before .before in
+    omega (arith, c .before .before .before .loop-test .taken, s .pre .0 .steps)
 
 loop-less : tie.Need-loop-less Inv-loop μ-loop
-loop-less c = omega (arith, c .before .before .before .before .loop-test .taken)
+loop-less c = omega (arith, c .before .before .before .loop-test .taken)
 
 loop-again : tie.Need-loop-again Inv-loop μ-loop
 loop-again c =
-    let s = c .before .before .before .before .before .before .before in
+    let s = c .before .before .before .before .before .before in
     let a = s .args in
-    let l = c .before .before .before .before .before .loop in
-    let h = c .before .before .before .before .loop-test .taken in
-    let n = c .before .before .count-step .ensures in
-    let e = c .before .check-step .ensures in
+    let l = c .before .before .before .before .loop in
+    let h = c .before .before .before .loop-test .taken in
+    let n = c .before .count-step .ensures in
+    let first = rest-first (a .t1 .steps) (a .t1) (a .memory) (l .k) (l .types) h (l .inv .1) in
+    let e = c .step-types .ensures ∙ sym (check-types (a .t1) (l .types) (a .memory) (theStep (a .t1 .step) (l .k)) first) in
     let few = step-few (a .t1) (l .types) (a .memory) 0 (theStep (a .t1 .step) (l .k)) (l .inv .1 .sized) in
     let same = step-records (a .t1) (l .types) (a .memory) (l .k) (theStep (a .t1 .step) (l .k)) in
     let go = ap length (tape-go (a .t1 .steps) (a .t1) (a .memory) (l .k) (l .types) h e) in
-    let both = length-append (stepRecords (a .t1) (l .types) (a .memory) (l .k) (theStep (a .t1 .step) (l .k))) (tapeFrom (a .t1 .steps - (l .k + 1)) (a .t1) (a .memory) (l .k + 1) (c .before .check-step .result .types)) in (
+    let both = length-append (stepRecords (a .t1) (l .types) (a .memory) (l .k) (theStep (a .t1 .step) (l .k))) (tapeFrom (a .t1 .steps - (l .k + 1)) (a .t1) (a .memory) (l .k + 1) (c .step-types .result)) in (
       omega (arith, h),
       rest-next (a .t1 .steps) (a .t1) (a .memory) (l .k) (l .types) h (l .inv .1) (within-step (a .t1) (s .pre .0) (l .k) h) e,
       omega (arith, l .inv .2, n, few),
@@ -101,7 +102,7 @@ count-tape-spec =
     element-copy-out-c
     count-step-requires
     add-records
-    check-step-requires
+    step-types-requires
     add-k
     loop-less
     loop-again

@@ -1,9 +1,8 @@
-use mathlib.Core.Path.{_≡_, sym, ap, _∙_}
+use mathlib.Core.Path.{_≡_, sym, _∙_}
 use Prim.Native.Nat.{_-_, _≤_}
 use denote.Ref.{now}
-use Rattle.addressing.specs.declared.Located.{Located}
 use Rattle.transfers.specs.Transfers.{outcomeOf}
-use Rattle.transfers.specs.Laws.{number-below}
+use Rattle.accesses.specs.Surveys.{surveyed-outcome}
 use Rattle.runs.specs.Runs.{held as theHeld}
 use Rattle.runs.specs.Ranges.{held-small, ending-within, held-within}
 use Rattle.runs.specs.Writing.{Written, held-none, held-more, ending-is, count-records, written-none, written-more, written-length, written-all, written-place, room-more, room-last}
@@ -14,42 +13,47 @@ use Rattle.tape.proofs.translating.write_runs.Statement.{statement}
 use Rattle.tape.proofs.translating.write_runs.Tie as tie
 
 abbrev Inv-loop : tie.InvT-loop
-Inv-loop tape₀ start p load register n held₀ at₀ k₀ tape held at k =
+Inv-loop tape₀ start p load register n entries held₀ at₀ k₀ tape held at k =
     ((k ≤ n) × (held ≡ theHeld (outcomeOf (p .access) (p .columns)) k)) × Written load register (outcomeOf (p .access) (p .columns)) start tape₀ k tape at
 
 abbrev μ-loop : tie.MeasureT-loop
-μ-loop tape₀ start p load register n held₀ at₀ k₀ tape held at k = n - k
+μ-loop tape₀ start p load register n entries held₀ at₀ k₀ tape held at k = n - k
 
 loop-holds : tie.Need-loop-holds Inv-loop μ-loop
 loop-holds c = ((omega arith, sym (held-none _)), written-none _ _ _ _ _)
 
-cast-element : tie.Need-cast-element Inv-loop μ-loop
-cast-element c = search needs
+survey-of-requires : tie.Need-survey-of-requires Inv-loop μ-loop
+survey-of-requires c κs = search needs
 
-element-requires : tie.Need-element-requires Inv-loop μ-loop
-element-requires c κs =
-    let q = c .before .before .pre .0 in
-    (q .0, q .1, q .2, number-below _ _ _ (c .loop-test .taken) (q .3) (q .1))
+mul-outcome-of : tie.Need-mul-outcome-of Inv-loop μ-loop
+mul-outcome-of c = search needs
+
+array-read-outcome-of : tie.Need-array-read-outcome-of Inv-loop μ-loop
+array-read-outcome-of c = search needs
+
+outcome-of-requires : tie.Need-outcome-of-requires Inv-loop μ-loop
+outcome-of-requires c κs = search needs
 
 next-run-requires : tie.Need-next-run-requires Inv-loop μ-loop
 next-run-requires c κs =
-    let s = c .before .before .before in
+    let s = c .before .before .before .before .before in
     let p = s .args .p in
     let l = c .before .before .loop in
+    let o = c .outcome-of .ensures ∙ surveyed-outcome p (s .pre .0 .0) (c .before .before .before .before .survey-of .ensures) (s .pre .0 .4) (l .k) (c .before .loop-test .taken) in
     let near = outcome-near (p .access) (s .pre .0 .0 .valid .sized) (p .columns) in (
       rw (l .inv .0 .1) (held-small (outcomeOf (p .access) (p .columns)) (l .k) (λ i h. near i)),
-      (omega (arith, s .pre .0 .3), rw (ap (λ (x : Located). x .outcome) (c .element .ensures)) (near (l .k))),
+      (omega (arith, s .pre .0 .3), rw o (near (l .k))),
     )
 
 write-run-requires : tie.Need-write-run-requires Inv-loop μ-loop
 write-run-requires c κs =
-    let s = c .before .before .before .before .before in
+    let s = c .before .before .before .before .before .before .before in
     let a = s .args in
     let l = c .before .before .before .before .loop in
     let f = outcomeOf (a .p .access) (a .p .columns) in
     let near = outcome-near (a .p .access) (s .pre .0 .0 .valid .sized) (a .p .columns) in
-    let o = ap (λ (x : Located). x .outcome) (c .before .before .element .ensures) in
     let h = c .before .before .before .loop-test .taken in
+    let o = c .before .before .outcome-of .ensures ∙ surveyed-outcome (a .p) (s .pre .0 .0) (c .before .before .before .before .before .before .survey-of .ensures) (s .pre .0 .4) (l .k) h in
     let room = rw (count-records (a .load) (a .register) f (a .n)) at (s .pre .1 .1) in
     rw (ending-is f (l .k) (l .inv .0 .1) o (c .before .next-run .ensures)) (
       room-more (a .load) (a .register) f (a .start) (now (a .tape)) (l .k) (l .tape) (l .at) (l .inv .1) (a .n) h room,
@@ -64,12 +68,12 @@ loop-less c = omega (arith, c .before .before .before .before .before .loop-test
 
 loop-again : tie.Need-loop-again Inv-loop μ-loop
 loop-again c =
-    let s = c .before .before .before .before .before .before .before in
+    let s = c .before .before .before .before .before .before .before .before .before in
     let a = s .args in
     let l = c .before .before .before .before .before .before .loop in
     let f = outcomeOf (a .p .access) (a .p .columns) in
     let t = c .before .before .before .next-run .ensures in
-    let o = ap (λ (x : Located). x .outcome) (c .before .before .before .before .element .ensures) in
+    let o = c .before .before .before .before .outcome-of .ensures ∙ surveyed-outcome (a .p) (s .pre .0 .0) (c .before .before .before .before .before .before .before .before .survey-of .ensures) (s .pre .0 .4) (l .k) (c .before .before .before .before .before .loop-test .taken) in
     let d = ending-is f (l .k) (l .inv .0 .1) o t in
     let w = c .before .write-run .ensures in (
       (omega (arith, c .before .before .before .before .before .loop-test .taken), held-more f (l .k) (l .inv .0 .1) o t),
@@ -79,7 +83,7 @@ loop-again c =
 
 write-run-requires-2 : tie.Need-write-run-requires-2 Inv-loop μ-loop
 write-run-requires-2 c κs =
-    let s = c .before .before .before in
+    let s = c .before .before .before .before .before in
     let a = s .args in
     let l = c .before .before .loop in
     let f = outcomeOf (a .p .access) (a .p .columns) in
@@ -93,13 +97,13 @@ write-run-requires-2 c κs =
 
 same-length : tie.Need-same-length Inv-loop μ-loop
 same-length c =
-    let a = c .before .before .before .before .before .args in
+    let a = c .before .before .before .before .before .before .before .args in
     let l = c .before .before .before .before .loop in
     c .before .write-run2 .kept .0 ∙ written-length (a .load) (a .register) (outcomeOf (a .p .access) (a .p .columns)) (a .start) (now (a .tape)) (l .k) (l .tape) (l .at) (l .inv .1)
 
 returns : tie.Need-returns Inv-loop μ-loop
 returns c =
-    let a = c .before .before .before .before .before .args in
+    let a = c .before .before .before .before .before .before .before .args in
     let l = c .before .before .before .before .loop in
     let f = outcomeOf (a .p .access) (a .p .columns) in
     let e : l .k ≡ a .n = omega (arith, l .inv .0 .0, c .before .before .before .loop-test .left) in
@@ -117,9 +121,11 @@ write-runs-spec =
     (tie.spec
     Inv-loop
     μ-loop
+    survey-of-requires
     loop-holds
-    cast-element
-    element-requires
+    mul-outcome-of
+    array-read-outcome-of
+    outcome-of-requires
     next-run-requires
     write-run-requires
     add-k

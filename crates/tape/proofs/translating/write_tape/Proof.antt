@@ -5,7 +5,7 @@ use lib.ListN.{length, length-append}
 use lib.Seq.{sets}
 use Rattle.sheet.specs.Steps.{theStep}
 use Rattle.carrying.specs.Steps.{checkedStep}
-use Rattle.carrying.specs.Types.{within-step}
+use Rattle.carrying.specs.Types.{within-step, check-types}
 use Rattle.records.specs.declared.Record.{Record}
 use Rattle.records.specs.Records.{tapeNumbers}
 use Rattle.tape.specs.Tapes.{stepRecords, tapeFrom, tapeOf}
@@ -53,7 +53,7 @@ write-step-requires c κs =
     let l = c .before .before .before .loop in
     let h = c .before .before .loop-test .taken in
     let step = theStep (a .t2 .step) (l .k) in
-    let go = ap length (tape-go (a .t2 .steps) (a .t2) (a .memory) (l .k) (l .types) h {c = checkedStep (a .t2) (l .types) (a .memory) step} refl) in
+    let go = ap length (tape-go (a .t2 .steps) (a .t2) (a .memory) (l .k) (l .types) h {after = checkedStep (a .t2) (l .types) (a .memory) step .types} refl) in
     let both = length-append (stepRecords (a .t2) (l .types) (a .memory) (l .k) step) (tapeFrom (a .t2 .steps - (l .k + 1)) (a .t2) (a .memory) (l .k + 1) (checkedStep (a .t2) (l .types) (a .memory) step .types)) in (
       (q .0, q .1, l .inv .1 .sized, within-step (a .t2) (q .0) (l .k) h),
       (
@@ -62,31 +62,32 @@ write-step-requires c κs =
       ),
     )
 
-check-step-requires : tie.Need-check-step-requires Inv-loop μ-loop
-check-step-requires c κs =
+step-types-requires : tie.Need-step-types-requires Inv-loop μ-loop
+step-types-requires c κs =
     let s = c .before .before .before .before .before .before .before in
     let l = c .before .before .before .before .before .loop in
-    (s .pre .0 .0, s .pre .0 .1, l .inv .1 .sized, within-step (s .args .t2) (s .pre .0 .0) (l .k) (c .before .before .before .before .loop-test .taken))
+    (s .args .t2 .edition, s .args .t2 .layouts, s .args .t2 .views, within-step (s .args .t2) (s .pre .0 .0) (l .k) (c .before .before .before .before .loop-test .taken))
 
 add-k : tie.Need-add-k Inv-loop μ-loop
 add-k c =
-    let s = c .before .before .before .before .before .before .before .before .before in
-    omega (arith, c .before .before .before .before .before .before .loop-test .taken, s .pre .0 .0 .steps)
+    let s = c .before .before .before .before .before .before .before .before in
+    omega (arith, c .before .before .before .before .before .loop-test .taken, s .pre .0 .0 .steps)
 
 loop-less : tie.Need-loop-less Inv-loop μ-loop
-loop-less c = omega (arith, c .before .before .before .before .before .before .loop-test .taken)
+loop-less c = omega (arith, c .before .before .before .before .before .loop-test .taken)
 
 loop-again : tie.Need-loop-again Inv-loop μ-loop
 loop-again c =
-    let s = c .before .before .before .before .before .before .before .before .before in
+    let s = c .before .before .before .before .before .before .before .before in
     let a = s .args in
     let q = s .pre .0 in
-    let l = c .before .before .before .before .before .before .before .loop in
-    let h = c .before .before .before .before .before .before .loop-test .taken in
-    let w = c .before .before .before .write-step in
-    let e = c .before .check-step .ensures in
+    let l = c .before .before .before .before .before .before .loop in
+    let h = c .before .before .before .before .before .loop-test .taken in
+    let w = c .before .before .write-step in
+    let first = rest-first (a .t2 .steps) (a .t2) (a .memory) (l .k) (l .types) h (l .inv .1) in
+    let e = c .step-types .ensures ∙ sym (check-types (a .t2) (l .types) (a .memory) (theStep (a .t2 .step) (l .k)) first) in
     let rs = stepRecords (a .t2) (l .types) (a .memory) (l .k) (theStep (a .t2 .step) (l .k)) in
-    let rest = tapeFrom (a .t2 .steps - (l .k + 1)) (a .t2) (a .memory) (l .k + 1) (c .before .check-step .result .types) in
+    let rest = tapeFrom (a .t2 .steps - (l .k + 1)) (a .t2) (a .memory) (l .k + 1) (c .step-types .result) in
     let go = tape-go (a .t2 .steps) (a .t2) (a .memory) (l .k) (l .types) h e in
     let n = ap length go in
     let both = length-append rs rest in (
@@ -120,7 +121,7 @@ write-tape-spec =
     mul-c
     element-copy-out-c
     write-step-requires
-    check-step-requires
+    step-types-requires
     add-k
     loop-less
     loop-again

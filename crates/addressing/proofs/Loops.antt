@@ -1,0 +1,294 @@
+-- Rules 2 and 3 to 5 as loops from the last dimension to the first, which keep no coordinates.
+use Prim.Native.Nat.{ℕ, zero, suc, _+_, _-_, _*_, _/_, _%_, _^_, _<_, _≤_}
+use mathlib.Core.Path.{_≡_, refl, sym, ap, _∙_}
+use mathlib.Core.Bool.{Bool, true, false, not}
+use mathlib.Core.List.{List}
+use native.Mathlib.Nat.{add-zero, zero-add, zero-mul, mod-lt, mul-le-mul, not-suc-le-zero}
+use native.Mathlib.Omega.{arith}
+use lib.Dec.{leb}
+use lib.IntN.{ℤ, pos, negsuc, _+ℤ_}
+use lib.ListN.{length, getD, set, replicate, length-set}
+use lib.Seq.{getD-set-same, getD-set-other}
+use Rattle.numbers.specs.Choice.{pick, pick-case}
+use Rattle.numbers.specs.Places.{by-place, none-all}
+use Rattle.sheet.specs.Facts.{InSize, layout-most}
+use Rattle.sheet.specs.Layouts.{theDimension, layoutOk}
+use Rattle.sheet.specs.declared.ClampMode.{ClampMode}
+use Rattle.sheet.specs.declared.ClampMode.the-variants.{Undefined, Constant, ClampToEdge, Repeat, MirrorRepeat}
+use Rattle.sheet.specs.declared.Dimension.{Dimension}
+use Rattle.sheet.specs.declared.Layout.{Layout}
+use Rattle.addressing.specs.declared.Clamped.{Clamped}
+use Rattle.addressing.specs.declared.Clamped.the-variants.{Refused, Discarded, Filled, At}
+use Rattle.addressing.specs.Rules.{spanOf, coordinates, weighted, spanCoordinates, twos, onLoad, onStore, outside, clamped, scaled, part, plus, tensorIndex, dimensionAt, layoutNumbers}
+use Rattle.addressing.proofs.Laws.{coordinates-more, coordinates-end, numbers-dimension}
+
+-- Rule 3: the coordinates of later dimensions are not touched
+coordinates-keep : (size : ℕ → ℕ) (k index : ℕ) (cs : List ℕ) (i : ℕ) → k ≤ i → getD (coordinates (λ (d : ℕ). d) size k index cs) i 0 ≡ getD cs i 0
+unfolding coordinates
+coordinates-keep size zero index cs i h = refl
+coordinates-keep size (suc k) index cs i h =
+    let q : i ≡ k → ⊥ = λ r. omega arith in
+    coordinates-keep size k (index / size k) (set cs k (index % size k)) i (omega arith) ∙ getD-set-other cs k i (index % size k) 0 q
+
+-- Rule 4: what all dimensions that are outside have in common
+abbrev loadStop : ClampMode → Clamped
+loadStop Undefined = Refused
+loadStop Constant = Filled
+loadStop ClampToEdge = Refused
+loadStop Repeat = Refused
+loadStop MirrorRepeat = Refused
+
+abbrev stopOf : Bool → ClampMode → Clamped
+stopOf true mode = loadStop mode
+stopOf false mode = onStore mode
+
+-- an index, or z
+abbrev AtOr : Clamped → Clamped → Type 0
+AtOr z (At x) = Unit {0}
+AtOr z Refused = z ≡ Refused
+AtOr z Discarded = z ≡ Discarded
+AtOr z Filled = z ≡ Filled
+
+onLoad-one : (mode : ClampMode) (c : ℤ) (n : ℕ) → AtOr (loadStop mode) (onLoad mode c n)
+onLoad-one Undefined c n = refl
+onLoad-one Constant c n = refl
+onLoad-one ClampToEdge c n = tt
+onLoad-one Repeat c n = tt
+onLoad-one MirrorRepeat c n = tt
+
+onStore-one : (mode : ClampMode) → AtOr (onStore mode) (onStore mode)
+onStore-one Undefined = refl
+onStore-one Constant = refl
+onStore-one ClampToEdge = refl
+onStore-one Repeat = refl
+onStore-one MirrorRepeat = refl
+
+outside-one : (load : Bool) (mode : ClampMode) (c : ℤ) (n : ℕ) → AtOr (stopOf load mode) (outside load mode c n)
+unfolding outside pick
+outside-one true mode c n = onLoad-one mode c n
+outside-one false mode c n = onStore-one mode
+
+clamped-one : (load : Bool) (mode : ClampMode) (c : ℤ) (n : ℕ) → AtOr (stopOf load mode) (clamped load mode c n)
+unfolding clamped
+clamped-one load mode (negsuc a) n = outside-one load mode (negsuc a) n
+clamped-one load mode (pos a) n = pick-case (AtOr (stopOf load mode)) (leb n a) _ _ (λ t. outside-one load mode (pos a) n) (λ t. tt)
+
+scaled-one : (z : Clamped) (d : Dimension) (x : Clamped) → AtOr z x → AtOr z (scaled d x)
+scaled-one z d Refused h = h
+scaled-one z d Discarded h = h
+scaled-one z d Filled h = h
+scaled-one z d (At x) h = h
+
+part-one : (load : Bool) (mode : ClampMode) (d : Dimension) (s : ℕ) → AtOr (stopOf load mode) (part load mode d s)
+unfolding part
+part-one load mode d s =
+    scaled-one (stopOf load mode) d (clamped load mode (pos s +ℤ twos (d .offset)) (d .size)) (clamped-one load mode (pos s +ℤ twos (d .offset)) (d .size))
+
+plus-one : (z x y : Clamped) → AtOr z x → AtOr z y → AtOr z (plus x y)
+plus-one z Refused y g h = g
+plus-one z Discarded y g h = g
+plus-one z Filled y g h = g
+plus-one z (At x) Refused g h = h
+plus-one z (At x) Discarded g h = h
+plus-one z (At x) Filled g h = h
+plus-one z (At x) (At y) g h = tt
+
+tensor-one : (load : Bool) (l : Layout) (cs : List ℕ) (n : ℕ) → AtOr (stopOf load (l .mode)) (tensorIndex load l cs n)
+unfolding tensorIndex
+tensor-one load l cs zero = tt
+tensor-one load l cs (suc n) =
+    plus-one (stopOf load (l .mode)) (tensorIndex load l cs n) (part load (l .mode) (theDimension (l .dimensions) n) (getD cs n 0)) (tensor-one load l cs n)
+    (part-one load (l .mode) (theDimension (l .dimensions) n) (getD cs n 0))
+
+-- beside one that is outside the others do not count
+plus-stop : (z x y : Clamped) → AtOr z x → z ≡ y → ((a : ℕ) → plus (At a) y ≡ y) → plus x y ≡ y
+plus-stop z Refused y g h after = sym g ∙ h
+plus-stop z Discarded y g h after = sym g ∙ h
+plus-stop z Filled y g h after = sym g ∙ h
+plus-stop z (At a) y g h after = after a
+
+plus-zero : (x : Clamped) → plus x (At 0) ≡ x
+plus-zero Refused = refl
+plus-zero Discarded = refl
+plus-zero Filled = refl
+plus-zero (At a) = rw add-zero
+
+plus-sum : (x : Clamped) (a b : ℕ) → plus (plus x (At a)) (At b) ≡ plus x (At (b + a))
+plus-sum Refused a b = refl
+plus-sum Discarded a b = refl
+plus-sum Filled a b = refl
+plus-sum (At x) a b = let e : x + a + b ≡ x + (b + a) = omega arith in rw e
+
+tensor-last : (load : Bool) (l : Layout) (cs : List ℕ) (d : ℕ) → 0 < d
+    → tensorIndex load l cs d ≡ plus (tensorIndex load l cs (d - 1)) (part load (l .mode) (theDimension (l .dimensions) (d - 1)) (getD cs (d - 1) 0))
+unfolding tensorIndex
+tensor-last load l cs zero h = absurd (not-suc-le-zero h)
+tensor-last load l cs (suc d) h = let q : suc d - 1 ≡ d = omega arith in rw q refl
+
+-- a dimension by the layout's numbers
+module _ (l : Layout) {ns : List ℕ} {d : ℕ} {x : Dimension} (n : ns ≡ layoutNumbers l) (h : d < 5) (e : x ≡ dimensionAt ns (5 * d)) where
+  pub same-dimension : x ≡ theDimension (l .dimensions) d
+  same-dimension = e ∙ rw n (numbers-dimension l d h)
+
+  pub same-span : {span : ℕ} → span ≡ x .span → span ≡ spanOf l d
+  same-span f = f ∙ ap (λ (y : Dimension). y .span) same-dimension
+
+  pub same-part : (load : Bool) (left : ℕ) {span s : ℕ} {r : Clamped} → span ≡ x .span → s ≡ left % span → r ≡ part load (l .mode) x s
+      → r ≡ part load (l .mode) (theDimension (l .dimensions) d) (left % spanOf l d)
+  same-part load left f g q = q ∙ rw (g, same-span f, same-dimension)
+
+-- The loop over a layout's dimensions: those from d on are done and have a sum; `left` is what is left of the index.
+pub record Summing (load : Bool) (l : Layout) (index d left sum : ℕ) : Type 0 where
+  pub few : d ≤ l .rank
+  pub small : sum ≤ (l .rank - d) * 2 ^ 28
+  pub cs : List ℕ
+  pub long : length cs ≡ 5
+  pub goes : coordinates (λ (i : ℕ). i) (spanOf l) d left cs ≡ spanCoordinates l index
+  pub whole : plus (tensorIndex load l (spanCoordinates l index) d) (At sum) ≡ tensorIndex load l (spanCoordinates l index) (l .rank)
+
+module _ (load : Bool) (l : Layout) (ok : layoutOk l ≡ true) (index : ℕ) where
+  pub summing-start : Summing load l index (l .rank) index 0
+  unfolding spanCoordinates
+  summing-start =
+      record {
+        few = omega arith;
+        small = omega arith;
+        cs = replicate 5 0;
+        long = refl;
+        goes = refl;
+        whole = plus-zero _;
+      }
+
+  module _ (d left sum : ℕ) (w : Summing load l index d left sum) (h : 0 < d) where
+    abbrev span : ℕ
+    span = spanOf l (d - 1)
+
+    abbrev next : Clamped
+    next = part load (l .mode) (theDimension (l .dimensions) (d - 1)) (left % span)
+
+    further : coordinates (λ (i : ℕ). i) (spanOf l) (d - 1) (left / span) (set (w .cs) (d - 1) (left % span)) ≡ spanCoordinates l index
+    further = coordinates-more (λ (i : ℕ). i) (spanOf l) d left (w .cs) h ∙ w .goes
+
+    coordinate : getD (spanCoordinates l index) (d - 1) 0 ≡ left % span
+    coordinate =
+        let m : d - 1 < length (w .cs) = omega (arith, w .few, w .long, layout-most l ok) in
+        rw (← further) (coordinates-keep (spanOf l) (d - 1) (left / span) (set (w .cs) (d - 1) (left % span)) (d - 1) (omega arith)
+        ∙ getD-set-same (w .cs) (d - 1) (left % span) 0 m)
+
+    one-more : tensorIndex load l (spanCoordinates l index) d ≡ plus (tensorIndex load l (spanCoordinates l index) (d - 1)) next
+    one-more = rw (← coordinate) (tensor-last load l (spanCoordinates l index) d h)
+
+    pub summing-more : (y : ℕ) → y ≤ 2 ^ 28 → next ≡ At y → Summing load l index (d - 1) (left / span) (sum + y)
+    summing-more y m e =
+        record {
+          few = omega (arith, w .few);
+          small = omega (arith, w .small, w .few);
+          cs = set (w .cs) (d - 1) (left % span);
+          long = length-set (w .cs) (d - 1) (left % span) ∙ w .long;
+          goes = further;
+          whole = sym (plus-sum (tensorIndex load l (spanCoordinates l index) (d - 1)) y sum) ∙ rw (← e, ← one-more) (w .whole);
+        }
+
+    pub summing-stop : (y : Clamped) → ((a : ℕ) → plus (At a) y ≡ y) → plus y (At sum) ≡ y → stopOf load (l .mode) ≡ y → next ≡ y
+        → y ≡ tensorIndex load l (spanCoordinates l index) (l .rank)
+    summing-stop y after before z e =
+        let below = tensorIndex load l (spanCoordinates l index) (d - 1) in
+        let f : tensorIndex load l (spanCoordinates l index) d ≡ y =
+        one-more ∙ rw e (plus-stop (stopOf load (l .mode)) below y (tensor-one load l (spanCoordinates l index) (d - 1)) z after) in
+        sym before ∙ (rw f at (w .whole))
+
+    -- what is outside is outside alike
+    pub next-stop : (y : Clamped) → next ≡ y → AtOr (stopOf load (l .mode)) y
+    next-stop y e = rw e at (part-one load (l .mode) (theDimension (l .dimensions) (d - 1)) (left % span))
+
+  pub summing-end : (d left sum : ℕ) → Summing load l index d left sum → d ≤ 0 → At sum ≡ tensorIndex load l (spanCoordinates l index) (l .rank)
+  unfolding tensorIndex
+  summing-end zero left sum w h = let e : 0 + sum ≡ sum = zero-add sum in (rw e at (w .whole))
+  summing-end (suc d) left sum w h = absurd (not-suc-le-zero h)
+
+-- Rule 2: a coordinate where there was none adds its product
+module _ (cs strides : List ℕ) (i x : ℕ) where
+  weighted-skip : (n : ℕ) → n ≤ i → weighted (set cs i x) strides n ≡ weighted cs strides n
+  unfolding weighted
+  weighted-skip zero h = refl
+  weighted-skip (suc n) h =
+      let q : n ≡ i → ⊥ = λ r. omega arith in
+      rw (weighted-skip n (omega arith), getD-set-other cs i n x 0 q)
+
+  last-sum : (a b c : ℕ) → a + b + c ≡ a + c + b
+  last-sum a b c = omega arith
+
+  weighted-set : (n : ℕ) → i < n → i < length cs → getD cs i 0 ≡ 0 → weighted (set cs i x) strides n ≡ weighted cs strides n + x * getD strides i 0
+  unfolding weighted
+  weighted-set zero h l e = absurd (not-suc-le-zero h)
+  weighted-set (suc n) h l e =
+      by-place i n
+      (λ q.
+      let f : getD cs n 0 ≡ 0 = rw q at e in
+      rw (f, zero-mul, add-zero, ← weighted-skip n (omega arith), ← q) (rw (getD-set-same cs i x 0 l)))
+      (λ q.
+      let r : n ≡ i → ⊥ = λ s. q (sym s) in
+      rw (weighted-set n (omega arith) l e, getD-set-other cs i n x 0 r)
+      (last-sum (weighted cs strides n) (x * getD strides i 0) (getD cs n 0 * getD strides n 0)))
+
+weighted-zeros : (strides : List ℕ) (n : ℕ) → weighted (replicate 5 0) strides n ≡ 0
+unfolding weighted
+weighted-zeros strides zero = refl
+weighted-zeros strides (suc n) = rw (weighted-zeros strides n, none-all (λ (x : ℕ). x ≡ 0) 5 0 0 refl refl n, zero-mul)
+
+-- a product of a coordinate and a stride
+pub product-most : (left : ℕ) {size stride : ℕ} → InSize size → stride ≤ 4096 ^ 4 → left % size * stride ≤ 4096 ^ 5
+product-most left {size} {stride} s h = mul-le-mul {n₁ = left % size} {m₁ = stride} {n₂ = 4096} {m₂ = 4096 ^ 4} (omega (arith, mod-lt left (s .some), s .most)) h
+
+-- The loop over a view's dimensions: those from k on are done and have a sum; `left` is what is left of the index.
+module _ (permutation sizes strides : List ℕ) (rank index : ℕ) where
+  abbrev place : ℕ → ℕ
+  place j = getD permutation j 0
+
+  abbrev size : ℕ → ℕ
+  size i = getD sizes i 0
+
+  pub record Weighing (k left sum : ℕ) : Type 0 where
+    pub few : k ≤ rank
+    pub small : sum ≤ (rank - k) * 4096 ^ 5
+    pub cs : List ℕ
+    pub long : length cs ≡ 5
+    pub goes : coordinates place size k left cs ≡ coordinates place size rank index (replicate 5 0)
+    pub weighs : sum ≡ weighted cs strides rank
+    pub free : (j : ℕ) → j < k → getD cs (place j) 0 ≡ 0
+
+  pub weighing-start : Weighing rank index 0
+  weighing-start =
+      record {
+        few = omega arith;
+        small = omega arith;
+        cs = replicate 5 0;
+        long = refl;
+        goes = refl;
+        weighs = sym (weighted-zeros strides rank);
+        free = λ j h. none-all (λ (x : ℕ). x ≡ 0) 5 0 0 refl refl (place j);
+      }
+
+  module _ (k left sum : ℕ) (w : Weighing k left sum) (h : 0 < k) where
+    abbrev i : ℕ
+    i = place (k - 1)
+
+    abbrev x : ℕ
+    x = left % size i
+
+    pub weighing-more : rank ≤ 5 → i < rank → InSize (size i) → getD strides i 0 ≤ 4096 ^ 4 → ((j : ℕ) → j < k - 1 → place j ≡ i → ⊥)
+        → Weighing (k - 1) (left / size i) (sum + x * getD strides i 0)
+    weighing-more five inside s most apart =
+        let l : i < length (w .cs) = omega (arith, w .long) in
+        record {
+          few = omega (arith, w .few);
+          small = omega (arith, w .small, w .few, product-most left s most);
+          cs = set (w .cs) i x;
+          long = length-set (w .cs) i x ∙ w .long;
+          goes = coordinates-more place size k left (w .cs) h ∙ w .goes;
+          weighs = rw (w .weighs) (sym (weighted-set (w .cs) strides i x rank inside l (w .free (k - 1) (omega arith))));
+          free = λ j b. getD-set-other (w .cs) i (place j) x 0 (apart j b) ∙ w .free j (omega arith);
+        }
+
+  pub weighing-end : (k left sum : ℕ) → Weighing k left sum → k ≤ 0 → sum ≡ weighted (coordinates place size rank index (replicate 5 0)) strides rank
+  weighing-end k left sum w h = w .weighs ∙ rw (← w .goes) (ap (λ (cs : List ℕ). weighted cs strides rank) (coordinates-end place size k left (w .cs) h))
