@@ -1,0 +1,29 @@
+use Rattle.moonbleat.specs.Small.{run-small}
+use borrow.Author.Needs.{needs}
+use Rattle.moonbleat.proofs.moonbleat_run.Statement.{statement}
+use Rattle.moonbleat.proofs.moonbleat_run.Tie as tie
+
+run-tape-requires : tie.Need-run-tape-requires
+run-tape-requires c κs = search needs
+
+put-registers-requires : tie.Need-put-registers-requires
+put-registers-requires c κs = search needs
+
+put-answer-requires : tie.Need-put-answer-requires
+put-answer-requires c κs = rw (c .before .before .before .before .before .before .run-tape .ensures .0) (run-small _ _ _ _)
+
+same-length : tie.Need-same-length
+same-length c = search needs
+
+returns : tie.Need-returns
+returns c =
+    let d = c .before .before .before .before .before .before .before .run-tape .ensures in
+    let g = c .before .before .put-registers .ensures in
+    let p = c .put-answer .ensures in
+    let e = d .0 in
+    (rw e at (p .0), (d .1, (rw e at (g .0), (rw e at (g .1), rw e at (p .1)))))
+
+pub moonbleat-run-spec : {M : Type 1} → statement M
+moonbleat-run-spec =
+    tie.close
+    (tie.spec run-tape-requires put-registers-requires put-answer-requires same-length returns)

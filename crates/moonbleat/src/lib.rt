@@ -1,0 +1,180 @@
+// The C interface of include/moonbleat.h: the six public routines, with rows of numbers in place of structs.
+ghost use mathlib.Core.Path.{_≡_};
+ghost use mathlib.Core.List.{[], _∷_};
+ghost use Prim.Native.Nat.{_<_, _^_};
+ghost use lib.ListN.{length};
+ghost use Rattle.sheet_reader.specs.Reading.{readSheet};
+ghost use Rattle.carrying.specs.Carrying.{checkedSheet, carried, carriedMemory};
+ghost use Rattle.tape.specs.Translating.{translated, translatedRoom};
+ghost use Rattle.tape.specs.Running.{runTape, ranMemory};
+ghost use Rattle.moonbleat.specs.Rows.{answerRow, countsRow, typesRow, rewritten, rewrittenRoom};
+use registers::Registers;
+use sheet::Refusal;
+
+// Numbers of an answer: number, place, second place, byte-elements.
+const ANSWER: usize = 4;
+
+// Numbers of a sheet: layouts, views, steps.
+const COUNTS: usize = 3;
+
+// Bytes of the four registers' types: kind, rows, columns and 0 each.
+const TYPES: usize = 16;
+
+// Elements of the four registers.
+const ELEMENTS: usize = 1024;
+
+// A refusal and a count as the row of an answer. The result is the refusal's number.
+fn put_answer(answer: &mut [u32; ANSWER], refusal: Refusal, count: usize) -> u32
+    requires { ⌜ (refusal .place < 2 ^ 32) × (refusal .element < 2 ^ 32) × (count < 2 ^ 32) ⌝ }
+    ensures { λ r. ⌜ r ≡ refusal .number ⌝ }
+    ensures { λ _. ⌜ now (answer .exit) ≡ answerRow refusal count ⌝ }
+{
+    let number = refusal.number as u32;
+    *answer = [
+        number,
+        refusal.place as u32,
+        refusal.element as u32,
+        count as u32,
+    ];
+    number
+}
+
+fn put_registers(types: &mut [u8; TYPES], elements: &mut [u32; ELEMENTS], registers: Registers)
+    ensures { λ _. ⌜ now (types .exit) ≡ typesRow (registers .types) ⌝ }
+    ensures { λ _. ⌜ now (elements .exit) ≡ registers .elements ⌝ }
+{
+    let all = registers.types;
+    let a = all[0];
+    let b = all[1];
+    let c = all[2];
+    let d = all[3];
+    *types = [
+        a.kind,
+        a.rows,
+        a.columns,
+        0,
+        b.kind,
+        b.rows,
+        b.columns,
+        0,
+        c.kind,
+        c.rows,
+        c.columns,
+        0,
+        d.kind,
+        d.rows,
+        d.columns,
+        0,
+    ];
+    let held = registers.elements;
+    *elements = held;
+}
+
+// Reads a sheet.
+#[no_mangle]
+pub extern "C" fn moonbleat_read(
+    sheet: &[u8],
+    counts: &mut [u32; COUNTS],
+    answer: &mut [u32; ANSWER],
+) -> u32
+    ensures { λ r. ⌜ r ≡ readSheet (now (sheet .entry)) .refusal .number ⌝ }
+    ensures { λ _. ⌜ now (counts .exit) ≡ countsRow (readSheet (now (sheet .entry)) .sheet) ⌝ }
+    ensures { λ _. ⌜ now (answer .exit) ≡ answerRow (readSheet (now (sheet .entry)) .refusal) 0 ⌝ }
+{
+    let read = sheet_reader::read_sheet(sheet);
+    let model = read.sheet;
+    *counts = [model.layouts as u32, model.views as u32, model.steps as u32];
+    put_answer(answer, read.refusal, 0)
+}
+
+// Reads a sheet and writes what was read.
+#[no_mangle]
+pub extern "C" fn moonbleat_rewrite(sheet: &[u8], out: &mut [u8], answer: &mut [u32; ANSWER]) -> u32
+    ensures { λ r. ⌜ r ≡ rewritten (now (sheet .entry)) (length (now (out .entry))) .refusal .number ⌝ }
+    ensures { λ _. ⌜ now (out .exit) ≡ rewrittenRoom (now (sheet .entry)) (now (out .entry)) ⌝ }
+    ensures { λ _. ⌜ now (answer .exit) ≡ answerRow (rewritten (now (sheet .entry)) (length (now (out .entry))) .refusal) (rewritten (now (sheet .entry)) (length (now (out .entry))) .bytes) ⌝ }
+{
+    let read = sheet_reader::read_sheet(sheet);
+    let refusal = read.refusal;
+    if 0 < refusal.number {
+        return put_answer(answer, refusal, 0);
+    }
+    let model = read.sheet;
+    let written = sheet_writer::write_sheet(model, out);
+    put_answer(answer, written.refusal, written.bytes)
+}
+
+// Checks a sheet for a memory of a length.
+#[no_mangle]
+pub extern "C" fn moonbleat_check(
+    sheet: &[u8],
+    memory_len: usize,
+    answer: &mut [u32; ANSWER],
+) -> u32
+    ensures { λ r. ⌜ r ≡ checkedSheet (now (sheet .entry)) «memory_len» .refusal .number ⌝ }
+    ensures { λ _. ⌜ now (answer .exit) ≡ answerRow (checkedSheet (now (sheet .entry)) «memory_len» .refusal) (checkedSheet (now (sheet .entry)) «memory_len» .count) ⌝ }
+{
+    let found = carrying::check_sheet(sheet, memory_len);
+    put_answer(answer, found.refusal, found.count)
+}
+
+// Carries out a sheet on the lent memory.
+#[no_mangle]
+pub extern "C" fn moonbleat_carry_out(
+    sheet: &[u8],
+    memory: &mut [u8],
+    types: &mut [u8; TYPES],
+    elements: &mut [u32; ELEMENTS],
+    answer: &mut [u32; ANSWER],
+) -> u32
+    ensures { λ r. ⌜ r ≡ carried (now (sheet .entry)) (now (memory .entry)) .refusal .number ⌝ }
+    ensures { λ _. ⌜ now (memory .exit) ≡ carriedMemory (now (sheet .entry)) (now (memory .entry)) ⌝ }
+    ensures { λ _. ⌜ now (types .exit) ≡ typesRow (carried (now (sheet .entry)) (now (memory .entry)) .registers .types) ⌝ }
+    ensures { λ _. ⌜ now (elements .exit) ≡ carried (now (sheet .entry)) (now (memory .entry)) .registers .elements ⌝ }
+    ensures { λ _. ⌜ now (answer .exit) ≡ answerRow (carried (now (sheet .entry)) (now (memory .entry)) .refusal) (carried (now (sheet .entry)) (now (memory .entry)) .count) ⌝ }
+{
+    let done = carrying::carry_out(sheet, memory);
+    put_registers(types, elements, done.registers);
+    put_answer(answer, done.refusal, done.count)
+}
+
+// Translates a sheet for a memory of a length into the lent room.
+#[no_mangle]
+pub extern "C" fn moonbleat_translate(
+    sheet: &[u8],
+    memory_len: usize,
+    tape: &mut [i32],
+    records: &mut [u32; 1],
+    answer: &mut [u32; ANSWER],
+) -> u32
+    ensures { λ r. ⌜ r ≡ translated (now (sheet .entry)) «memory_len» (length (now (tape .entry))) .refusal .number ⌝ }
+    ensures { λ _. ⌜ now (tape .exit) ≡ translatedRoom (now (sheet .entry)) «memory_len» (now (tape .entry)) ⌝ }
+    ensures { λ _. ⌜ now (records .exit) ≡ translated (now (sheet .entry)) «memory_len» (length (now (tape .entry))) .records ∷ [] ⌝ }
+    ensures { λ _. ⌜ now (answer .exit) ≡ answerRow (translated (now (sheet .entry)) «memory_len» (length (now (tape .entry))) .refusal) (translated (now (sheet .entry)) «memory_len» (length (now (tape .entry))) .count) ⌝ }
+{
+    let made = tape::translating::translate(sheet, memory_len, tape);
+    *records = [made.records as u32];
+    put_answer(answer, made.refusal, made.count)
+}
+
+// Runs a tape with its sheet on the lent memory.
+#[no_mangle]
+pub extern "C" fn moonbleat_run(
+    sheet: &[u8],
+    tape: &[i32],
+    records: usize,
+    memory: &mut [u8],
+    types: &mut [u8; TYPES],
+    elements: &mut [u32; ELEMENTS],
+    answer: &mut [u32; ANSWER],
+) -> u32
+    ensures { λ r. ⌜ r ≡ runTape (now (sheet .entry)) (now (tape .entry)) records (now (memory .entry)) .refusal .number ⌝ }
+    ensures { λ _. ⌜ now (memory .exit) ≡ ranMemory (now (sheet .entry)) (now (tape .entry)) records (now (memory .entry)) ⌝ }
+    ensures { λ _. ⌜ now (types .exit) ≡ typesRow (runTape (now (sheet .entry)) (now (tape .entry)) records (now (memory .entry)) .registers .types) ⌝ }
+    ensures { λ _. ⌜ now (elements .exit) ≡ runTape (now (sheet .entry)) (now (tape .entry)) records (now (memory .entry)) .registers .elements ⌝ }
+    ensures { λ _. ⌜ now (answer .exit) ≡ answerRow (runTape (now (sheet .entry)) (now (tape .entry)) records (now (memory .entry)) .refusal) (runTape (now (sheet .entry)) (now (tape .entry)) records (now (memory .entry)) .count) ⌝ }
+{
+    let done = tape::running::run_tape(sheet, tape, records, memory);
+    put_registers(types, elements, done.registers);
+    put_answer(answer, done.refusal, done.count)
+}
