@@ -1,15 +1,19 @@
-# The C side of Moonbleat: the tool, its tests, and the comparison with the second implementation.
+# The C side of Moonbleat: the archive, the tool, its tests, and the comparison with the second
+# implementation. Everything is built in target/.
 #
 #   make            the tool, the example and unhex, in target/tool/
 #   make demo       print the tape of strip 4 and carry it out
+#   make archive    the library, target/staticlib/libmoonbleat.a
 #   make test       run the tool's tests
-#   make compare    hold the archive to the second implementation
+#   make compare    hold the archive to the second implementation; SHEETS=n for another number
 #   make bench      time the archive beside it
 #   make lint       cppcheck, warnings as errors, and the header as C++
-#   make memcheck   run the tool's tests under valgrind
 #   make check      lint, test and compare: all but the proofs
+#   make memcheck   the tool's tests with sanitizers, then with each third call under valgrind:
+#                   some two minutes, where all calls would take six
 #
-# The archive is made by `rt staticlib moonbleat` (`make archive`). ARCHIVE=path names another one.
+# The archive is made by `rt staticlib moonbleat`, which proves what is not proved yet: some
+# minutes the first time. ARCHIVE=path names another one.
 
 TOOL = target/tool
 ARCHIVE = target/staticlib/libmoonbleat.a
@@ -17,17 +21,17 @@ SHEETS = 20000
 
 CFLAGS = -O2 -g
 WARNINGS = -std=c11 -Wall -Wextra -Wpedantic -Werror
+SANITIZE = -fsanitize=address,undefined -fno-sanitize-recover=all
+VALGRIND = valgrind -q --error-exitcode=99 --leak-check=full --show-leak-kinds=all
 HEADERS = include/moonbleat.h $(wildcard harness/*.h)
 TOOL_SOURCES = harness/moonbleat.c harness/files.c harness/kinds.c harness/refusals.c harness/show.c harness/tape_text.c
 
-# Cargo links the archive by its absolute path.
-COMPARE = MOONBLEAT_ARCHIVE='$(abspath $(ARCHIVE))' cargo run --quiet --release --locked --offline \
-	--manifest-path compare/Cargo.toml --
+# Cargo needs no network, writes to target/ alone, and links the archive by its absolute path.
+CARGO = CARGO_HOME='$(abspath target/cargo)' CARGO_TARGET_DIR='$(abspath target/compare)' \
+	MOONBLEAT_ARCHIVE='$(abspath $(ARCHIVE))' cargo
+CARGO_WORDS = --quiet --release --locked --offline --manifest-path compare/Cargo.toml
 
 all: $(TOOL)/moonbleat $(TOOL)/example $(TOOL)/unhex
-
-$(TOOL):
-	mkdir -p $@
 
 # rt keeps what it has proved; the time stamp tells make that it looked.
 target/staticlib/libmoonbleat.a: crates.txt $(shell find crates -name '*.rt' -o -name '*.antt')
@@ -35,6 +39,9 @@ target/staticlib/libmoonbleat.a: crates.txt $(shell find crates -name '*.rt' -o 
 	touch $@
 
 archive: target/staticlib/libmoonbleat.a
+
+$(TOOL):
+	mkdir -p $@
 
 $(TOOL)/moonbleat: $(TOOL_SOURCES) $(HEADERS) $(ARCHIVE) | $(TOOL)
 	$(CC) $(WARNINGS) $(CFLAGS) -Iinclude $(TOOL_SOURCES) $(ARCHIVE) $(LDLIBS) -o $@
@@ -59,14 +66,15 @@ test: all
 	tests/tool.sh $(TOOL)
 
 memcheck: all
-	RUNNER='valgrind -q --error-exitcode=99 --leak-check=full --show-leak-kinds=all' tests/tool.sh $(TOOL)
+	$(MAKE) TOOL=target/sanitized CFLAGS='$(CFLAGS) $(SANITIZE)' test
+	RUNNER='$(VALGRIND)' EVERY=3 tests/tool.sh $(TOOL)
 
 compare: $(ARCHIVE)
-	cargo test --quiet --release --locked --offline --manifest-path compare/Cargo.toml --lib
-	$(COMPARE) --sheets $(SHEETS)
+	$(CARGO) test $(CARGO_WORDS) --lib
+	$(CARGO) run $(CARGO_WORDS) -- --sheets $(SHEETS)
 
 bench: $(ARCHIVE)
-	$(COMPARE) bench
+	$(CARGO) run $(CARGO_WORDS) -- bench
 
 lint:
 	cppcheck --quiet --std=c11 --enable=warning,style,performance,portability --inconclusive \
@@ -77,6 +85,6 @@ lint:
 check: lint test compare
 
 clean:
-	rm -rf $(TOOL)
+	rm -rf $(TOOL) target/sanitized target/cargo target/compare
 
 .PHONY: all archive demo test memcheck compare bench lint check clean

@@ -4,18 +4,19 @@
 #
 #   tests/tool.sh FOLDER      FOLDER has the programs moonbleat, example and unhex
 #
-# RUNNER, if set, is put before each call of the tool, as 'valgrind -q --error-exitcode=99'.
+# RUNNER, if set, is put before each call of the tool, as 'valgrind -q --error-exitcode=99'; with
+# EVERY=3 only before each third call.
 # (Refusal 19 is given only for a rewritten sheet, which no subcommand asks for.)
 
 set -u
 bin=$(cd "$1" && pwd) || exit 2
 strips=$(cd "$(dirname "$0")/../strips" && pwd) || exit 2
-tool="${RUNNER:-} $bin/moonbleat"
 work=$(mktemp -d) || exit 2
 trap 'rm -rf "$work"' EXIT
 cd "$work" || exit 2
 passed=0
 failed=0
+calls=0
 
 pass() {
     passed=$((passed + 1))
@@ -38,11 +39,21 @@ zeros() {
     head -c "$2" /dev/zero > "$1"
 }
 
+# tool WORD..: runs the tool.
+tool() {
+    calls=$((calls + 1))
+    if [ $((calls % ${EVERY:-1})) -eq 0 ]; then
+        ${RUNNER:-} "$bin/moonbleat" "$@"
+    else
+        "$bin/moonbleat" "$@"
+    fi
+}
+
 # call STATUS WORD..: runs the tool into stdout and stderr; its exit status must be STATUS.
 call() {
     wanted=$1
     shift
-    $tool "$@" > stdout 2> stderr
+    tool "$@" > stdout 2> stderr
     status=$?
     if [ "$status" -eq "$wanted" ]; then
         pass
@@ -461,18 +472,18 @@ call 0 run-tape sheet tape memory
 # Endless files: the answer is known after a part of them.
 refused '2 at 0 0' show /dev/zero
 refused '18 at 0 0' run sheet /dev/zero
-yes '4 0 0 0 0 0' 2> /dev/null | $tool run-tape sheet - memory > stdout 2> stderr
+yes '4 0 0 0 0 0' 2> /dev/null | tool run-tape sheet - memory > stdout 2> stderr
 says 'moonbleat: refusal 17 at 0 0'
 
 # Standard input.
 call 0 run sheet memory
 cp stdout expected
-$tool run sheet - < memory > stdout 2> stderr
+tool run sheet - < memory > stdout 2> stderr
 same 'memory from standard input' stdout expected
-$tool run - memory < sheet > stdout 2> stderr
+tool run - memory < sheet > stdout 2> stderr
 same 'sheet from standard input' stdout expected
-$tool tape - < sheet > printed 2> stderr
-$tool run-tape sheet - memory < printed > stdout 2> stderr
+tool tape - < sheet > printed 2> stderr
+tool run-tape sheet - memory < printed > stdout 2> stderr
 same 'tape from standard input' stdout expected
 
 # A refusal leaves an output file as it was; success replaces it and leaves nothing else.
@@ -499,7 +510,7 @@ same 'the memory file itself as output' start expected
 if [ -c /dev/full ]; then
     for words in 'run sheet memory' 'tape sheet' 'show sheet' 'check sheet --memory 64' '--help'; do
         # shellcheck disable=SC2086
-        $tool $words > /dev/full 2> stderr
+        tool $words > /dev/full 2> stderr
         if [ $? -eq 3 ]; then pass; else fail "$words to a full device"; fi
     done
 fi

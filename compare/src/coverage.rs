@@ -167,7 +167,7 @@ impl Coverage {
     pub fn table(&self) -> String {
         let mut table = format!("{:<8}", "number");
         for job in JOBS {
-            table += &format!("{:>18}", format!("{job:?} (places)"));
+            table += &format!("{:>20}", format!("{job:?} (places)"));
         }
         for number in 0..=19 {
             table += &format!("\n{number:<8}");
@@ -176,7 +176,7 @@ impl Coverage {
                     Some(answers) => format!("{} ({})", answers.count, answers.places.len()),
                     None => String::from("-"),
                 };
-                table += &format!("{cell:>18}");
+                table += &format!("{cell:>20}");
             }
         }
         table
