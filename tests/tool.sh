@@ -558,5 +558,5 @@ for text in 0 0g 'x1' '01 # 23' ; do
     esac
 done
 
-echo "$passed passed, $failed failed"
+echo "tests of the tool: $passed passed, $failed failed"
 [ "$failed" -eq 0 ]
