@@ -1,7 +1,7 @@
 # The C side of Moonbleat: the archive, the tool, its tests, and the comparison with the second
 # implementation. Everything is built in target/.
 #
-#   make            the tool, the example and unhex, in target/tool/
+#   make            the tool, the examples and unhex, in target/tool/
 #   make demo       print the tape of strip 4 and carry it out
 #   make archive    the library, target/staticlib/libmoonbleat.a
 #   make test       run the tool's tests
@@ -31,7 +31,7 @@ CARGO = CARGO_HOME='$(abspath target/cargo)' CARGO_TARGET_DIR='$(abspath target/
 	MOONBLEAT_ARCHIVE='$(abspath $(ARCHIVE))' cargo
 CARGO_WORDS = --quiet --release --locked --offline --manifest-path compare/Cargo.toml
 
-all: $(TOOL)/moonbleat $(TOOL)/example $(TOOL)/unhex
+all: $(TOOL)/moonbleat $(TOOL)/example $(TOOL)/readme $(TOOL)/unhex
 
 # rt keeps what it has proved; the time stamp tells make that it looked.
 target/staticlib/libmoonbleat.a: crates.txt $(shell find crates -name '*.rt' -o -name '*.antt')
@@ -48,6 +48,11 @@ $(TOOL)/moonbleat: $(TOOL_SOURCES) $(HEADERS) $(ARCHIVE) | $(TOOL)
 
 $(TOOL)/example: harness/example.c include/moonbleat.h $(ARCHIVE) | $(TOOL)
 	$(CC) $(WARNINGS) $(CFLAGS) -Iinclude harness/example.c $(ARCHIVE) $(LDLIBS) -o $@
+
+# The lines of C that README.md shows.
+$(TOOL)/readme: README.md include/moonbleat.h $(ARCHIVE) | $(TOOL)
+	sed -n '/^```c$$/,/^```$$/{/^```/!p;}' README.md > $@.c
+	$(CC) $(WARNINGS) $(CFLAGS) -Iinclude $@.c $(ARCHIVE) $(LDLIBS) -o $@
 
 $(TOOL)/unhex: harness/unhex.c | $(TOOL)
 	$(CC) $(WARNINGS) $(CFLAGS) harness/unhex.c -o $@

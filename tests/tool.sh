@@ -2,7 +2,7 @@
 # Tests of the command-line tool: the strips, every refusal that each subcommand can give, wrong
 # uses, and files that cannot be read or written.
 #
-#   tests/tool.sh FOLDER      FOLDER has the programs moonbleat, example and unhex
+#   tests/tool.sh FOLDER      FOLDER has the programs moonbleat, example, readme and unhex
 #
 # RUNNER, if set, is put before each call of the tool, as 'valgrind -q --error-exitcode=99'; with
 # EVERY=3 only before each third call.
@@ -10,7 +10,8 @@
 
 set -u
 bin=$(cd "$1" && pwd) || exit 2
-strips=$(cd "$(dirname "$0")/../strips" && pwd) || exit 2
+root=$(cd "$(dirname "$0")/.." && pwd) || exit 2
+strips=$root/strips
 work=$(mktemp -d) || exit 2
 trap 'rm -rf "$work"' EXIT
 cd "$work" || exit 2
@@ -79,6 +80,46 @@ says() {
     esac
 }
 
+# where NUMBER FIRST SECOND: the words for a refusal's place.
+where() {
+    case $1 in
+        1 | 2 | 3 | 4 | 5 | 6) echo " (byte $2 of the sheet)" ;;
+        7 | 8 | 9 | 10 | 11) echo " (step $2)" ;;
+        12 | 13 | 14 | 15) echo " (step $2, element $3)" ;;
+        17) echo " (record $2)" ;;
+    esac
+}
+
+# sentence NUMBER: what is said of a refusal.
+sentence() {
+    case $1 in
+        1) echo "a field's head or content runs past the end of the sheet" ;;
+        2) echo "the field's tag is not a known one" ;;
+        3) echo "the field is out of order, repeated or one too many, or the edition is missing" ;;
+        4) echo "the field's length is not one that its tag has" ;;
+        5) echo "a number of the field is out of its range" ;;
+        6) echo "the edition is not 1" ;;
+        7) echo "a register that the step reads is empty" ;;
+        8) echo "shapes or kinds of the step's matrices do not fit" ;;
+        9) echo "the base is not a multiple of 16" ;;
+        10) echo "the view has no dimensions and another dimension count than the layout" ;;
+        11) echo "a store goes through a layout with a block size above 1" ;;
+        12) echo "the index after the view is 2^32 or more" ;;
+        13) echo "the element lies outside the tensor and the clamp mode is Undefined" ;;
+        14) echo "the element's bytes do not all lie in memory" ;;
+        15) echo "the store has put an earlier element at the same byte" ;;
+        16) echo "the tape has more records than 1024 or than the room holds" ;;
+        17) echo "the record is out of range, or there are more than 1024 records" ;;
+        18) echo "the memory is longer than 65536 bytes" ;;
+    esac
+}
+
+# refuses NUMBER FIRST SECOND: standard error must be the line of that refusal, and nothing else.
+refuses() {
+    echo "moonbleat: refusal $1 at $2 $3$(where "$1" "$2" "$3"): $(sentence "$1")" > line
+    same "the line of refusal $1" stderr line
+}
+
 # silent: standard output must be empty.
 silent() {
     if [ -s stdout ]; then
@@ -121,13 +162,13 @@ refused_strip() {
     read -r number first second < "$strips/$1/tape.txt"
     call 1 tape sheet
     same "$1: tape" stdout "$strips/$1/tape.txt"
-    says "moonbleat: refusal $number at $first $second "
+    refuses "$number" "$first" "$second"
     call 1 check sheet --memory "$(wc -c < memory)"
     silent
-    says "moonbleat: refusal $number at $first $second "
+    refuses "$number" "$first" "$second"
     call 1 run sheet memory -o out
     silent
-    says "moonbleat: refusal $number at $first $second "
+    refuses "$number" "$first" "$second"
     absent out
 }
 
@@ -150,26 +191,28 @@ done
 
 # -- Refusals ------------------------------------------------------------------------------------
 
-# refused 'NUMBER PLACE SECOND' WORD..: the call must be refused so, and print nothing.
+# refused 'NUMBER FIRST SECOND' WORD..: the call must be refused so, and print nothing.
 refused() {
-    place=$1
+    three=$1
     shift
     call 1 "$@"
     silent
-    says "moonbleat: refusal $place"
+    # shellcheck disable=SC2086
+    refuses $three
 }
 
-# refused_tape 'NUMBER PLACE SECOND' WORD..: the same, and the three numbers on standard output.
+# refused_tape 'NUMBER FIRST SECOND' WORD..: the same, and the three numbers on standard output.
 refused_tape() {
-    place=$1
+    three=$1
     shift
     call 1 "$@"
-    says "moonbleat: refusal $place"
-    echo "$place" | sed 's/ at / /' > three
-    same "$*" stdout three
+    # shellcheck disable=SC2086
+    refuses $three
+    echo "$three" > numbers
+    same "$*" stdout numbers
 }
 
-# unreadable 'NUMBER at PLACE SECOND' HEX..: every subcommand refuses the sheet when it reads it.
+# unreadable 'NUMBER FIRST SECOND' HEX..: every subcommand refuses the sheet when it reads it.
 unreadable() {
     wanted_place=$1
     shift
@@ -182,7 +225,7 @@ unreadable() {
     absent out
 }
 
-# misstepped 'NUMBER at PLACE SECOND' HEX..: the sheet is read, and refused for 64 bytes of memory.
+# misstepped 'NUMBER FIRST SECOND' HEX..: the sheet is read, and refused for 64 bytes of memory.
 misstepped() {
     wanted_place=$1
     shift
@@ -207,99 +250,99 @@ reduce='23 0600 01 00 01 01 03 00'
 transpose='24 0200 01 00'
 multiply='25 0400 03 00 01 02'
 
-unreadable '1 at 0 0' 01
-unreadable '1 at 0 0' 01 01
-unreadable '1 at 0 0' 01 0100
-unreadable '1 at 0 0' 01 0200 01
-unreadable '1 at 4 0' "$edition" 10 10
-unreadable '1 at 23 0' "$edition $layout" 20 0800 00 01 08 00
-unreadable '1 at 4 0' "$edition" FF FFFF
-unreadable '2 at 0 0' 00 0000
-unreadable '2 at 4 0' "$edition" 12 0000
-unreadable '2 at 23 0' "$edition $layout" 26 0000
-unreadable '3 at 0 0' ''
-unreadable '3 at 0 0' "$layout"
-unreadable '3 at 4 0' "$edition $edition"
-unreadable '3 at 18 0' "$edition $view $layout"
-unreadable '3 at 15 0' "$edition $fill $view"
-unreadable '3 at 15 0' "$edition $fill $edition"
-unreadable '3 at 80 0' "$edition $layout $layout $layout $layout $layout"
-unreadable '3 at 60 0' "$edition $view $view $view $view $view"
+unreadable '1 0 0' 01
+unreadable '1 0 0' 01 01
+unreadable '1 0 0' 01 0100
+unreadable '1 0 0' 01 0200 01
+unreadable '1 4 0' "$edition" 10 10
+unreadable '1 23 0' "$edition $layout" 20 0800 00 01 08 00
+unreadable '1 4 0' "$edition" FF FFFF
+unreadable '2 0 0' 00 0000
+unreadable '2 4 0' "$edition" 12 0000
+unreadable '2 23 0' "$edition $layout" 26 0000
+unreadable '3 0 0' ''
+unreadable '3 0 0' "$layout"
+unreadable '3 4 0' "$edition $edition"
+unreadable '3 18 0' "$edition $view $layout"
+unreadable '3 15 0' "$edition $fill $view"
+unreadable '3 15 0' "$edition $fill $edition"
+unreadable '3 80 0' "$edition $layout $layout $layout $layout $layout"
+unreadable '3 60 0' "$edition $view $view $view $view $view"
 eight="$fill $fill $fill $fill $fill $fill $fill $fill"
 bytes sheet "$edition $eight $eight $eight $eight"
 call 0 show sheet
-unreadable '3 at 356 0' "$edition $eight $eight $eight $eight $fill"
-unreadable '4 at 0 0' 01 0000
-unreadable '4 at 0 0' 01 0200 01 01
-unreadable '4 at 4 0' "$edition" 10 0600 01 00 00000000
-unreadable '4 at 4 0' "$edition" 11 0A00 01 00 0000 FFFF 0000 FFFF
-unreadable '4 at 23 0' "$edition $layout" 24 0300 01 00 00
-unreadable '6 at 0 0' 01 0100 00
-unreadable '6 at 0 0' 01 0100 02
+unreadable '3 356 0' "$edition $eight $eight $eight $eight $fill"
+unreadable '4 0 0' 01 0000
+unreadable '4 0 0' 01 0200 01 01
+unreadable '4 4 0' "$edition" 10 0600 01 00 00000000
+unreadable '4 4 0' "$edition" 11 0A00 01 00 0000 FFFF 0000 FFFF
+unreadable '4 23 0' "$edition $layout" 24 0300 01 00 00
+unreadable '6 0 0' 01 0100 00
+unreadable '6 0 0' 01 0100 02
 # 5: dimension count, clamp mode, block size, dimension, offset, span.
-unreadable '5 at 4 0' "$edition" 10 1000 00 00 00000000 0100 0800 0100 0000 0800
-unreadable '5 at 4 0' "$edition" 10 1000 02 00 00000000 0100 0800 0100 0000 0800
-unreadable '5 at 4 0' "$edition" 10 1000 01 05 00000000 0100 0800 0100 0000 0800
-unreadable '5 at 4 0' "$edition" 10 1000 01 00 00000000 0000 0800 0100 0000 0800
-unreadable '5 at 4 0' "$edition" 10 1000 01 00 00000000 0110 0800 0100 0000 0800
-unreadable '5 at 4 0' "$edition" 10 1000 01 00 00000000 0100 0000 0100 0000 0800
-unreadable '5 at 4 0' "$edition" 10 1000 01 00 00000000 0100 0110 0100 0000 0800
-unreadable '5 at 4 0' "$edition" 10 1000 01 00 00000000 0100 0800 0100 0010 0800
-unreadable '5 at 4 0' "$edition" 10 1000 01 00 00000000 0100 0800 0100 FFEF 0800
-unreadable '5 at 4 0' "$edition" 10 1000 01 00 00000000 0100 0800 0100 0000 0000
-unreadable '5 at 23 0' "$edition $layout" 10 1000 01 00 00000000 0100 0800 0100 0000 0110
+unreadable '5 4 0' "$edition" 10 1000 00 00 00000000 0100 0800 0100 0000 0800
+unreadable '5 4 0' "$edition" 10 1000 02 00 00000000 0100 0800 0100 0000 0800
+unreadable '5 4 0' "$edition" 10 1000 01 05 00000000 0100 0800 0100 0000 0800
+unreadable '5 4 0' "$edition" 10 1000 01 00 00000000 0000 0800 0100 0000 0800
+unreadable '5 4 0' "$edition" 10 1000 01 00 00000000 0110 0800 0100 0000 0800
+unreadable '5 4 0' "$edition" 10 1000 01 00 00000000 0100 0000 0100 0000 0800
+unreadable '5 4 0' "$edition" 10 1000 01 00 00000000 0100 0110 0100 0000 0800
+unreadable '5 4 0' "$edition" 10 1000 01 00 00000000 0100 0800 0100 0010 0800
+unreadable '5 4 0' "$edition" 10 1000 01 00 00000000 0100 0800 0100 FFEF 0800
+unreadable '5 4 0' "$edition" 10 1000 01 00 00000000 0100 0800 0100 0000 0000
+unreadable '5 23 0' "$edition $layout" 10 1000 01 00 00000000 0100 0800 0100 0000 0110
 # 5: a view's dimension count, has-dimensions, permutation and view dimension.
-unreadable '5 at 4 0' "$edition" 11 0B00 02 00 00 0000 FFFF 0000 FFFF
-unreadable '5 at 4 0' "$edition" 11 0B00 01 02 00 0000 FFFF 0000 FFFF
-unreadable '5 at 4 0' "$edition" 11 0B00 01 00 01 0000 FFFF 0000 FFFF
-unreadable '5 at 4 0' "$edition" 11 0C00 02 00 00 00 0000 FFFF 0000 FFFF
-unreadable '5 at 4 0' "$edition" 11 0F00 01 01 00 0110 0100 0000 FFFF 0000 FFFF
+unreadable '5 4 0' "$edition" 11 0B00 02 00 00 0000 FFFF 0000 FFFF
+unreadable '5 4 0' "$edition" 11 0B00 01 02 00 0000 FFFF 0000 FFFF
+unreadable '5 4 0' "$edition" 11 0B00 01 00 01 0000 FFFF 0000 FFFF
+unreadable '5 4 0' "$edition" 11 0C00 02 00 00 00 0000 FFFF 0000 FFFF
+unreadable '5 4 0' "$edition" 11 0F00 01 01 00 0110 0100 0000 FFFF 0000 FFFF
 # 5: steps.
-unreadable '5 at 4 0' "$edition" 20 0800 04 01 08 00 00000000
-unreadable '5 at 4 0' "$edition" 20 0800 00 00 08 00 00000000
-unreadable '5 at 4 0' "$edition" 20 0800 00 01 11 00 00000000
-unreadable '5 at 4 0' "$edition" 20 0800 00 01 08 06 00000000
-unreadable '5 at 4 0' "$edition" 20 0800 00 01 08 00 00010000
-unreadable '5 at 15 0' "$edition $fill $load"
-unreadable '5 at 34 0' "$edition $layout $fill" 21 0800 00 04 00 FF 00000000
-unreadable '5 at 34 0' "$edition $layout $fill" 21 0800 00 FF 00 00 00000000
-unreadable '5 at 34 0' "$edition $layout $fill" 22 0700 00 01 FF 00000000
-unreadable '5 at 4 0' "$edition" 23 0600 01 00 01 01 00 00
-unreadable '5 at 4 0' "$edition" 23 0600 01 00 01 01 05 00
-unreadable '5 at 4 0' "$edition" 23 0600 01 00 01 01 03 06
-unreadable '5 at 4 0' "$edition" 24 0200 01 04
-unreadable '5 at 4 0' "$edition" 25 0400 03 00 01 04
+unreadable '5 4 0' "$edition" 20 0800 04 01 08 00 00000000
+unreadable '5 4 0' "$edition" 20 0800 00 00 08 00 00000000
+unreadable '5 4 0' "$edition" 20 0800 00 01 11 00 00000000
+unreadable '5 4 0' "$edition" 20 0800 00 01 08 06 00000000
+unreadable '5 4 0' "$edition" 20 0800 00 01 08 00 00010000
+unreadable '5 15 0' "$edition $fill $load"
+unreadable '5 34 0' "$edition $layout $fill" 21 0800 00 04 00 FF 00000000
+unreadable '5 34 0' "$edition $layout $fill" 21 0800 00 FF 00 00 00000000
+unreadable '5 34 0' "$edition $layout $fill" 22 0700 00 01 FF 00000000
+unreadable '5 4 0' "$edition" 23 0600 01 00 01 01 00 00
+unreadable '5 4 0' "$edition" 23 0600 01 00 01 01 05 00
+unreadable '5 4 0' "$edition" 23 0600 01 00 01 01 03 06
+unreadable '5 4 0' "$edition" 24 0200 01 04
+unreadable '5 4 0' "$edition" 25 0400 03 00 01 04
 
-misstepped '7 at 0 0' "$edition $layout $load"
-misstepped '7 at 0 0' "$edition $layout $store"
-misstepped '7 at 1 0' "$edition $layout $fill" 21 0800 00 01 00 FF 00000000
-misstepped '7 at 1 0' "$edition $fill" 23 0600 00 01 01 01 03 00
-misstepped '7 at 1 0' "$edition $fill" 24 0200 00 03
-misstepped '7 at 1 0' "$edition $fill $multiply"
-misstepped '8 at 1 0' "$edition $fill" 23 0600 01 00 02 01 01 00
-misstepped '8 at 1 0' "$edition $fill" 23 0600 01 00 01 07 02 00
-misstepped '8 at 1 0' "$edition $fill" 23 0600 01 00 01 04 04 00
-misstepped '8 at 3 0' "$edition $fill $reduce $transpose" 25 0400 03 00 01 00
-misstepped '8 at 1 0' "$edition" 20 0800 00 01 01 03 00000000 25 0400 03 00 00 00
-misstepped '9 at 1 0' "$edition $layout $fill" 21 0800 00 FF 00 FF 08000000
-misstepped '9 at 1 0' "$edition $layout $fill" 22 0700 00 00 FF 01000000
+misstepped '7 0 0' "$edition $layout $load"
+misstepped '7 0 0' "$edition $layout $store"
+misstepped '7 1 0' "$edition $layout $fill" 21 0800 00 01 00 FF 00000000
+misstepped '7 1 0' "$edition $fill" 23 0600 00 01 01 01 03 00
+misstepped '7 1 0' "$edition $fill" 24 0200 00 03
+misstepped '7 1 0' "$edition $fill $multiply"
+misstepped '8 1 0' "$edition $fill" 23 0600 01 00 02 01 01 00
+misstepped '8 1 0' "$edition $fill" 23 0600 01 00 01 07 02 00
+misstepped '8 1 0' "$edition $fill" 23 0600 01 00 01 04 04 00
+misstepped '8 3 0' "$edition $fill $reduce $transpose" 25 0400 03 00 01 00
+misstepped '8 1 0' "$edition" 20 0800 00 01 01 03 00000000 25 0400 03 00 00 00
+misstepped '9 1 0' "$edition $layout $fill" 21 0800 00 FF 00 FF 08000000
+misstepped '9 1 0' "$edition $layout $fill" 22 0700 00 00 FF 01000000
 two='11 0C00 02 00 00 01 0000 FFFF 0000 FFFF'
-misstepped '10 at 1 0' "$edition $layout $two $fill" 21 0800 00 FF 00 00 00000000
+misstepped '10 1 0' "$edition $layout $two $fill" 21 0800 00 FF 00 00 00000000
 blocks='10 1000 01 00 00000000 0200 0800 0100 0000 0800'
-misstepped '11 at 1 0' "$edition $blocks $fill $store"
+misstepped '11 1 0' "$edition $blocks $fill $store"
 wide='10 2E00 04 02 00000000 0100 0010 0000 0000 0010 0100 0010 0000 0000 0010
       0100 0010 0000 0000 0010 0100 0010 0000 0000 0010'
 outer_first='11 0E00 04 00 01 02 03 00 0000 FFFF 0000 FFFF'
-misstepped '12 at 1 1' "$edition $wide $outer_first $fill" 21 0800 00 FF 00 00 00000000
+misstepped '12 1 1' "$edition $wide $outer_first $fill" 21 0800 00 FF 00 00 00000000
 past='10 1000 01 00 00000000 0100 0400 0100 0000 0800'
-misstepped '13 at 1 4' "$edition $past $fill $load"
-misstepped '13 at 1 4' "$edition $past $fill $store"
-misstepped '14 at 1 0' "$edition $layout $fill" 21 0800 00 FF 00 FF 40000000
+misstepped '13 1 4' "$edition $past $fill $load"
+misstepped '13 1 4' "$edition $past $fill $store"
+misstepped '14 1 0' "$edition $layout $fill" 21 0800 00 FF 00 FF 40000000
 far='10 1000 01 00 00000000 0100 0800 1500 0000 0800'
-misstepped '14 at 1 4' "$edition $far $fill $load"
-misstepped '14 at 2 4' "$edition $far $fill $fill $store"
+misstepped '14 1 4' "$edition $far $fill $load"
+misstepped '14 2 4' "$edition $far $fill $fill $store"
 round='10 1000 01 00 00000000 0100 0800 0100 0000 0400'
-misstepped '15 at 1 4' "$edition $round $fill $store"
+misstepped '15 1 4' "$edition $round $fill $store"
 
 # 16: as many records as a tape may have, then one more.
 zigzag='10 1000 01 04 00000000 0100 0200 0100 0000 0010'
@@ -315,7 +358,7 @@ cp stdout ran
 call 0 run sheet memory
 same 'the longest tape' stdout ran
 bytes sheet "$edition $zigzag $sixteen $seven $rest" 21 0800 02 00 00 FF 00000000
-refused_tape '16 at 0 0' tape sheet
+refused_tape '16 0 0' tape sheet
 call 0 run sheet memory
 
 # 17: each record out of range behind two good ones.
@@ -332,41 +375,41 @@ tape_accepted() {
     call 0 run-tape sheet tape memory
 }
 bytes sheet "$edition $layout $fill $load $reduce" 24 0200 02 03 "$multiply $store"
-tape_refused '17 at 2 0' '5 0 0 0 0 0'
-tape_refused '17 at 2 0' '-1 0 0 0 0 0'
-tape_refused '17 at 2 0' '0 4 0 0 0 0'
-tape_refused '17 at 2 0' '0 1 -1 0 0 0'
-tape_refused '17 at 2 0' '0 1 1 0 0 0'
-tape_refused '17 at 2 0' '0 1 0 1 0 0'
-tape_refused '17 at 2 0' '0 1 0 0 0 1'
-tape_refused '17 at 3 0' '0 1 0 0 0 0' '0 1 2 0 0 0'
-tape_refused '17 at 2 0' '1 1 0 1 0 0'
-tape_refused '17 at 2 0' '1 0 0 0 0 0'
-tape_refused '17 at 2 0' '1 0 -1 1 0 0'
-tape_refused '17 at 2 0' '1 0 8 1 0 0'
-tape_refused '17 at 2 0' '1 0 2147483647 2147483647 0 0'
-tape_refused '17 at 2 0' '1 0 0 1 0 65536'
-tape_refused '17 at 2 0' '2 0 0 1 0 -65536'
-tape_refused '17 at 2 0' '2 0 0 1 -1 0'
-tape_refused '17 at 2 0' '2 0 0 1 64 0'
-tape_refused '17 at 2 0' '2 0 0 2 63 1'
-tape_refused '17 at 2 0' '2 0 0 2 0 -1'
-tape_refused '17 at 2 0' '3 3 0 1 0 0'
-tape_refused '17 at 2 0' '3 0 0 1 256 0'
-tape_refused '17 at 2 0' '3 0 0 1 -1 0'
-tape_refused '17 at 2 0' '3 0 0 1 0 1'
-tape_refused '17 at 2 0' '4 1 0 0 0 0'
-tape_refused '17 at 2 0' '4 5 0 0 0 0'
-tape_refused '17 at 2 0' '4 6 0 0 0 0'
-tape_refused '17 at 2 0' '4 -1 0 0 0 0'
-tape_refused '17 at 2 0' '4 3 0 0 0 0'
-tape_refused '17 at 3 0' '4 2 0 0 0 0' '4 4 0 0 0 0'
-tape_refused '17 at 2 0' '4 0 0 0 0 1'
+tape_refused '17 2 0' '5 0 0 0 0 0'
+tape_refused '17 2 0' '-1 0 0 0 0 0'
+tape_refused '17 2 0' '0 4 0 0 0 0'
+tape_refused '17 2 0' '0 1 -1 0 0 0'
+tape_refused '17 2 0' '0 1 1 0 0 0'
+tape_refused '17 2 0' '0 1 0 1 0 0'
+tape_refused '17 2 0' '0 1 0 0 0 1'
+tape_refused '17 3 0' '0 1 0 0 0 0' '0 1 2 0 0 0'
+tape_refused '17 2 0' '1 1 0 1 0 0'
+tape_refused '17 2 0' '1 0 0 0 0 0'
+tape_refused '17 2 0' '1 0 -1 1 0 0'
+tape_refused '17 2 0' '1 0 8 1 0 0'
+tape_refused '17 2 0' '1 0 2147483647 2147483647 0 0'
+tape_refused '17 2 0' '1 0 0 1 0 65536'
+tape_refused '17 2 0' '2 0 0 1 0 -65536'
+tape_refused '17 2 0' '2 0 0 1 -1 0'
+tape_refused '17 2 0' '2 0 0 1 64 0'
+tape_refused '17 2 0' '2 0 0 2 63 1'
+tape_refused '17 2 0' '2 0 0 2 0 -1'
+tape_refused '17 2 0' '3 3 0 1 0 0'
+tape_refused '17 2 0' '3 0 0 1 256 0'
+tape_refused '17 2 0' '3 0 0 1 -1 0'
+tape_refused '17 2 0' '3 0 0 1 0 1'
+tape_refused '17 2 0' '4 1 0 0 0 0'
+tape_refused '17 2 0' '4 5 0 0 0 0'
+tape_refused '17 2 0' '4 6 0 0 0 0'
+tape_refused '17 2 0' '4 -1 0 0 0 0'
+tape_refused '17 2 0' '4 3 0 0 0 0'
+tape_refused '17 3 0' '4 2 0 0 0 0' '4 4 0 0 0 0'
+tape_refused '17 2 0' '4 0 0 0 0 1'
 tape_accepted '1 0 7 1 63 65535'
 tape_accepted '2 0 7 1 63 -65535' '2 0 0 8 7 -1' '2 0 0 8 0 0'
 tape_accepted '3 0 0 8 255 0' '0 3 0 0 0 0' '4 3 0 0 0 0'
 { cat longest; echo '4 0 0 0 0 0'; } > tape
-refused '17 at 0 0' run-tape sheet tape memory
+refused '17 0 0' run-tape sheet tape memory
 
 # 18 comes before everything else.
 zeros memory 65536
@@ -377,11 +420,11 @@ zeros memory 65537
 : > tape
 for hex in "$edition $fill" 01; do
     bytes sheet "$hex"
-    refused '18 at 0 0' check sheet --memory 65537
-    refused '18 at 0 0' check sheet --memory 18446744073709551615
-    refused '18 at 0 0' run sheet memory -o out
-    refused '18 at 0 0' run-tape sheet tape memory -o out
-    refused_tape '18 at 0 0' tape sheet --memory 65537
+    refused '18 0 0' check sheet --memory 65537
+    refused '18 0 0' check sheet --memory 18446744073709551615
+    refused '18 0 0' run sheet memory -o out
+    refused '18 0 0' run-tape sheet tape memory -o out
+    refused_tape '18 0 0' tape sheet --memory 65537
     absent out
 done
 
@@ -470,8 +513,8 @@ call 0 run-tape sheet tape memory
 call 0 run-tape sheet tape memory
 
 # Endless files: the answer is known after a part of them.
-refused '2 at 0 0' show /dev/zero
-refused '18 at 0 0' run sheet /dev/zero
+refused '2 0 0' show /dev/zero
+refused '18 0 0' run sheet /dev/zero
 yes '4 0 0 0 0 0' 2> /dev/null | tool run-tape sheet - memory > stdout 2> stderr
 says 'moonbleat: refusal 17 at 0 0'
 
@@ -490,7 +533,7 @@ same 'tape from standard input' stdout expected
 bytes sheet "$edition $layout" 20 0800 00 01 08 00 07000000 "$store"
 echo old > out
 bytes refused_sheet "$edition $layout $load"
-refused '7 at 0 0' run refused_sheet memory -o out
+refused '7 0 0' run refused_sheet memory -o out
 echo old > expected
 same 'an output file after a refusal' out expected
 call 0 run sheet memory -o out
@@ -545,10 +588,23 @@ step 5: multiply registers 0 and 1, add register 2, to register 3
 END
 same 'a sheet in words' stdout expected
 
-# The example, and hex that is none.
+# The examples, and what README.md says that they print.
 ${RUNNER:-} "$bin/example" > stdout 2> stderr
 printf '%s\n' ' 12 11 10 11 12 13 12 11' '8 elements came from memory' > expected
 same 'the example' stdout expected
+${RUNNER:-} "$bin/readme" > stdout 2> stderr
+echo '1 by 4, first element 7' > expected
+same 'the lines of C in README.md' stdout expected
+sed -n '/^    -- its tape$/,/^    accepted/s/^    //p' "$root/README.md" > expected
+{
+    echo '-- its tape'
+    cat "$strips/04-mirror-repeat/tape.txt"
+    echo '-- carried out on a memory whose byte i holds i'
+    cat "$strips/04-mirror-repeat/run.txt"
+} > stdout
+same 'the tape in README.md' stdout expected
+
+# Hex that is none.
 for text in 0 0g 'x1' '01 # 23' ; do
     status=0
     echo "$text" | "$bin/unhex" > stdout 2> stderr || status=1
