@@ -5,7 +5,7 @@
 #   make demo       print the tape of strip 4 and carry it out
 #   make archive    the library, target/staticlib/libmoonbleat.a
 #   make test       run the tool's tests
-#   make compare    hold the archive to the second implementation; SHEETS=n for another number
+#   make compare    hold the archive to the second implementation; SHEETS=n SEED=n for other sheets
 #   make bench      time the archive beside it
 #   make lint       cppcheck, warnings as errors, and the header as C++
 #   make check      lint, test and compare: all but the proofs
@@ -18,6 +18,7 @@
 TOOL = target/tool
 ARCHIVE = target/staticlib/libmoonbleat.a
 SHEETS = 20000
+SEED = 1
 
 CFLAGS = -O2 -g
 WARNINGS = -std=c11 -Wall -Wextra -Wpedantic -Werror
@@ -76,7 +77,7 @@ memcheck: all
 
 compare: $(ARCHIVE)
 	$(CARGO) test $(CARGO_WORDS) --lib
-	$(CARGO) run $(CARGO_WORDS) -- --sheets $(SHEETS)
+	$(CARGO) run $(CARGO_WORDS) -- --sheets $(SHEETS) --seed $(SEED)
 
 bench: $(ARCHIVE)
 	$(CARGO) run $(CARGO_WORDS) -- bench
