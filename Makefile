@@ -9,8 +9,9 @@
 #   make bench      time the archive beside it
 #   make lint       cppcheck, warnings as errors, and the header as C++
 #   make check      lint, test and compare: all but the proofs
-#   make memcheck   the tool's tests with sanitizers, then with each third call under valgrind:
-#                   some two minutes, where all calls would take six
+#   make memcheck   the tool's tests with sanitizers, then with each third call under valgrind (all
+#                   of them would take six minutes), then 1,000 sheets of the comparison under it:
+#                   some two minutes
 #
 # The archive is made by `rt staticlib moonbleat`, which proves what is not proved yet: some
 # minutes the first time. ARCHIVE=path names another one.
@@ -23,7 +24,8 @@ SEED = 1
 CFLAGS = -O2 -g
 WARNINGS = -std=c11 -Wall -Wextra -Wpedantic -Werror
 SANITIZE = -fsanitize=address,undefined -fno-sanitize-recover=all
-VALGRIND = valgrind -q --error-exitcode=99 --leak-check=full --show-leak-kinds=all
+VALGRIND = valgrind -q --vgdb=no --error-exitcode=99
+LEAKS = --leak-check=full --show-leak-kinds=all --errors-for-leak-kinds=all
 HEADERS = include/moonbleat.h $(wildcard harness/*.h)
 TOOL_SOURCES = harness/moonbleat.c harness/files.c harness/kinds.c harness/refusals.c harness/show.c harness/tape_text.c
 
@@ -73,7 +75,8 @@ test: all
 
 memcheck: all
 	$(MAKE) TOOL=target/sanitized CFLAGS='$(CFLAGS) $(SANITIZE)' test
-	RUNNER='$(VALGRIND)' EVERY=3 tests/tool.sh $(TOOL)
+	RUNNER='$(VALGRIND) $(LEAKS)' EVERY=3 tests/tool.sh $(TOOL)
+	CARGO_TARGET_X86_64_UNKNOWN_LINUX_GNU_RUNNER='$(VALGRIND)' $(CARGO) run $(CARGO_WORDS) -- --sheets 1000
 
 compare: $(ARCHIVE)
 	$(CARGO) test $(CARGO_WORDS) --lib

@@ -1,6 +1,6 @@
 #!/bin/sh
 # Tests of the command-line tool: the strips, every refusal that each subcommand can give, wrong
-# uses, and files that cannot be read or written.
+# uses, standard input, files that cannot be read or written, and what is printed.
 #
 #   tests/tool.sh FOLDER      FOLDER has the programs moonbleat, example, readme and unhex
 #
@@ -430,83 +430,109 @@ done
 
 # -- Wrong uses ----------------------------------------------------------------------------------
 
-# wrong WORD..: exit status 2, the help on standard error.
+call 0 --help
+cp stdout help
+if grep -q '^usage:$' help; then pass; else fail 'no help'; fi
+call 0 -h
+same '-h' stdout help
+
+# wrong TEXT WORD..: exit status 2, nothing printed, the text and the help on standard error.
 wrong() {
+    text=$1
+    shift
     call 2 "$@"
     silent
-    if grep -q '^usage:$' stderr; then pass; else fail "$*: no help"; fi
+    { echo "moonbleat: $text"; cat help; } > expected
+    same "wrong use: $*" stderr expected
+    absent out
 }
 
 zeros memory 64
 bytes sheet "$edition $layout $fill $load"
-wrong
-wrong nothing
-wrong check
-wrong check sheet
-wrong check sheet --memory
-wrong check sheet --memory -1
-wrong check sheet --memory 12x
-wrong check sheet --memory ''
-wrong check sheet --memory 18446744073709551616
-wrong check sheet --memory 99999999999999999999999
-wrong check sheet sheet --memory 64
-wrong check sheet --memory 64 -o out
-wrong run sheet
-wrong run sheet memory memory
-wrong run sheet memory -o
-wrong run sheet memory -o -
-wrong run sheet memory --memory 64
-wrong run - -
-wrong run-tape sheet memory
-wrong run-tape - tape -
-wrong tape
-wrong tape sheet -x
-wrong show
-wrong show sheet --memory 64
-call 0 --help
-if grep -q '^usage:$' stdout; then pass; else fail 'no help'; fi
+: > tape
+rm -f out
+wrong 'what is to be done?'
+wrong 'unknown command nothing' nothing
+wrong 'unknown command ' ''
+wrong 'check takes 1 file(s)' check
+wrong 'check needs --memory N' check sheet
+wrong '--memory needs a word after it' check sheet --memory
+wrong '--memory -1: not a length in bytes' check sheet --memory -1
+wrong '--memory 12x: not a length in bytes' check sheet --memory 12x
+wrong '--memory : not a length in bytes' check sheet --memory ''
+wrong '--memory 18446744073709551616: not a length in bytes' check sheet --memory 18446744073709551616
+wrong '--memory 99999999999999999999999: not a length in bytes' check sheet --memory 99999999999999999999999
+wrong 'check takes 1 file(s), and memory is one more' check sheet memory --memory 64
+wrong 'check does not take -o' check sheet --memory 64 -o out
+wrong 'run takes 2 file(s)' run sheet
+wrong 'run takes 2 file(s), and tape is one more' run sheet memory tape
+wrong '-o needs a word after it' run sheet memory -o
+wrong '-o needs the name of a file' run sheet memory -o -
+wrong 'run does not take --memory' run sheet memory -o out --memory 64
+wrong 'run does not take --output' run sheet memory --output out
+wrong 'standard input can be read only once' run - - -o out
+wrong 'run-tape takes 3 file(s)' run-tape sheet memory
+wrong 'run-tape takes 3 file(s), and out is one more' run-tape sheet tape memory out
+wrong 'standard input can be read only once' run-tape - tape -
+wrong 'tape takes 1 file(s)' tape
+wrong 'tape does not take -x' tape sheet -x
+wrong 'tape does not take -o' tape sheet -o out
+wrong 'show takes 1 file(s)' show
+wrong 'show does not take --memory' show sheet --memory 64
 
-# -- Files ---------------------------------------------------------------------------------------
+# -- Files that cannot be read -------------------------------------------------------------------
 
-# broken WORD..: exit status 3, something said, nothing printed.
+# broken TEXT WORD..: exit status 3, nothing printed, and standard error is the text.
 broken() {
+    text=$1
+    shift
     call 3 "$@"
     silent
-    says 'moonbleat: '
+    echo "moonbleat: $text" > expected
+    same "$*" stderr expected
 }
 
-broken check nowhere --memory 64
-broken check . --memory 64
-broken run nowhere memory
-broken run sheet nowhere
-broken run sheet .
-broken run-tape sheet nowhere memory
-broken run-tape sheet . memory
-broken show nowhere
-broken tape nowhere
-broken run sheet memory -o nowhere/out
-mkdir -p folder
-broken run sheet memory -o folder
-broken run sheet memory -o /dev/null
-if [ -c /dev/null ]; then pass; else fail '/dev/null was replaced'; fi
+gone='No such file or directory'
+broken "nowhere: $gone" check nowhere --memory 64
+broken "nowhere: $gone" show nowhere
+broken "nowhere: $gone" tape nowhere
+broken "nowhere: $gone" run nowhere memory -o out
+broken "nowhere: $gone" run sheet nowhere -o out
+broken "nowhere: $gone" run-tape nowhere tape memory -o out
+broken "nowhere: $gone" run-tape sheet nowhere memory -o out
+broken "nowhere: $gone" run-tape sheet tape nowhere -o out
+broken '.: Is a directory' check . --memory 64
+broken '.: Is a directory' run sheet . -o out
+broken '.: Is a directory' run-tape sheet . memory -o out
+broken 'sheet/inside: Not a directory' show sheet/inside
+absent out
 
-# no_tape TEXT: a tape file that is none.
+# no_tape LINE TEXT: a tape file whose line LINE is no record.
 no_tape() {
-    printf '%b' "$1" > tape
-    broken run-tape sheet tape memory -o out
+    printf '%b' "$2" > tape
+    broken "tape: line $1 is no record of six 32-bit numbers" run-tape sheet tape memory -o out
     absent out
 }
-no_tape '4 0 0 0 0\n'
-no_tape '4 0 0 0 0 0 0\n'
-no_tape '4 0 0 0 0 x\n'
-no_tape '4 0 0 0 0 -\n'
-no_tape '4 0 0 0 0 2147483648\n'
-no_tape '4 0 0 0 0 -2147483649\n'
-no_tape '4 0 0 0 0 99999999999999999999\n'
-no_tape '4-0 0 0 0 0\n'
-no_tape '4 0 0 0 0 0\n\n'
-no_tape '4 0 0 0 0 0\n4 0\n'
-no_tape '\0000'
+good='4 0 0 0 0 0\n'
+no_tape 1 '4 0 0 0 0\n'
+no_tape 1 '4 0 0 0 0 0 0\n'
+no_tape 1 '4 0 0 0 0 x\n'
+no_tape 1 '4 0 0 0 0 -\n'
+no_tape 1 '4 0 0 0 0 +1\n'
+no_tape 1 '4 0 0 0 0 0x1\n'
+no_tape 1 '4 0 0 0 0 1.0\n'
+no_tape 1 '4 0 0 0 0 2147483648\n'
+no_tape 1 '4 0 0 0 0 -2147483649\n'
+no_tape 1 '4 0 0 0 0 99999999999999999999\n'
+no_tape 1 '4-0 0 0 0 0\n'
+no_tape 1 '\n'
+no_tape 1 '\0000'
+no_tape 2 "$good\n"
+no_tape 2 "$good\n$good"
+no_tape 2 "${good}4 0\n"
+no_tape 3 "$good${good}1 0 0 8 0 1O\n$good"
+{ head -n 1023 longest; echo '4 0 0 0 0 2147483648'; } > tape
+broken 'tape: line 1024 is no record of six 32-bit numbers' run-tape sheet tape memory -o out
 printf '4  0 0\t0 0 0 \r\n1 0 0 8 0 1' > tape
 call 0 run-tape sheet tape memory
 : > tape
@@ -516,38 +542,125 @@ call 0 run-tape sheet tape memory
 refused '2 0 0' show /dev/zero
 refused '18 0 0' run sheet /dev/zero
 yes '4 0 0 0 0 0' 2> /dev/null | tool run-tape sheet - memory > stdout 2> stderr
-says 'moonbleat: refusal 17 at 0 0'
+refuses 17 0 0
 
-# Standard input.
-call 0 run sheet memory
-cp stdout expected
-tool run sheet - < memory > stdout 2> stderr
-same 'memory from standard input' stdout expected
-tool run - memory < sheet > stdout 2> stderr
-same 'sheet from standard input' stdout expected
-tool tape - < sheet > printed 2> stderr
-tool run-tape sheet - memory < printed > stdout 2> stderr
-same 'tape from standard input' stdout expected
+# -- Standard input ------------------------------------------------------------------------------
 
-# A refusal leaves an output file as it was; success replaces it and leaves nothing else.
-bytes sheet "$edition $layout" 20 0800 00 01 08 00 07000000 "$store"
-echo old > out
-bytes refused_sheet "$edition $layout $load"
-refused '7 0 0' run refused_sheet memory -o out
-echo old > expected
-same 'an output file after a refusal' out expected
-call 0 run sheet memory -o out
-bytes expected 07070707 07070707
-head -c 8 out > start
-same 'an output file' start expected
-if [ "$(wc -c < out)" -eq 64 ]; then pass; else fail 'length of an output file'; fi
+bytes sheet "$edition $layout" 20 0800 00 01 08 00 07000000 "$store $load"
+call 0 run sheet memory -o expected_out
+cp stdout expected_run
+call 0 check sheet --memory 64
+cp stdout expected_check
+call 0 show sheet
+cp stdout expected_show
+call 0 tape sheet
+cp stdout tape
+
+call 0 check - --memory 64 < sheet
+same 'check -' stdout expected_check
+call 0 show - < sheet
+same 'show -' stdout expected_show
+call 0 tape - < sheet
+same 'tape -' stdout tape
+call 0 run - memory -o out < sheet
+same 'run -, a sheet' stdout expected_run
+same 'run -, a sheet: memory' out expected_out
 rm out
-call 0 run sheet memory -o out
+call 0 run sheet - -o out < memory
+same 'run -, a memory' stdout expected_run
+same 'run -, a memory: memory' out expected_out
 rm out
+call 0 run-tape - tape memory < sheet
+same 'run-tape -, a sheet' stdout expected_run
+call 0 run-tape sheet - memory < tape
+same 'run-tape -, a tape' stdout expected_run
+call 0 run-tape sheet tape - -o out < memory
+same 'run-tape -, a memory' stdout expected_run
+same 'run-tape -, a memory: memory' out expected_out
+rm out
+refused '3 0 0' check - --memory 64 < /dev/null
+refused '14 1 0' run sheet - -o out < /dev/null
+call 3 run-tape sheet - memory -o out < help
+silent
+says 'moonbleat: -: line 1 is no record of six 32-bit numbers'
+call 3 show - < .
+silent
+says 'moonbleat: -: Is a directory'
 absent out
-call 0 run sheet memory -o memory
-head -c 8 memory > start
-same 'the memory file itself as output' start expected
+cp sheet ./-
+call 0 show ./- < /dev/null
+same 'a file named -' stdout expected_show
+
+# -- Files that are written ----------------------------------------------------------------------
+
+# A refusal leaves an output file as it was.
+bytes refused_sheet "$edition $layout $load"
+zeros old 100
+cp old out
+refused '7 0 0' run refused_sheet memory -o out
+same 'an output file after a refusal' out old
+echo '4 1 0 0 0 0' > refused_tape
+refused '17 0 0' run-tape sheet refused_tape memory -o out
+same 'an output file after a refused tape' out old
+zeros long_memory 65537
+refused '18 0 0' run sheet long_memory -o out
+same 'an output file after too long a memory' out old
+
+# Success replaces it by all of the memory, and leaves nothing else. The memory's own file stays.
+cp memory before
+mkdir folder
+cp old folder/out
+call 0 run sheet memory -o folder/out
+same 'an output file' folder/out expected_out
+same 'the memory file' memory before
+if [ "$(ls -A folder)" = out ]; then pass; else fail "left in the folder: $(ls -A folder)"; fi
+if [ "$(wc -c < folder/out)" -eq 64 ]; then pass; else fail 'length of an output file'; fi
+cp memory itself
+call 0 run sheet itself -o itself
+same 'the memory file itself as output' itself expected_out
+
+# A memory of 0 bytes is written as a file of 0 bytes.
+bytes fill_sheet "$edition $fill"
+: > nothing
+cp old out
+call 0 run fill_sheet nothing -o out
+same 'an empty output file' out nothing
+rm out
+
+# An output that cannot be written leaves everything as it was.
+broken "nowhere/out: $gone" run sheet memory -o nowhere/out
+broken 'sheet/out: Not a directory' run sheet memory -o sheet/out
+broken 'folder: not a regular file' run sheet memory -o folder
+mkfifo pipe
+broken 'pipe: not a regular file' run-tape sheet tape memory -o pipe
+if [ -p pipe ]; then pass; else fail 'a pipe was replaced'; fi
+# Through a link, so that a fault here could not replace the device itself.
+ln -s /dev/null device
+broken 'device: not a regular file' run sheet memory -o device
+if [ -h device ]; then pass; else fail 'a device was replaced'; fi
+# Nobody can make a file in the first folder; in the second, root can.
+call 3 run sheet memory -o /proc/out
+silent
+says 'moonbleat: /proc/out: '
+chmod 555 folder
+if [ ! -w folder ]; then
+    broken 'folder/out: Permission denied' run sheet memory -o folder/out
+    same 'an output file in a closed folder' folder/out expected_out
+fi
+chmod 755 folder
+# A file that may not grow past 512 bytes or so stands for a full disk.
+zeros large 65536
+cp old folder/out
+(
+    trap '' XFSZ
+    ulimit -f 1
+    tool run sheet large -o folder/out > stdout 2> stderr
+)
+if [ $? -eq 3 ]; then pass; else fail 'a full disk'; fi
+silent
+says 'moonbleat: folder/out: File too large'
+same 'an output file on a full disk' folder/out old
+if [ "$(ls -A folder)" = out ]; then pass; else fail "left on a full disk: $(ls -A folder)"; fi
 
 # What cannot be printed is not a success.
 if [ -c /dev/full ]; then
@@ -555,8 +668,11 @@ if [ -c /dev/full ]; then
         # shellcheck disable=SC2086
         tool $words > /dev/full 2> stderr
         if [ $? -eq 3 ]; then pass; else fail "$words to a full device"; fi
+        says 'moonbleat: standard output: No space left on device'
     done
 fi
+
+# -- What is printed -----------------------------------------------------------------------------
 
 # Elements go by their sign.
 bytes sheet "$edition" 20 0800 00 01 02 01 FF000000 20 0800 01 01 01 03 00800000 \
