@@ -44,6 +44,12 @@ pub struct Performed {
     pub count: usize,
 }
 
+// The same after a step: the registers' elements are lent too, so that they are not copied for each step.
+pub struct Stepped {
+    pub types: [MatrixType; 4],
+    pub count: usize,
+}
+
 // Whether a sheet would be refused for a memory of a length, and how many elements of its loads and stores have a byte.
 pub fn check_sheet(sheet: &[u8], memory_len: usize) -> CheckAnswer
     ensures { λ r. ⌜ r ≡ checkedSheet (now (sheet .entry)) «memory_len» ⌝ }
