@@ -13,13 +13,14 @@ use Rattle.sheet.specs.Steps.{theStep, loadOk, storeOk}
 use Rattle.sheet.specs.declared.Sheet.{Sheet}
 use Rattle.sheet.specs.declared.Step.{Step}
 use Rattle.sheet.specs.declared.Step.the-variants.{Nothing, Fill, Load, Store, Reduce, Transpose, MultiplyAdd}
+use Rattle.whole_steps.specs.Refusals.{wholeRefusal}
 use Rattle.whole_steps.specs.Whole.{wholeTypes}
 use Rattle.registers.specs.Types.{noType}
 use Rattle.registers.specs.Registers.{emptyRegisters}
 use Rattle.registers.specs.declared.MatrixType.{MatrixType}
 use Rattle.registers.specs.declared.Registers.{Registers}
 use Rattle.sheet_reader.specs.Reading.{readSheet}
-use Rattle.carrying.specs.Steps.{objectOf, stepTypes, checkedStep, machine}
+use Rattle.carrying.specs.Steps.{objectOf, stepTypes, checkedStep, Machine, machine, wholeStepDone, performedStep}
 use Rattle.carrying.specs.Carrying.{refusalAt, memoryLimit, checkRefused, checkedFrom, checked, checkedSheet, started, performed, carryAnswer, carried, carriedMemory}
 use Rattle.carrying.specs.declared.StepCheck.{StepCheck}
 use Rattle.carrying.specs.declared.CheckAnswer.{CheckAnswer}
@@ -63,6 +64,30 @@ rest-types ts (Store register layout view base) h = refl
 rest-types ts (Reduce result source rows columns mode combine) h = refl
 rest-types ts (Transpose result source) h = refl
 rest-types ts (MultiplyAdd result a b c) h = refl
+
+-- and of a step that is no store either, the whole step's refusal and deed
+module _ (sh : Sheet) where
+  pub rest-refusal : (ts : List MatrixType) (len : ℕ) (step : Step) → ((register object layout view base : ℕ) → step ≡ Load register object layout view base → ⊥)
+      → ((register layout view base : ℕ) → step ≡ Store register layout view base → ⊥) → checkedStep sh ts len step .stop .number ≡ wholeRefusal ts step
+  unfolding checkedStep
+  rest-refusal ts len Nothing h g = refl
+  rest-refusal ts len (Fill register rows columns kind value) h g = refl
+  rest-refusal ts len (Load register object layout view base) h g = absurd (h register object layout view base refl)
+  rest-refusal ts len (Store register layout view base) h g = absurd (g register layout view base refl)
+  rest-refusal ts len (Reduce result source rows columns mode combine) h g = refl
+  rest-refusal ts len (Transpose result source) h g = refl
+  rest-refusal ts len (MultiplyAdd result a b c) h g = refl
+
+  pub rest-done : (step : Step) (m : Machine) → ((register object layout view base : ℕ) → step ≡ Load register object layout view base → ⊥)
+      → ((register layout view base : ℕ) → step ≡ Store register layout view base → ⊥) → wholeStepDone step m ≡ performedStep sh step m
+  unfolding performedStep
+  rest-done Nothing m h g = refl
+  rest-done (Fill register rows columns kind value) m h g = refl
+  rest-done (Load register object layout view base) m h g = absurd (h register object layout view base refl)
+  rest-done (Store register layout view base) m h g = absurd (g register layout view base refl)
+  rest-done (Reduce result source rows columns mode combine) m h g = refl
+  rest-done (Transpose result source) m h g = refl
+  rest-done (MultiplyAdd result a b c) m h g = refl
 
 one-less : (n k : ℕ) → k < n → n - k ≡ suc (n - (k + 1))
 one-less n k h = omega arith

@@ -103,8 +103,11 @@ machine registers memory count = record { registers = registers; memory = memory
 abbrev pub stateOf : Machine → State
 stateOf m = state (m .registers .elements) (m .memory) (m .count)
 
+abbrev pub registersOf : List MatrixType → List ℕ → Registers
+registersOf types elements = record { types = types; elements = elements }
+
 abbrev pub machineOf : List MatrixType → State → Machine
-machineOf types s = machine (record { types = types; elements = s .elements }) (s .memory) (s .count)
+machineOf types s = machine (registersOf types (s .elements)) (s .memory) (s .count)
 
 -- the elements of a load into a register that its object was copied to, and of a store
 unfoldable pub loadDone : Sheet → ℕ → ℕ → ℕ → ℕ → Machine → Machine

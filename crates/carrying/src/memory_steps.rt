@@ -8,15 +8,14 @@ ghost use Rattle.registers.specs.Sized.{Sized, SizedType};
 ghost use Rattle.registers.specs.Types.{theType};
 ghost use Rattle.addressing.specs.Valid.{SizedAccess};
 ghost use Rattle.round_trip.specs.Sheets.{Within};
-ghost use Rattle.carrying.specs.Steps.{viewNamed, accessOf, stepCheck, loadCheck, storeCheck, machine, loadDone, storeDone};
+ghost use Rattle.transfers.specs.Acts.{state};
+ghost use Rattle.carrying.specs.Steps.{viewNamed, accessOf, stepCheck, loadCheck, storeCheck, machineOf, loadDone, storeDone};
 ghost use Rattle.carrying.specs.Carrying.{memoryLimit};
 ghost use Rattle.carrying.specs.Accesses.{Clear};
-use super::Performed;
 use super::StepCheck;
 use accesses::Stop;
 use addressing::Access;
 use registers::MatrixType;
-use registers::Registers;
 use sheet::Sheet;
 use sheet::View;
 use sheet::sizes;
@@ -128,39 +127,35 @@ pub fn check_store(
     }
 }
 
-// The elements of a load into a register that its object was copied to.
+// The elements of a load into a register that its object was copied to. The answer is the count with each element that had a byte.
 pub fn perform_load(
     sheet: Sheet,
-    registers: Registers,
+    types: [MatrixType; 4],
+    elements: &mut [u32; 1024],
     memory: &[u8],
     register: u8,
     layout: u8,
     view: u8,
     base: u32,
     count: usize,
-) -> Performed
-    requires { ⌜ Within sheet × Sized (registers .types) × (register < 4) × (length (now memory) ≤ memoryLimit) × (count < 2 ^ 31) ⌝ }
-    requires { ⌜ Clear (theType (registers .types) register) (accessOf sheet true layout view base (theType (registers .types) register) (length (now memory))) ⌝ }
+) -> usize
+    requires { ⌜ Within sheet × Sized types × (register < 4) × (length (now memory) ≤ memoryLimit) × (count < 2 ^ 31) ⌝ }
+    requires { ⌜ Clear (theType types register) (accessOf sheet true layout view base (theType types register) (length (now memory))) ⌝ }
     requires { ⌜ (layout < sheet .layouts) × (optionOk (sheet .views) view ≡ true) ⌝ }
-    ensures { λ r. ⌜ machine (r .registers) (now (memory .entry)) (r .count) ≡ loadDone sheet register layout view base (machine registers (now (memory .entry)) count) ⌝ }
+    ensures { λ r. ⌜ machineOf types (state (now (elements .exit)) (now (memory .entry)) r) ≡ loadDone sheet register layout view base (machineOf types (state (now (elements .entry)) (now (memory .entry)) count)) ⌝ }
 {
-    let types = registers.types;
     let t = registers::the_type(types, register);
     let a = access_of(sheet, true, layout, view, base, t, memory.len());
     let p = addressing::plan_of(a, t.columns as u32);
-    let mut elements = registers.elements;
     let n = (t.rows as usize) * (t.columns as usize);
-    let counted = transfers::load_elements(&mut elements, memory, p, register, n, count);
-    Performed {
-        registers: Registers { types, elements },
-        count: counted,
-    }
+    transfers::load_elements(elements, memory, p, register, n, count)
 }
 
 // The elements of a store. The answer is the count with each element that had a byte.
 pub fn perform_store(
     sheet: Sheet,
-    registers: Registers,
+    types: [MatrixType; 4],
+    elements: &[u32; 1024],
     memory: &mut [u8],
     register: u8,
     layout: u8,
@@ -168,16 +163,14 @@ pub fn perform_store(
     base: u32,
     count: usize,
 ) -> usize
-    requires { ⌜ Within sheet × Sized (registers .types) × (register < 4) × (length (now memory) ≤ memoryLimit) × (count < 2 ^ 31) ⌝ }
-    requires { ⌜ Clear (theType (registers .types) register) (accessOf sheet false layout view base (theType (registers .types) register) (length (now memory))) ⌝ }
+    requires { ⌜ Within sheet × Sized types × (register < 4) × (length (now memory) ≤ memoryLimit) × (count < 2 ^ 31) ⌝ }
+    requires { ⌜ Clear (theType types register) (accessOf sheet false layout view base (theType types register) (length (now memory))) ⌝ }
     requires { ⌜ (layout < sheet .layouts) × (optionOk (sheet .views) view ≡ true) ⌝ }
-    ensures { λ r. ⌜ machine registers (now (memory .exit)) r ≡ storeDone sheet register layout view base (machine registers (now (memory .entry)) count) ⌝ }
+    ensures { λ r. ⌜ machineOf types (state (now (elements .entry)) (now (memory .exit)) r) ≡ storeDone sheet register layout view base (machineOf types (state (now (elements .entry)) (now (memory .entry)) count)) ⌝ }
 {
-    let types = registers.types;
     let t = registers::the_type(types, register);
     let a = access_of(sheet, false, layout, view, base, t, memory.len());
     let p = addressing::plan_of(a, t.columns as u32);
-    let elements = registers.elements;
     let n = (t.rows as usize) * (t.columns as usize);
-    transfers::store_elements(&elements, memory, p, register, n, count)
+    transfers::store_elements(elements, memory, p, register, n, count)
 }

@@ -10,58 +10,72 @@ ghost use Rattle.whole_steps.specs.Refusals.{wholeRefusal};
 ghost use Rattle.whole_steps.specs.Whole.{wholeDone};
 ghost use Rattle.whole_steps.specs.Within.{WholeOk};
 ghost use Rattle.round_trip.specs.Sheets.{Within};
-ghost use Rattle.carrying.specs.Steps.{machine, objectRegisters, performedStep};
+ghost use Rattle.transfers.specs.Acts.{state};
+ghost use Rattle.carrying.specs.Steps.{machine, registersOf, machineOf, objectRegisters, performedStep};
 ghost use Rattle.carrying.specs.Carrying.{started, performed, checked, memoryLimit};
 ghost use Rattle.carrying.specs.Types.{Accepted, Formed};
 use super::Performed;
+use super::Stepped;
 use super::memory_steps;
+use registers::MatrixType;
 use registers::Registers;
 use sheet::Sheet;
 use sheet::Step;
 use sheet::sizes;
 
-// A load first gives its register the object, type and elements.
-fn with_object(registers: Registers, register: u8, object: u8) -> Registers
+// A load first gives its register the object, type and elements. The answer is the types.
+fn with_object(
+    types: [MatrixType; 4],
+    elements: &mut [u32; 1024],
+    register: u8,
+    object: u8,
+) -> [MatrixType; 4]
     requires { ⌜ (register < 4) × (optionOk 4 object ≡ true) ⌝ }
-    ensures { λ r. ⌜ r ≡ objectRegisters register object registers ⌝ }
+    ensures { λ r. ⌜ registersOf r (now (elements .exit)) ≡ objectRegisters register object (registersOf types (now (elements .entry))) ⌝ }
 {
     if object == sizes::NONE {
-        return registers;
+        return types;
     }
-    registers::copied(registers, register, object)
+    registers::copy_elements(elements, register, object);
+    let t = registers::the_type(types, object);
+    registers::with_type(types, register, t)
 }
 
-fn perform_whole(registers: Registers, step: Step, count: usize) -> Performed
-    requires { ⌜ WholeOk step × Sized (registers .types) × (wholeRefusal (registers .types) step ≡ 0) ⌝ }
-    ensures { λ r. ⌜ (r .registers ≡ wholeDone registers step) × (r .count ≡ count) ⌝ }
+// A step without memory. The answer is the types.
+pub fn perform_whole(
+    types: [MatrixType; 4],
+    elements: &mut [u32; 1024],
+    step: Step,
+) -> [MatrixType; 4]
+    requires { ⌜ WholeOk step × Sized types × (wholeRefusal types step ≡ 0) ⌝ }
+    ensures { λ r. ⌜ registersOf r (now (elements .exit)) ≡ wholeDone (registersOf types (now (elements .entry))) step ⌝ }
 {
-    let after = whole_steps::perform_whole(registers, step);
-    Performed {
-        registers: after,
-        count,
-    }
+    let held = *elements;
+    let after = whole_steps::perform_whole(
+        Registers {
+            types,
+            elements: held,
+        },
+        step,
+    );
+    let made = after.elements;
+    *elements = made;
+    after.types
 }
 
 fn perform_step(
     sheet: Sheet,
-    registers: Registers,
+    types: [MatrixType; 4],
+    elements: &mut [u32; 1024],
     memory: &mut [u8],
     step: Step,
     count: usize,
-) -> Performed
+) -> Stepped
     requires { ⌜ Within sheet × (stepOk (sheet .edition) (sheet .layouts) (sheet .views) step ≡ true) × (length (now memory) ≤ memoryLimit) × (count < 2 ^ 31) ⌝ }
-    requires { ⌜ Formed (machine registers (now memory) count) × Accepted sheet step (machine registers (now memory) count) ⌝ }
-    ensures { λ r. ⌜ machine (r .registers) (now (memory .exit)) (r .count) ≡ performedStep sheet step (machine registers (now (memory .entry)) count) ⌝ }
+    requires { ⌜ Formed (machineOf types (state (now elements) (now memory) count)) × Accepted sheet step (machineOf types (state (now elements) (now memory) count)) ⌝ }
+    ensures { λ r. ⌜ machineOf (r .types) (state (now (elements .exit)) (now (memory .exit)) (r .count)) ≡ performedStep sheet step (machineOf types (state (now (elements .entry)) (now (memory .entry)) count)) ⌝ }
 {
     match step {
-        Step::Nothing => Performed { registers, count },
-        Step::Fill {
-            register: _,
-            rows: _,
-            columns: _,
-            kind: _,
-            value: _,
-        } => perform_whole(registers, step, count),
         Step::Load {
             register,
             object,
@@ -69,8 +83,22 @@ fn perform_step(
             view,
             base,
         } => {
-            let g = with_object(registers, register, object);
-            memory_steps::perform_load(sheet, g, memory, register, layout, view, base, count)
+            let after = with_object(types, elements, register, object);
+            let counted = memory_steps::perform_load(
+                sheet,
+                after,
+                elements,
+                memory,
+                register,
+                layout,
+                view,
+                base,
+                count,
+            );
+            Stepped {
+                types: after,
+                count: counted,
+            }
         }
         Step::Store {
             register,
@@ -80,7 +108,8 @@ fn perform_step(
         } => {
             let counted = memory_steps::perform_store(
                 sheet,
-                registers,
+                types,
+                elements,
                 memory,
                 register,
                 layout,
@@ -88,29 +117,18 @@ fn perform_step(
                 base,
                 count,
             );
-            Performed {
-                registers,
+            Stepped {
+                types,
                 count: counted,
             }
         }
-        Step::Reduce {
-            result: _,
-            source: _,
-            rows: _,
-            columns: _,
-            mode: _,
-            combine: _,
-        } => perform_whole(registers, step, count),
-        Step::Transpose {
-            result: _,
-            source: _,
-        } => perform_whole(registers, step, count),
-        Step::MultiplyAdd {
-            result: _,
-            a: _,
-            b: _,
-            c: _,
-        } => perform_whole(registers, step, count),
+        _ => {
+            let after = perform_whole(types, elements, step);
+            Stepped {
+                types: after,
+                count,
+            }
+        }
     }
 }
 
@@ -120,17 +138,22 @@ pub fn perform(sheet: Sheet, memory: &mut [u8]) -> Performed
     ensures { λ r. ⌜ machine (r .registers) (now (memory .exit)) (r .count) ≡ performed sheet (started (now (memory .entry))) ⌝ }
 {
     let steps = sheet.steps;
-    let mut registers = registers::empty_registers();
+    let empty = registers::empty_registers();
+    let mut types = empty.types;
+    let mut elements = empty.elements;
     let mut count: usize = 0;
     let mut k: usize = 0;
     while k < steps {
         let c = sheet.step[k];
         let step = c.step;
-        let done = perform_step(sheet, registers, memory, step, count);
-        let after = done.registers;
-        registers = after;
+        let done = perform_step(sheet, types, &mut elements, memory, step, count);
+        let after = done.types;
+        types = after;
         count = done.count;
         k += 1;
     }
-    Performed { registers, count }
+    Performed {
+        registers: Registers { types, elements },
+        count,
+    }
 }
