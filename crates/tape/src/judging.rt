@@ -17,7 +17,8 @@ use registers::MatrixType;
 use sheet::Refusal;
 use sheet::Sheet;
 
-const OUT_OF_RANGE: u8 = 17;
+// A record out of range, or a record count that does not fit.
+pub const OUT_OF_RANGE: u8 = 17;
 
 fn elements_ok(t: MatrixType, first: usize, count: usize) -> bool
     requires { ⌜ SizedType t × (first < 2 ^ 31) × (count < 2 ^ 31) ⌝ }

@@ -28,8 +28,6 @@ use sheet::Sheet;
 
 const MEMORY_TOO_LARGE: u8 = 18;
 
-const RECORDS_TOO_MANY: u8 = 17;
-
 // Op 4.
 fn run_whole(sheet: Sheet, registers: Registers, step: usize) -> Registers
     requires { ⌜ Within sheet × Sized (registers .types) × (wholeRecordOk sheet (registers .types) step ≡ true) ⌝ }
@@ -166,7 +164,7 @@ fn tape_refusal(sheet: Sheet, tape: &[i32], records: usize, len: usize) -> Refus
     ensures { λ r. ⌜ r ≡ tapeRefusal sheet (now (tape .entry)) records len ⌝ }
 {
     if !translating::records_fit(sheet.edition, tape.len(), records) {
-        return checks::refusal_at(RECORDS_TOO_MANY, 0, 0);
+        return checks::refusal_at(judging::OUT_OF_RANGE, 0, 0);
     }
     judging::range(sheet, tape, records, len)
 }
