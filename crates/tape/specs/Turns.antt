@@ -8,7 +8,7 @@ use native.Mathlib.Nat.{mul-le-mul, add-zero, sub-zero}
 use native.Mathlib.Omega.{arith}
 use borrow.Author.Tests.{leb-true, ltb-true, eqb-true, le-leb, lt-leb, eq-eqb, ne-eqb}
 use lib.IntN.{ℤ}
-use lib.ListN.{length, length-set}
+use lib.ListN.{length, length-set, replicate}
 use Rattle.numbers.specs.Choice.{pick, pick-case, both-left, both-right}
 use Rattle.numbers.specs.All.{all-at}
 use Rattle.numbers.specs.Lists.{length-line}
@@ -31,7 +31,7 @@ use Rattle.whole_steps.specs.Refusals.{wholeRefusal, isWhole}
 use Rattle.whole_steps.specs.Whole.{wholeTypes}
 use Rattle.whole_steps.specs.Within.{WholeOk, whole-ok, sized-whole}
 use Rattle.transfers.specs.Acts.{State, state, took, gave, put}
-use Rattle.carrying.specs.Steps.{Machine, machine, stateOf, performedStep, wholeStepDone}
+use Rattle.carrying.specs.Steps.{Machine, machine, stateOf, machineOf, performedStep, wholeStepDone}
 use Rattle.carrying.specs.Carrying.{refusalAt, memoryLimit, started, carryAnswer}
 use Rattle.carrying.specs.Types.{Formed, started-formed, step-places, within-step}
 use Rattle.records.specs.declared.Record.{Record}
@@ -303,6 +303,11 @@ module _ (n : ℕ) (sh : Sheet) (len : ℕ) (the : ℕ → Decoded) (k : ℕ) (t
 pub empty-types : (none : MatrixType) → none ≡ noType → none ∷ none ∷ none ∷ none ∷ [] ≡ emptyRegisters .types
 unfolding emptyRegisters
 empty-types none e = rw e
+
+-- the run begins with them too, and with elements that are 0
+pub empty-started : (none : MatrixType) → none ≡ noType → (memory : List ℕ) → machineOf (none ∷ none ∷ none ∷ none ∷ []) (state (replicate 1024 0) memory 0) ≡ started memory
+unfolding emptyRegisters
+empty-started none e memory = rw e
 
 pub range-start : (n : ℕ) (sh : Sheet) (len : ℕ) (the : ℕ → Decoded) → rangeFrom (n - 0) sh len the 0 (emptyRegisters .types) ≡ rangeRefusal n sh len the
 range-start n sh len the = rw (sub-zero n)

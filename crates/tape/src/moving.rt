@@ -9,11 +9,11 @@ ghost use Rattle.registers.specs.Registers.{room};
 ghost use Rattle.registers.specs.Sized.{Sized};
 ghost use Rattle.registers.specs.Types.{theType};
 ghost use Rattle.transfers.specs.Acts.{state};
-ghost use Rattle.carrying.specs.Steps.{machine};
+ghost use Rattle.carrying.specs.Steps.{machineOf};
 ghost use Rattle.records.specs.Ranges.{Elements, Bytes};
 ghost use Rattle.tape.specs.Records.{byteAt, bytesInside, bytesRecordOk, fillRecordOk, inOrder, onElements};
 ghost use Rattle.tape.specs.Turns.{taking, putting, filling};
-use registers::Registers;
+use registers::MatrixType;
 
 fn byte_at(byte: usize, up: usize, down: usize, i: usize) -> usize
     requires { ⌜ Bytes byte up down × (i < 256) × (i * down ≤ byte + i * up) ⌝ }
@@ -81,9 +81,10 @@ fn fill_elements(elements: &mut [u32; 1024], register: u8, first: usize, count: 
     }
 }
 
-// A take, of which the registers are the answer.
+// A take, which changes elements alone.
 pub fn take(
-    registers: Registers,
+    types: [MatrixType; 4],
+    elements: &mut [u32; 1024],
     memory: &[u8],
     register: u8,
     first: usize,
@@ -91,16 +92,14 @@ pub fn take(
     byte: usize,
     up: usize,
     down: usize,
-) -> Registers
-    requires { ⌜ Sized (registers .types) × Elements register first count × Bytes byte up down ⌝ }
-    requires { ⌜ bytesRecordOk (theType (registers .types) register) (length (now memory)) first count byte up down ≡ true ⌝ }
-    ensures { λ r. ⌜ ((n : ℕ) → machine r (now (memory .entry)) (n + count) ≡ onElements register (λ (size : ℕ). taking size register first byte up down) count (machine registers (now (memory .entry)) n)) ⌝ }
+)
+    requires { ⌜ Sized types × Elements register first count × Bytes byte up down ⌝ }
+    requires { ⌜ bytesRecordOk (theType types register) (length (now memory)) first count byte up down ≡ true ⌝ }
+    ensures { λ _. ⌜ ((n : ℕ) → machineOf types (state (now (elements .exit)) (now (memory .entry)) (n + count)) ≡ onElements register (λ (size : ℕ). taking size register first byte up down) count (machineOf types (state (now (elements .entry)) (now (memory .entry)) n))) ⌝ }
 {
-    let types = registers.types;
     let t = registers::the_type(types, register);
-    let mut elements = registers.elements;
     take_elements(
-        &mut elements,
+        elements,
         memory,
         kinds::bytes(t.kind),
         register,
@@ -110,12 +109,12 @@ pub fn take(
         up,
         down,
     );
-    Registers { types, elements }
 }
 
 // A put, which changes memory alone.
 pub fn put(
-    registers: Registers,
+    types: [MatrixType; 4],
+    elements: &[u32; 1024],
     memory: &mut [u8],
     register: u8,
     first: usize,
@@ -124,15 +123,13 @@ pub fn put(
     up: usize,
     down: usize,
 )
-    requires { ⌜ Sized (registers .types) × Elements register first count × Bytes byte up down ⌝ }
-    requires { ⌜ bytesRecordOk (theType (registers .types) register) (length (now memory)) first count byte up down ≡ true ⌝ }
-    ensures { λ _. ⌜ ((n : ℕ) → machine registers (now (memory .exit)) (n + count) ≡ onElements register (λ (size : ℕ). putting size register first byte up down) count (machine registers (now (memory .entry)) n)) ⌝ }
+    requires { ⌜ Sized types × Elements register first count × Bytes byte up down ⌝ }
+    requires { ⌜ bytesRecordOk (theType types register) (length (now memory)) first count byte up down ≡ true ⌝ }
+    ensures { λ _. ⌜ ((n : ℕ) → machineOf types (state (now (elements .entry)) (now (memory .exit)) (n + count)) ≡ onElements register (λ (size : ℕ). putting size register first byte up down) count (machineOf types (state (now (elements .entry)) (now (memory .entry)) n))) ⌝ }
 {
-    let types = registers.types;
     let t = registers::the_type(types, register);
-    let elements = registers.elements;
     put_elements(
-        &elements,
+        elements,
         memory,
         kinds::bytes(t.kind),
         register,
@@ -144,14 +141,18 @@ pub fn put(
     );
 }
 
-// A fill, of which the registers are the answer.
-pub fn fill(registers: Registers, register: u8, first: usize, count: usize, value: u32) -> Registers
-    requires { ⌜ Sized (registers .types) × Elements register first count ⌝ }
-    requires { ⌜ fillRecordOk (theType (registers .types) register) first count value ≡ true ⌝ }
-    ensures { λ r. ⌜ ((memory : List ℕ) (n : ℕ) → machine r memory n ≡ onElements register (λ (size : ℕ). filling register first value) count (machine registers memory n)) ⌝ }
+// A fill, which changes elements alone.
+pub fn fill(
+    types: [MatrixType; 4],
+    elements: &mut [u32; 1024],
+    register: u8,
+    first: usize,
+    count: usize,
+    value: u32,
+)
+    requires { ⌜ Sized types × Elements register first count ⌝ }
+    requires { ⌜ fillRecordOk (theType types register) first count value ≡ true ⌝ }
+    ensures { λ _. ⌜ ((memory : List ℕ) (n : ℕ) → machineOf types (state (now (elements .exit)) memory n) ≡ onElements register (λ (size : ℕ). filling register first value) count (machineOf types (state (now (elements .entry)) memory n))) ⌝ }
 {
-    let types = registers.types;
-    let mut elements = registers.elements;
-    fill_elements(&mut elements, register, first, count, value);
-    Registers { types, elements }
+    fill_elements(elements, register, first, count, value);
 }

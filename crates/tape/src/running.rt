@@ -1,14 +1,15 @@
 // A tape run with its sheet: every record's range first, then the records, which cannot fail.
 ghost use mathlib.Core.Path.{_≡_};
 ghost use mathlib.Core.Bool.{true};
-ghost use Prim.Native.Nat.{_+_, _*_, _<_, _≤_, _^_};
+ghost use mathlib.Core.List.{List};
+ghost use Prim.Native.Nat.{ℕ, _+_, _*_, _<_, _≤_, _^_};
 ghost use lib.ListN.{length};
 ghost use Rattle.sheet.specs.Steps.{theStep};
 ghost use Rattle.registers.specs.Registers.{emptyRegisters};
 ghost use Rattle.registers.specs.Sized.{Sized};
-ghost use Rattle.whole_steps.specs.Whole.{wholeDone};
 ghost use Rattle.round_trip.specs.Sheets.{Within};
-ghost use Rattle.carrying.specs.Steps.{machine};
+ghost use Rattle.transfers.specs.Acts.{state};
+ghost use Rattle.carrying.specs.Steps.{machine, machineOf, wholeStepDone};
 ghost use Rattle.carrying.specs.Carrying.{started, carryAnswer};
 ghost use Rattle.records.specs.Ranges.{Sound};
 ghost use Rattle.records.specs.declared.Decoded.the-variants.{Good};
@@ -19,41 +20,58 @@ use super::moving;
 use super::translating;
 use carrying::CarryAnswer;
 use carrying::Performed;
+use carrying::Stepped;
 use carrying::checks;
 use records::Decoded;
 use records::Record;
+use registers::MatrixType;
 use registers::Registers;
 use sheet::Refusal;
 use sheet::Sheet;
 
 const MEMORY_TOO_LARGE: u8 = 18;
 
-// Op 4.
-fn run_whole(sheet: Sheet, registers: Registers, step: usize) -> Registers
-    requires { ⌜ Within sheet × Sized (registers .types) × (wholeRecordOk sheet (registers .types) step ≡ true) ⌝ }
-    ensures { λ r. ⌜ r ≡ wholeDone registers (theStep (sheet .step) step) ⌝ }
+// Op 4. The registers' elements go through a copy here, and only here.
+fn run_whole(
+    sheet: Sheet,
+    types: [MatrixType; 4],
+    elements: &mut [u32; 1024],
+    step: usize,
+) -> [MatrixType; 4]
+    requires { ⌜ Within sheet × Sized types × (wholeRecordOk sheet types step ≡ true) ⌝ }
+    ensures { λ r. ⌜ ((memory : List ℕ) (n : ℕ) → machineOf r (state (now (elements .exit)) memory n) ≡ wholeStepDone (theStep (sheet .step) step) (machineOf types (state (now (elements .entry)) memory n))) ⌝ }
 {
     let c = sheet.step[step];
     let s = c.step;
-    whole_steps::perform_whole(registers, s)
+    let held = *elements;
+    let registers = Registers {
+        types,
+        elements: held,
+    };
+    let after = whole_steps::perform_whole(registers, s);
+    let changed = after.elements;
+    *elements = changed;
+    after.types
 }
 
 fn run_record(
     sheet: Sheet,
-    registers: Registers,
+    types: [MatrixType; 4],
+    elements: &mut [u32; 1024],
     memory: &mut [u8],
     r: Record,
     counted: usize,
-) -> Performed
-    requires { ⌜ Within sheet × Sized (registers .types) × Sound (Good r) × (counted < 2 ^ 31) ⌝ }
-    requires { ⌜ recordOk sheet (registers .types) (length (now memory)) r ≡ true ⌝ }
-    ensures { λ p. ⌜ machine (p .registers) (now (memory .exit)) (p .count) ≡ ranRecord sheet r (machine registers (now (memory .entry)) counted) ⌝ }
+) -> Stepped
+    requires { ⌜ Within sheet × Sized types × Sound (Good r) × (counted < 2 ^ 31) ⌝ }
+    requires { ⌜ recordOk sheet types (length (now memory)) r ≡ true ⌝ }
+    ensures { λ p. ⌜ machineOf (p .types) (state (now (elements .exit)) (now (memory .exit)) (p .count)) ≡ ranRecord sheet r (machineOf types (state (now (elements .entry)) (now (memory .entry)) counted)) ⌝ }
 {
     match r {
         Record::Copy { register, object } => {
-            let after = registers::copied(registers, register, object);
-            Performed {
-                registers: after,
+            let t = registers::the_type(types, object);
+            registers::copy_elements(elements, register, object);
+            Stepped {
+                types: registers::with_type(types, register, t),
                 count: counted,
             }
         }
@@ -65,9 +83,19 @@ fn run_record(
             up,
             down,
         } => {
-            let after = moving::take(registers, memory, register, first, count, byte, up, down);
-            Performed {
-                registers: after,
+            moving::take(
+                types,
+                elements,
+                memory,
+                register,
+                first,
+                count,
+                byte,
+                up,
+                down,
+            );
+            Stepped {
+                types,
                 count: counted + count,
             }
         }
@@ -79,9 +107,19 @@ fn run_record(
             up,
             down,
         } => {
-            moving::put(registers, memory, register, first, count, byte, up, down);
-            Performed {
-                registers,
+            moving::put(
+                types,
+                elements,
+                memory,
+                register,
+                first,
+                count,
+                byte,
+                up,
+                down,
+            );
+            Stepped {
+                types,
                 count: counted + count,
             }
         }
@@ -91,16 +129,16 @@ fn run_record(
             count,
             value,
         } => {
-            let after = moving::fill(registers, register, first, count, value);
-            Performed {
-                registers: after,
+            moving::fill(types, elements, register, first, count, value);
+            Stepped {
+                types,
                 count: counted,
             }
         }
         Record::Whole { step } => {
-            let after = run_whole(sheet, registers, step);
-            Performed {
-                registers: after,
+            let after = run_whole(sheet, types, elements, step);
+            Stepped {
+                types: after,
                 count: counted,
             }
         }
@@ -109,19 +147,20 @@ fn run_record(
 
 fn run_decoded(
     sheet: Sheet,
-    registers: Registers,
+    types: [MatrixType; 4],
+    elements: &mut [u32; 1024],
     memory: &mut [u8],
     d: Decoded,
     counted: usize,
-) -> Performed
-    requires { ⌜ Within sheet × Sized (registers .types) × Sound d × (counted < 2 ^ 31) ⌝ }
-    requires { ⌜ decodedOk sheet (registers .types) (length (now memory)) d ≡ true ⌝ }
-    ensures { λ p. ⌜ machine (p .registers) (now (memory .exit)) (p .count) ≡ ranDecoded sheet d (machine registers (now (memory .entry)) counted) ⌝ }
+) -> Stepped
+    requires { ⌜ Within sheet × Sized types × Sound d × (counted < 2 ^ 31) ⌝ }
+    requires { ⌜ decodedOk sheet types (length (now memory)) d ≡ true ⌝ }
+    ensures { λ p. ⌜ machineOf (p .types) (state (now (elements .exit)) (now (memory .exit)) (p .count)) ≡ ranDecoded sheet d (machineOf types (state (now (elements .entry)) (now (memory .entry)) counted)) ⌝ }
 {
     match d {
-        Decoded::Good(r) => run_record(sheet, registers, memory, r, counted),
-        Decoded::Bad => Performed {
-            registers,
+        Decoded::Good(r) => run_record(sheet, types, elements, memory, r, counted),
+        Decoded::Bad => Stepped {
+            types,
             count: counted,
         },
     }
@@ -133,18 +172,23 @@ fn run_records(sheet: Sheet, tape: &[i32], records: usize, memory: &mut [u8]) ->
     requires { ⌜ rangeRefusal records sheet (length (now memory)) (tapeRecord (now tape)) .number ≡ 0 ⌝ }
     ensures { λ r. ⌜ machine (r .registers) (now (memory .exit)) (r .count) ≡ ran records sheet (tapeRecord (now (tape .entry))) (started (now (memory .entry))) ⌝ }
 {
-    let mut registers = registers::empty_registers();
+    let none = registers::no_type();
+    let mut types = [none; 4];
+    let mut elements = [0u32; 1024];
     let mut count: usize = 0;
     let mut k: usize = 0;
     while k < records {
         let d = records::read_record(tape, k * records::NUMBERS);
-        let done = run_decoded(sheet, registers, memory, d, count);
-        let after = done.registers;
-        registers = after;
+        let done = run_decoded(sheet, types, &mut elements, memory, d, count);
+        let after = done.types;
+        types = after;
         count = done.count;
         k += 1;
     }
-    Performed { registers, count }
+    Performed {
+        registers: Registers { types, elements },
+        count,
+    }
 }
 
 fn run_refused(refusal: Refusal) -> CarryAnswer
