@@ -22,6 +22,7 @@ use carrying::CarryAnswer;
 use carrying::Performed;
 use carrying::Stepped;
 use carrying::checks;
+use carrying::performing;
 use records::Decoded;
 use records::Record;
 use registers::MatrixType;
@@ -43,15 +44,7 @@ fn run_whole(
 {
     let c = sheet.step[step];
     let s = c.step;
-    let held = *elements;
-    let registers = Registers {
-        types,
-        elements: held,
-    };
-    let after = whole_steps::perform_whole(registers, s);
-    let changed = after.elements;
-    *elements = changed;
-    after.types
+    performing::perform_whole(types, elements, s)
 }
 
 fn run_record(

@@ -18,7 +18,7 @@ perform-whole-requires c κs =
     (whole-within (s .args .t1) (s .args .types) (s .args .step) (s .pre .2) (s .pre .0), s .pre .1, whole-clear (s .args .t1) (s .args .types) (s .args .step) (s .pre .2))
 
 returns : tie.Need-returns
-returns c = λ memory n. ap (λ (g : Registers). machine g memory n) (c .before .before .perform-whole .ensures .0)
+returns c = λ memory n. ap (λ (g : Registers). machine g memory n) (c .perform-whole .ensures)
 
 pub run-whole-spec : {M : Type 1} → statement M
 run-whole-spec = tie.close (tie.spec mul-c element-copy-out-c perform-whole-requires returns)
