@@ -299,6 +299,9 @@ static int parse_option(const struct command *command, const char *option, const
     if (word == NULL) {
         return wrong_use("%s needs a word after it", option);
     }
+    if (is_out ? request->out != NULL : request->has_memory) {
+        return wrong_use("%s is given twice", option);
+    }
     if (is_out) {
         request->out = word;
         return strcmp(word, STANDARD_INPUT) == 0 ? wrong_use("-o needs the name of a file") : DONE;

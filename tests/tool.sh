@@ -462,12 +462,14 @@ wrong '--memory 12x: not a length in bytes' check sheet --memory 12x
 wrong '--memory : not a length in bytes' check sheet --memory ''
 wrong '--memory 18446744073709551616: not a length in bytes' check sheet --memory 18446744073709551616
 wrong '--memory 99999999999999999999999: not a length in bytes' check sheet --memory 99999999999999999999999
+wrong '--memory is given twice' check sheet --memory 64 --memory 64
 wrong 'check takes 1 file(s), and memory is one more' check sheet memory --memory 64
 wrong 'check does not take -o' check sheet --memory 64 -o out
 wrong 'run takes 2 file(s)' run sheet
 wrong 'run takes 2 file(s), and tape is one more' run sheet memory tape
 wrong '-o needs a word after it' run sheet memory -o
 wrong '-o needs the name of a file' run sheet memory -o -
+wrong '-o is given twice' run sheet memory -o out -o out
 wrong 'run does not take --memory' run sheet memory -o out --memory 64
 wrong 'run does not take --output' run sheet memory --output out
 wrong 'standard input can be read only once' run - - -o out
