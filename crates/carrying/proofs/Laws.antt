@@ -20,7 +20,7 @@ use Rattle.registers.specs.Registers.{emptyRegisters}
 use Rattle.registers.specs.declared.MatrixType.{MatrixType}
 use Rattle.registers.specs.declared.Registers.{Registers}
 use Rattle.sheet_reader.specs.Reading.{readSheet}
-use Rattle.carrying.specs.Steps.{objectOf, stepTypes, checkedStep, Machine, machine, wholeStepDone, performedStep}
+use Rattle.carrying.specs.Steps.{objectOf, wholeCheck, stepTypes, checkedStep, Machine, machine, wholeStepDone, performedStep}
 use Rattle.carrying.specs.Carrying.{refusalAt, memoryLimit, checkRefused, checkedFrom, checked, checkedSheet, started, performed, carryAnswer, carried, carriedMemory}
 use Rattle.carrying.specs.declared.StepCheck.{StepCheck}
 use Rattle.carrying.specs.declared.CheckAnswer.{CheckAnswer}
@@ -65,18 +65,22 @@ rest-types ts (Reduce result source rows columns mode combine) h = refl
 rest-types ts (Transpose result source) h = refl
 rest-types ts (MultiplyAdd result a b c) h = refl
 
--- and of a step that is no store either, the whole step's refusal and deed
+-- and of a step that is no store either, the whole step's check and deed
 module _ (sh : Sheet) where
+  pub rest-check : (ts : List MatrixType) (len : ℕ) (step : Step) → ((register object layout view base : ℕ) → step ≡ Load register object layout view base → ⊥)
+      → ((register layout view base : ℕ) → step ≡ Store register layout view base → ⊥) → wholeCheck ts step ≡ checkedStep sh ts len step
+  unfolding checkedStep
+  rest-check ts len Nothing h g = refl
+  rest-check ts len (Fill register rows columns kind value) h g = refl
+  rest-check ts len (Load register object layout view base) h g = absurd (h register object layout view base refl)
+  rest-check ts len (Store register layout view base) h g = absurd (g register layout view base refl)
+  rest-check ts len (Reduce result source rows columns mode combine) h g = refl
+  rest-check ts len (Transpose result source) h g = refl
+  rest-check ts len (MultiplyAdd result a b c) h g = refl
+
   pub rest-refusal : (ts : List MatrixType) (len : ℕ) (step : Step) → ((register object layout view base : ℕ) → step ≡ Load register object layout view base → ⊥)
       → ((register layout view base : ℕ) → step ≡ Store register layout view base → ⊥) → checkedStep sh ts len step .stop .number ≡ wholeRefusal ts step
-  unfolding checkedStep
-  rest-refusal ts len Nothing h g = refl
-  rest-refusal ts len (Fill register rows columns kind value) h g = refl
-  rest-refusal ts len (Load register object layout view base) h g = absurd (h register object layout view base refl)
-  rest-refusal ts len (Store register layout view base) h g = absurd (g register layout view base refl)
-  rest-refusal ts len (Reduce result source rows columns mode combine) h g = refl
-  rest-refusal ts len (Transpose result source) h g = refl
-  rest-refusal ts len (MultiplyAdd result a b c) h g = refl
+  rest-refusal ts len step h g = rw (← rest-check ts len step h g) refl
 
   pub rest-done : (step : Step) (m : Machine) → ((register object layout view base : ℕ) → step ≡ Load register object layout view base → ⊥)
       → ((register layout view base : ℕ) → step ≡ Store register layout view base → ⊥) → wholeStepDone step m ≡ performedStep sh step m

@@ -63,14 +63,6 @@ pub fn check_step(sheet: Sheet, types: [MatrixType; 4], memory: usize, step: Ste
     ensures { λ r. ⌜ r ≡ checkedStep sheet types memory step ⌝ }
 {
     match step {
-        Step::Nothing => check_whole(types, step),
-        Step::Fill {
-            register: _,
-            rows: _,
-            columns: _,
-            kind: _,
-            value: _,
-        } => check_whole(types, step),
         Step::Load {
             register,
             object,
@@ -90,24 +82,7 @@ pub fn check_step(sheet: Sheet, types: [MatrixType; 4], memory: usize, step: Ste
             let t = registers::the_type(types, register);
             memory_steps::check_store(sheet, types, memory, t, layout, view, base)
         }
-        Step::Reduce {
-            result: _,
-            source: _,
-            rows: _,
-            columns: _,
-            mode: _,
-            combine: _,
-        } => check_whole(types, step),
-        Step::Transpose {
-            result: _,
-            source: _,
-        } => check_whole(types, step),
-        Step::MultiplyAdd {
-            result: _,
-            a: _,
-            b: _,
-            c: _,
-        } => check_whole(types, step),
+        _ => check_whole(types, step),
     }
 }
 
