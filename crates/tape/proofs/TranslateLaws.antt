@@ -41,7 +41,7 @@ use Rattle.carrying.specs.declared.StepCheck.{StepCheck}
 use Rattle.carrying.specs.declared.CheckAnswer.{CheckAnswer}
 use Rattle.carrying.specs.Accesses.{Clear, load-accepted, store-accepted}
 use Rattle.records.specs.declared.Record.{Record}
-use Rattle.records.specs.declared.Record.the-variants.{Copy}
+use Rattle.records.specs.declared.Record.the-variants.{Copy, Whole}
 use Rattle.records.specs.Records.{recordNumbers, tapeNumbers}
 use Rattle.records.specs.Laws.{length-numbers, length-tape, tape-append}
 use Rattle.sheet_reader.specs.Reading.{readSheet}
@@ -135,6 +135,18 @@ pub other-some : (sh : Sheet) (ts : List MatrixType) (len register object layout
     → 1 ≤ length (stepRecords sh ts len k (Load register object layout view base))
 other-some sh ts len register object layout view base other k =
     rw (other-records sh ts len register object layout view base (theType ts object) refl other k) (omega arith)
+
+-- a step that does something and is no load and no store becomes one op 4
+pub rest-records : (sh : Sheet) (ts : List MatrixType) (len k : ℕ) (st : Step) → (st ≡ Nothing → ⊥) → ((register object layout view base : ℕ) → st ≡ Load register object layout view base → ⊥)
+    → ((register layout view base : ℕ) → st ≡ Store register layout view base → ⊥) → stepRecords sh ts len k st ≡ Whole k ∷ []
+unfolding stepRecords
+rest-records sh ts len k Nothing n h g = absurd (n refl)
+rest-records sh ts len k (Fill register rows columns kind value) n h g = refl
+rest-records sh ts len k (Load register object layout view base) n h g = absurd (h register object layout view base refl)
+rest-records sh ts len k (Store register layout view base) n h g = absurd (g register layout view base refl)
+rest-records sh ts len k (Reduce result source rows columns mode combine) n h g = refl
+rest-records sh ts len k (Transpose result source) n h g = refl
+rest-records sh ts len k (MultiplyAdd result a b c) n h g = refl
 
 -- ---- records written one after the other
 

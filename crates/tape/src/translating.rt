@@ -242,13 +242,6 @@ fn count_step(sheet: Sheet, types: [MatrixType; 4], memory: usize, step: Step) -
 {
     match step {
         Step::Nothing => 0,
-        Step::Fill {
-            register: _,
-            rows: _,
-            columns: _,
-            kind: _,
-            value: _,
-        } => 1,
         Step::Load {
             register,
             object,
@@ -265,24 +258,7 @@ fn count_step(sheet: Sheet, types: [MatrixType; 4], memory: usize, step: Step) -
             let t = registers::the_type(types, register);
             count_access(sheet, false, layout, view, base, t, memory)
         }
-        Step::Reduce {
-            result: _,
-            source: _,
-            rows: _,
-            columns: _,
-            mode: _,
-            combine: _,
-        } => 1,
-        Step::Transpose {
-            result: _,
-            source: _,
-        } => 1,
-        Step::MultiplyAdd {
-            result: _,
-            a: _,
-            b: _,
-            c: _,
-        } => 1,
+        _ => 1,
     }
 }
 
@@ -312,13 +288,6 @@ fn write_step(
 {
     match step {
         Step::Nothing => at,
-        Step::Fill {
-            register: _,
-            rows: _,
-            columns: _,
-            kind: _,
-            value: _,
-        } => write_whole(tape, at, k),
         Step::Load {
             register,
             object,
@@ -357,24 +326,7 @@ fn write_step(
                 memory,
             )
         }
-        Step::Reduce {
-            result: _,
-            source: _,
-            rows: _,
-            columns: _,
-            mode: _,
-            combine: _,
-        } => write_whole(tape, at, k),
-        Step::Transpose {
-            result: _,
-            source: _,
-        } => write_whole(tape, at, k),
-        Step::MultiplyAdd {
-            result: _,
-            a: _,
-            b: _,
-            c: _,
-        } => write_whole(tape, at, k),
+        _ => write_whole(tape, at, k),
     }
 }
 

@@ -1,21 +1,20 @@
 use mathlib.Core.Path.{refl, sym, ap, _∙_}
 use mathlib.Core.Bool.{false}
+use mathlib.Core.List.{[], _∷_}
 use Prim.Native.Nat.{_*_}
 use lib.ListN.{length}
+use types.Run.{miss}
 use Rattle.transfers.specs.Transfers.{outcomeOf}
 use Rattle.carrying.specs.Steps.{accessOf}
 use Rattle.runs.specs.Writing.{count-records}
 use Rattle.tape.specs.Tapes.{stepRecords}
-use Rattle.tape.proofs.TranslateLaws.{store-names, store-records, store-clear}
+use Rattle.tape.proofs.TranslateLaws.{store-names, store-records, store-clear, rest-records}
 use borrow.Author.Needs.{needs}
 use Rattle.tape.proofs.translating.count_step.Statement.{statement}
 use Rattle.tape.proofs.translating.count_step.Tie as tie
 
 enum-told : tie.Need-enum-told
 enum-told c = search needs
-
-enum-told-2 : tie.Need-enum-told-2
-enum-told-2 c = search needs
 
 enum-known-step : tie.Need-enum-known-step
 enum-known-step c = search needs
@@ -46,28 +45,15 @@ count-access-requires c κs =
       ),
     )
 
-enum-told-3 : tie.Need-enum-told-3
-enum-told-3 c = search needs
-
-enum-told-4 : tie.Need-enum-told-4
-enum-told-4 c = search needs
-
-enum-told-5 : tie.Need-enum-told-5
-enum-told-5 c = search needs
-
 returns : tie.Need-returns
 unfolding stepRecords
 returns c = rw (c .enum-told .given .1) refl
 
 returns-2 : tie.Need-returns-2
-unfolding stepRecords
-returns-2 c = rw (c .enum-told2 .given .1) refl
+returns-2 c = rw (c .before .before .step .given .1) (c .count-load .ensures)
 
 returns-3 : tie.Need-returns-3
-returns-3 c = rw (c .before .before .step .given .1) (c .count-load .ensures)
-
-returns-4 : tie.Need-returns-4
-returns-4 c =
+returns-3 c =
     let s = c .before .before .before .before .before in
     let a = s .args in
     let g = c .before .before .before .step2 .given in
@@ -78,36 +64,23 @@ returns-4 c =
     ∙ sym (count-records false (g .0 .0) (outcomeOf x (t .columns)) (t .rows * t .columns))
     ∙ sym (ap length (store-records (a .sheet) (a .types) (a .memory) (g .0 .0) (g .0 .1 .0) (g .0 .1 .1 .0) (g .0 .1 .1 .1 .0) t (c .before .the-type .ensures) 0)))
 
-returns-5 : tie.Need-returns-5
-unfolding stepRecords
-returns-5 c = rw (c .enum-told3 .given .1) refl
-
-returns-6 : tie.Need-returns-6
-unfolding stepRecords
-returns-6 c = rw (c .enum-told4 .given .1) refl
-
-returns-7 : tie.Need-returns-7
-unfolding stepRecords
-returns-7 c = rw (c .enum-told5 .given .1) refl
+returns-4 : tie.Need-returns-4
+returns-4 c =
+    let a = c .before .args in
+    let rest = c .match .keys4 in
+    rw (rest-records (a .sheet) (a .types) (a .memory) 0 (a .step) (λ e. miss (1 ∷ 4 ∷ 5 ∷ 6 ∷ []) 0 tt (rw e at rest)) (λ register object layout view base e. miss (1 ∷ 4 ∷ 5 ∷ 6 ∷ []) 2 tt (rw e at rest)) (λ register layout view base e. miss (1 ∷ 4 ∷ 5 ∷ 6 ∷ []) 3 tt (rw e at rest))) refl
 
 pub count-step-spec : {M : Type 1} → statement M
 count-step-spec =
     tie.close
     (tie.spec
     enum-told
-    enum-told-2
     enum-known-step
     count-load-requires
     enum-known-step-2
     the-type-requires
     count-access-requires
-    enum-told-3
-    enum-told-4
-    enum-told-5
     returns
     returns-2
     returns-3
-    returns-4
-    returns-5
-    returns-6
-    returns-7)
+    returns-4)

@@ -1,6 +1,8 @@
 use mathlib.Core.Path.{refl}
+use mathlib.Core.List.{[], _∷_}
+use types.Run.{miss}
 use Rattle.tape.specs.Tapes.{stepRecords}
-use Rattle.tape.proofs.TranslateLaws.{store-names, store-records, store-clear}
+use Rattle.tape.proofs.TranslateLaws.{store-names, store-records, store-clear, rest-records}
 use native.Mathlib.Omega.{arith}
 use borrow.Author.Needs.{needs}
 use Rattle.tape.proofs.translating.write_step.Statement.{statement}
@@ -8,16 +10,6 @@ use Rattle.tape.proofs.translating.write_step.Tie as tie
 
 enum-told : tie.Need-enum-told
 enum-told c = search needs
-
-enum-told-2 : tie.Need-enum-told-2
-enum-told-2 c = search needs
-
-write-whole-requires : tie.Need-write-whole-requires
-unfolding stepRecords
-write-whole-requires c κs =
-    let s = c .before .before .before in
-    let q = rw (c .before .enum-told2 .given .1) at (s .pre .1 .1) in
-    (q, s .pre .1 .0 .1)
 
 enum-known-step : tie.Need-enum-known-step
 enum-known-step c = search needs
@@ -56,34 +48,12 @@ write-access-requires c κs =
       ),
     )
 
-enum-told-3 : tie.Need-enum-told-3
-enum-told-3 c = search needs
-
-write-whole-requires-2 : tie.Need-write-whole-requires-2
-unfolding stepRecords
-write-whole-requires-2 c κs =
-    let s = c .before .before .before in
-    let q = rw (c .before .enum-told3 .given .1) at (s .pre .1 .1) in
-    (q, s .pre .1 .0 .1)
-
-enum-told-4 : tie.Need-enum-told-4
-enum-told-4 c = search needs
-
-write-whole-requires-3 : tie.Need-write-whole-requires-3
-unfolding stepRecords
-write-whole-requires-3 c κs =
-    let s = c .before .before .before in
-    let q = rw (c .before .enum-told4 .given .1) at (s .pre .1 .1) in
-    (q, s .pre .1 .0 .1)
-
-enum-told-5 : tie.Need-enum-told-5
-enum-told-5 c = search needs
-
-write-whole-requires-4 : tie.Need-write-whole-requires-4
-unfolding stepRecords
-write-whole-requires-4 c κs =
-    let s = c .before .before .before in
-    let q = rw (c .before .enum-told5 .given .1) at (s .pre .1 .1) in
+write-whole-requires : tie.Need-write-whole-requires
+write-whole-requires c κs =
+    let s = c .before .before in
+    let a = s .args in
+    let rest = c .before .match .keys4 in
+    let q = rw (rest-records (a .sheet) (a .types) (a .memory) (a .k) (a .step) (λ e. miss (1 ∷ 4 ∷ 5 ∷ 6 ∷ []) 0 tt (rw e at rest)) (λ register object layout view base e. miss (1 ∷ 4 ∷ 5 ∷ 6 ∷ []) 2 tt (rw e at rest)) (λ register layout view base e. miss (1 ∷ 4 ∷ 5 ∷ 6 ∷ []) 3 tt (rw e at rest))) at (s .pre .1 .1) in
     (q, s .pre .1 .0 .1)
 
 returns : tie.Need-returns
@@ -91,24 +61,17 @@ unfolding stepRecords
 returns c = rw (c .enum-told .given .1) (omega arith, refl)
 
 same-length : tie.Need-same-length
-same-length c = c .before .write-whole .kept .0
+same-length c = c .before .write-load .kept .0
 
 returns-2 : tie.Need-returns-2
 unfolding stepRecords
-returns-2 c = rw (c .before .before .before .enum-told2 .given .1) (c .before .write-whole .ensures)
+returns-2 c = rw (c .before .before .before .before .step .given .1) (c .before .write-load .ensures)
 
 same-length-2 : tie.Need-same-length-2
-same-length-2 c = c .before .write-load .kept .0
+same-length-2 c = c .before .write-access .kept .0
 
 returns-3 : tie.Need-returns-3
-unfolding stepRecords
-returns-3 c = rw (c .before .before .before .before .step .given .1) (c .before .write-load .ensures)
-
-same-length-3 : tie.Need-same-length-3
-same-length-3 c = c .before .write-access .kept .0
-
-returns-4 : tie.Need-returns-4
-returns-4 c =
+returns-3 c =
     let s = c .before .before .before .before .before .before .before in
     let a = s .args in
     let g = c .before .before .before .before .before .step2 .given in
@@ -116,55 +79,31 @@ returns-4 c =
     rw (g .1, store-records (a .sheet) (a .types) (a .memory) (g .0 .0) (g .0 .1 .0) (g .0 .1 .1 .0) (g .0 .1 .1 .1 .0) (d .the-type .result) (d .the-type .ensures) (a .k))
     (c .before .write-access .ensures)
 
-same-length-4 : tie.Need-same-length-4
-same-length-4 c = c .before .write-whole2 .kept .0
+same-length-3 : tie.Need-same-length-3
+same-length-3 c = c .before .write-whole .kept .0
 
-returns-5 : tie.Need-returns-5
-unfolding stepRecords
-returns-5 c = rw (c .before .before .before .enum-told3 .given .1) (c .before .write-whole2 .ensures)
-
-same-length-5 : tie.Need-same-length-5
-same-length-5 c = c .before .write-whole3 .kept .0
-
-returns-6 : tie.Need-returns-6
-unfolding stepRecords
-returns-6 c = rw (c .before .before .before .enum-told4 .given .1) (c .before .write-whole3 .ensures)
-
-same-length-6 : tie.Need-same-length-6
-same-length-6 c = c .before .write-whole4 .kept .0
-
-returns-7 : tie.Need-returns-7
-unfolding stepRecords
-returns-7 c = rw (c .before .before .before .enum-told5 .given .1) (c .before .write-whole4 .ensures)
+returns-4 : tie.Need-returns-4
+returns-4 c =
+    let a = c .before .before .before .before .args in
+    let rest = c .before .before .before .match .keys4 in
+    rw (rest-records (a .sheet) (a .types) (a .memory) (a .k) (a .step) (λ e. miss (1 ∷ 4 ∷ 5 ∷ 6 ∷ []) 0 tt (rw e at rest)) (λ register object layout view base e. miss (1 ∷ 4 ∷ 5 ∷ 6 ∷ []) 2 tt (rw e at rest)) (λ register layout view base e. miss (1 ∷ 4 ∷ 5 ∷ 6 ∷ []) 3 tt (rw e at rest)))
+    (c .before .write-whole .ensures)
 
 pub write-step-spec : {M : Type 1} → statement M
 write-step-spec =
     tie.close
     (tie.spec
     enum-told
-    enum-told-2
-    write-whole-requires
     enum-known-step
     write-load-requires
     enum-known-step-2
     the-type-requires
     write-access-requires
-    enum-told-3
-    write-whole-requires-2
-    enum-told-4
-    write-whole-requires-3
-    enum-told-5
-    write-whole-requires-4
+    write-whole-requires
     returns
     same-length
     returns-2
     same-length-2
     returns-3
     same-length-3
-    returns-4
-    same-length-4
-    returns-5
-    same-length-5
-    returns-6
-    same-length-6
-    returns-7)
+    returns-4)
