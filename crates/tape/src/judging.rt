@@ -167,29 +167,8 @@ fn record_types(sheet: Sheet, types: [MatrixType; 4], len: usize, r: Record) -> 
             let t = registers::the_type(types, object);
             registers::with_type(types, register, t)
         }
-        Record::Take {
-            register: _,
-            first: _,
-            count: _,
-            byte: _,
-            up: _,
-            down: _,
-        } => types,
-        Record::Put {
-            register: _,
-            first: _,
-            count: _,
-            byte: _,
-            up: _,
-            down: _,
-        } => types,
-        Record::Fill {
-            register: _,
-            first: _,
-            count: _,
-            value: _,
-        } => types,
         Record::Whole { step } => whole_record_types(sheet, types, step),
+        _ => types,
     }
 }
 
