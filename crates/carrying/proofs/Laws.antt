@@ -1,58 +1,28 @@
--- What a load or a store within Sizes keeps to, and the turns of the check.
-use Prim.Native.Nat.{ℕ, suc, _+_, _-_, _<_, _≤_}
+-- The steps that are no load and no store, the turns of the check, and the answers.
+use Prim.Native.Nat.{ℕ, _+_, _-_, _<_, _≤_}
 use mathlib.Core.Path.{_≡_, refl}
-use mathlib.Core.Bool.{Bool, true, false}
-use mathlib.Core.List.{List, [], _∷_}
+use mathlib.Core.Bool.{false}
+use mathlib.Core.List.{List}
 use native.Mathlib.Omega.{arith}
 use lib.ListN.{length}
-use borrow.Author.Tests.{ltb-true, le-leb, lt-leb, eq-eqb, ne-eqb}
-use lib.Dec.{eqb, ltb}
-use Rattle.numbers.specs.Choice.{pick, both-left, both-right}
-use Rattle.sheet.specs.Sizes.{optionOk}
-use Rattle.sheet.specs.Steps.{theStep, loadOk, storeOk}
+use borrow.Author.Tests.{le-leb, lt-leb, eq-eqb, ne-eqb}
+use lib.Dec.{eqb}
+use Rattle.numbers.specs.Choice.{pick}
+use Rattle.sheet.specs.Steps.{theStep}
 use Rattle.sheet.specs.declared.Sheet.{Sheet}
 use Rattle.sheet.specs.declared.Step.{Step}
 use Rattle.sheet.specs.declared.Step.the-variants.{Nothing, Fill, Load, Store, Reduce, Transpose, MultiplyAdd}
 use Rattle.whole_steps.specs.Refusals.{wholeRefusal}
 use Rattle.whole_steps.specs.Whole.{wholeTypes}
-use Rattle.registers.specs.Types.{noType}
 use Rattle.registers.specs.Registers.{emptyRegisters}
 use Rattle.registers.specs.declared.MatrixType.{MatrixType}
 use Rattle.registers.specs.declared.Registers.{Registers}
 use Rattle.sheet_reader.specs.Reading.{readSheet}
-use Rattle.carrying.specs.Steps.{objectOf, wholeCheck, stepTypes, checkedStep, Machine, machine, wholeStepDone, performedStep}
+use Rattle.carrying.specs.Steps.{wholeCheck, stepTypes, checkedStep, Machine, machine, wholeStepDone, performedStep}
 use Rattle.carrying.specs.Carrying.{refusalAt, memoryLimit, checkRefused, checkedFrom, checked, checkedSheet, started, performed, carryAnswer, carried, carriedMemory}
+use Rattle.carrying.specs.Loops.{one-less}
 use Rattle.carrying.specs.declared.StepCheck.{StepCheck}
 use Rattle.carrying.specs.declared.CheckAnswer.{CheckAnswer}
-
--- a load or a store names a register, a layout that is given, and a view that is given or none
-pub record Names (layouts views register layout view : ℕ) : Type 0 where
-  pub named : register < 4
-  pub given : layout < layouts
-  pub option : optionOk views view ≡ true
-
-pub load-names : (layouts views register object layout view : ℕ) → loadOk layouts views register object layout view ≡ true → Names layouts views register layout view
-unfolding loadOk
-load-names layouts views register object layout view e =
-    let f = both-right _ _ (both-right _ _ e) in
-    record { named = ltb-true register 4 (both-left _ _ e); given = ltb-true layout layouts (both-left _ _ f); option = both-right _ _ f }
-
-pub store-names : (layouts views register layout view : ℕ) → storeOk layouts views register layout view ≡ true → Names layouts views register layout view
-unfolding storeOk
-store-names layouts views register layout view e =
-    let f = both-right _ _ e in
-    record { named = ltb-true register 4 (both-left _ _ e); given = ltb-true layout layouts (both-left _ _ f); option = both-right _ _ f }
-
-own-small : (register object : ℕ) → register < 4 → (own : Bool) → pick own true (ltb object 4) ≡ true → pick own register object < 4
-unfolding pick
-own-small register object h true e = h
-own-small register object h false e = ltb-true object 4 e
-
--- a load's object is in a register
-pub load-object : (layouts views register object layout view : ℕ) → loadOk layouts views register object layout view ≡ true → objectOf register object < 4
-unfolding loadOk optionOk
-load-object layouts views register object layout view e =
-    own-small register object (ltb-true register 4 (both-left _ _ e)) (eqb object 255) (both-left _ _ (both-right _ _ e))
 
 -- of a step that is no load the whole step's types are all
 pub rest-types : (ts : List MatrixType) (step : Step) → ((register object layout view base : ℕ) → step ≡ Load register object layout view base → ⊥)
@@ -93,14 +63,6 @@ module _ (sh : Sheet) where
   rest-done (Transpose result source) m h g = refl
   rest-done (MultiplyAdd result a b c) m h g = refl
 
-one-less : (n k : ℕ) → k < n → n - k ≡ suc (n - (k + 1))
-one-less n k h = omega arith
-
--- the check begins with registers that have no type
-pub empty-types : (none : MatrixType) → none ≡ noType → none ∷ none ∷ none ∷ none ∷ [] ≡ emptyRegisters .types
-unfolding emptyRegisters
-empty-types none e = rw e
-
 pub checked-start : (sh : Sheet) (len : ℕ) → checkedFrom (sh .steps - 0) sh len 0 (emptyRegisters .types) 0 ≡ checked sh len
 unfolding checked
 checked-start sh len = let e : sh .steps - 0 ≡ sh .steps = omega arith in rw e
@@ -120,11 +82,6 @@ module _ (n : ℕ) (sh : Sheet) (len k : ℕ) (ts : List MatrixType) (count : �
     unfolding checkedFrom pick
     checked-stop p =
         let e : eqb (c .stop .number) 0 ≡ false = ne-eqb (c .stop .number) 0 (λ z. omega arith) in rw (one-less n k h, ← is, e)
-
--- a load's object is a register or none
-pub load-option : (layouts views register object layout view : ℕ) → loadOk layouts views register object layout view ≡ true → optionOk 4 object ≡ true
-unfolding loadOk
-load-option layouts views register object layout view e = both-left _ _ (both-right _ _ e)
 
 -- which answer a sheet gets, by the ways that the code takes
 module _ (s : List ℕ) (len : ℕ) where

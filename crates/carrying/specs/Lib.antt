@@ -1,5 +1,6 @@
 pub mod Steps
 pub mod Carrying
+pub mod Names
 pub mod Accesses
 pub mod Types
 pub mod Counts

@@ -21,6 +21,10 @@ use Rattle.carrying.specs.Types.{checkOn, Accepted, Formed, started-form
 use Rattle.carrying.specs.Accesses.{Clear, load-accepted, store-accepted}
 use Rattle.carrying.specs.Counts.{step-placed, step-count}
 
+-- of n turns the one after k, and the others
+pub one-less : (n k : ℕ) → k < n → n - k ≡ suc (n - (k + 1))
+one-less n k h = omega arith
+
 -- a machine before step k of n more: well formed, few elements counted, the rest accepted, and the rest leaves what the whole sheet leaves
 pub record Ready (n : ℕ) (sh : Sheet) (k : ℕ) (m start : Machine) : Type 0 where
   pub formed : Formed m
@@ -99,7 +103,7 @@ module _ (sh : Sheet) (m : Machine) (register layout view base : ℕ) where
 -- the same with what is left counted from the whole
 module _ (sh : Sheet) (k : ℕ) (m start : Machine) (l : k < sh .steps) (r : Ready (sh .steps - k) sh k m start) where
   one-more : Ready (suc (sh .steps - (k + 1))) sh k m start
-  one-more = let e : sh .steps - k ≡ suc (sh .steps - (k + 1)) = omega arith in rw e at r
+  one-more = rw (one-less (sh .steps) k l) at r
 
   pub turn-accepted : Accepted sh (theStep (sh .step) k) m
   turn-accepted = ready-accepted (sh .steps - (k + 1)) sh k m start one-more

@@ -1,7 +1,7 @@
 -- Types: performing a step leaves the types that the check tracks, and keeps memory's length and the registers' places.
 use mathlib.Core.Path.{_≡_, refl, sym, ap, _∙_}
 use mathlib.Core.Bool.{Bool, true, false}
-use mathlib.Core.List.{List}
+use mathlib.Core.List.{List, [], _∷_}
 use Prim.Native.Nat.{ℕ, zero, suc, _+_, _<_, _≤_}
 use native.Mathlib.Nat.{zero-add, add-zero, not-suc-le-zero}
 use native.Mathlib.Omega.{arith}
@@ -246,6 +246,11 @@ pub started-formed : (memory : List ℕ) → Formed (started memory)
 unfolding emptyRegisters
 started-formed memory =
     record { registers = length-replicate 4 noType; sized = sized-empty; places = length-replicate {A = ℕ} 1024 0 }
+
+-- the check begins with registers that have no type
+pub empty-types : (none : MatrixType) → none ≡ noType → none ∷ none ∷ none ∷ none ∷ [] ≡ emptyRegisters .types
+unfolding emptyRegisters
+empty-types none e = rw e
 
 pub step-formed : (sh : Sheet) (step : Step) (m : Machine) (edition layouts views : ℕ)
     → stepOk edition layouts views step ≡ true → Accepted sh step m → Formed m → Formed (performedStep sh step m)

@@ -5,12 +5,12 @@ use mathlib.Core.Bool.{Bool, true, false}
 use mathlib.Core.List.{List, [], _∷_, _++_}
 use mathlib.Core.Logic.{_⊎_, ⊎-elim}
 use native.Mathlib.Omega.{arith}
-use borrow.Author.Tests.{ltb-true, leb-true, eqb-true, eqb-false, eq-eqb, ne-eqb}
+use borrow.Author.Tests.{leb-true, eqb-true, eqb-false, eq-eqb, ne-eqb}
 use lib.Dec.{eqb, leb}
 use lib.IntN.{ℤ}
 use lib.ListN.{length, length-append}
 use lib.Seq.{sets}
-use Rattle.numbers.specs.Choice.{pick, pick-case, both-left, both-right}
+use Rattle.numbers.specs.Choice.{pick, pick-case, both-right}
 use Rattle.numbers.specs.Lists.{puts-after}
 use Rattle.outcomes.specs.declared.Outcome.{Outcome}
 use Rattle.outcomes.specs.declared.Outcome.the-variants.{Skipped, Filled, Discarded, Placed}
@@ -27,16 +27,16 @@ use Rattle.registers.specs.Registers.{emptyRegisters}
 use Rattle.registers.specs.Sized.{SizedType, Sized, sized-empty}
 use Rattle.runs.specs.Runs.{held, runs}
 use Rattle.runs.specs.Writing.{count-all, count-few, count-records, emit-one}
-use Rattle.sheet.specs.Sizes.{optionOk}
-use Rattle.sheet.specs.Steps.{theStep, loadOk, storeOk, stepOk}
+use Rattle.sheet.specs.Steps.{theStep, stepOk}
 use Rattle.sheet.specs.declared.Sheet.{Sheet}
 use Rattle.sheet.specs.declared.Step.{Step}
 use Rattle.sheet.specs.declared.Step.the-variants.{Nothing, Fill, Load, Store, Reduce, Transpose, MultiplyAdd}
-use Rattle.registers.specs.Types.{noType, theType}
+use Rattle.registers.specs.Types.{theType}
 use Rattle.registers.specs.declared.MatrixType.{MatrixType}
 use Rattle.carrying.specs.Steps.{accessOf, objectOf, checkedStep}
 use Rattle.carrying.specs.Carrying.{checkedFrom, checked, checkedSheet, memoryLimit, refusalAt}
 use Rattle.carrying.specs.Types.{check-sized}
+use Rattle.carrying.specs.Loops.{one-less}
 use Rattle.carrying.specs.declared.StepCheck.{StepCheck}
 use Rattle.carrying.specs.declared.CheckAnswer.{CheckAnswer}
 use Rattle.carrying.specs.Accesses.{Clear, load-accepted, store-accepted}
@@ -69,30 +69,6 @@ pub outcome-near : (a : Access) → SizedAccess a → (columns k : ℕ) → Near
 outcome-near a s columns k = sound-near a s (outcomeOf a columns k) (element-sound a columns k)
 
 -- ---- the records of a step
-
--- a load or a store names a register, a layout that is given, and a view that is given or none
-pub record Names (layouts views register layout view : ℕ) : Type 0 where
-  pub named : register < 4
-  pub given : layout < layouts
-  pub option : optionOk views view ≡ true
-
-pub load-names : (layouts views register object layout view : ℕ) → loadOk layouts views register object layout view ≡ true → Names layouts views register layout view
-unfolding loadOk
-load-names layouts views register object layout view e =
-    let f = both-right _ _ (both-right _ _ e) in
-    record { named = ltb-true register 4 (both-left _ _ e); given = ltb-true layout layouts (both-left _ _ f); option = both-right _ _ f }
-
-pub store-names : (layouts views register layout view : ℕ) → storeOk layouts views register layout view ≡ true → Names layouts views register layout view
-unfolding storeOk
-store-names layouts views register layout view e =
-    let f = both-right _ _ e in
-    record { named = ltb-true register 4 (both-left _ _ e); given = ltb-true layout layouts (both-left _ _ f); option = both-right _ _ f }
-
--- a load's object is its own register, or one of the four
-pub object-few : (layouts views register object layout view : ℕ) → (object ≡ 255 → ⊥) → loadOk layouts views register object layout view ≡ true → object < 4
-unfolding loadOk optionOk pick
-object-few layouts views register object layout view n e =
-    ltb-true object 4 (rw (ne-eqb object 255 n) at (both-left _ _ (both-right _ _ e)))
 
 -- the runs of a matrix are few
 pub access-few : (f : ℕ → Outcome) (t : MatrixType) → SizedType t → length (runs f (t .rows * t .columns)) ≤ 257
@@ -164,9 +140,6 @@ records-after out at rs qs {out₁} {at₁} e p =
 
 -- ---- the turns over the steps
 
-one-less : (n k : ℕ) → k < n → n - k ≡ suc (n - (k + 1))
-one-less n k h = omega arith
-
 -- types from which the check of n steps more, the next of which is number k, refuses none
 pub record Rest (n : ℕ) (sh : Sheet) (len k : ℕ) (ts : List MatrixType) : Type 0 where
   pub sized : Sized ts
@@ -226,10 +199,6 @@ tape-end n sh len k ts h = let e : n - k ≡ 0 = omega arith in rw e refl
 pub tape-start : (sh : Sheet) (len : ℕ) → tapeFrom (sh .steps - 0) sh len 0 (emptyRegisters .types) ≡ tapeOf sh len
 unfolding tapeOf
 tape-start sh len = rw sub-zero refl
-
-pub empty-types : (none : MatrixType) → none ≡ noType → none ∷ none ∷ none ∷ none ∷ [] ≡ emptyRegisters .types
-unfolding emptyRegisters
-empty-types none e = rw e
 
 -- how many records a step becomes does not depend on its number, and they are few
 pub step-records : (sh : Sheet) (ts : List MatrixType) (len k : ℕ) (st : Step) → length (stepRecords sh ts len k st) ≡ length (stepRecords sh ts len 0 st)

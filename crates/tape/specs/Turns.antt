@@ -34,6 +34,7 @@ use Rattle.transfers.specs.Acts.{State, state, took, gave, put}
 use Rattle.carrying.specs.Steps.{Machine, machine, stateOf, machineOf, performedStep, wholeStepDone}
 use Rattle.carrying.specs.Carrying.{refusalAt, memoryLimit, started, carryAnswer}
 use Rattle.carrying.specs.Types.{Formed, started-formed, step-places, within-step}
+use Rattle.carrying.specs.Loops.{one-less}
 use Rattle.records.specs.declared.Record.{Record}
 use Rattle.records.specs.declared.Record.the-variants.{Copy, Take, Put, Fill, Whole}
 use Rattle.records.specs.declared.Decoded.{Decoded}
@@ -281,9 +282,6 @@ module _ (sh : Sheet) (m : Machine) (len : ℕ) where
 
 -- ---- the turns
 
-one-less : (n k : ℕ) → k < n → n - k ≡ suc (n - (k + 1))
-one-less n k h = omega arith
-
 -- the records from number k on are looked at, over types
 module _ (n : ℕ) (sh : Sheet) (len : ℕ) (the : ℕ → Decoded) (k : ℕ) (ts : List MatrixType) where
   pub range-end : n ≤ k → refusalAt 0 0 0 ≡ rangeFrom (n - k) sh len the k ts
@@ -299,12 +297,7 @@ module _ (n : ℕ) (sh : Sheet) (len : ℕ) (the : ℕ → Decoded) (k : ℕ) (t
     unfolding rangeFrom pick
     range-stop e = rw (one-less n k h, ← q, e)
 
--- the look begins with registers that have no type
-pub empty-types : (none : MatrixType) → none ≡ noType → none ∷ none ∷ none ∷ none ∷ [] ≡ emptyRegisters .types
-unfolding emptyRegisters
-empty-types none e = rw e
-
--- the run begins with them too, and with elements that are 0
+-- the run begins with registers that have no type, and elements that are 0
 pub empty-started : (none : MatrixType) → none ≡ noType → (memory : List ℕ) → machineOf (none ∷ none ∷ none ∷ none ∷ []) (state (replicate 1024 0) memory 0) ≡ started memory
 unfolding emptyRegisters
 empty-started none e memory = rw e

@@ -2,9 +2,9 @@ use Prim.Native.Nat.{_-_, _*_, _≤_}
 use mathlib.Core.Path.{_≡_, _∙_}
 use Rattle.registers.specs.Sized.{Sized, sized-empty}
 use Rattle.carrying.specs.Carrying.{checkedFrom, checked}
-use Rattle.carrying.specs.Types.{check-sized, within-step}
+use Rattle.carrying.specs.Types.{check-sized, within-step, empty-types}
 use Rattle.carrying.specs.Counts.{step-placed}
-use Rattle.carrying.proofs.Laws.{empty-types, checked-start, checked-go, checked-stop, checked-end}
+use Rattle.carrying.proofs.Laws.{checked-start, checked-go, checked-stop, checked-end}
 use borrow.Author.Needs.{needs}
 use native.Mathlib.Omega.{arith}
 use Rattle.carrying.proofs.checks.check.Statement.{statement}

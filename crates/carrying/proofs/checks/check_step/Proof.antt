@@ -3,7 +3,8 @@ use mathlib.Core.List.{[], _∷_}
 use types.Run.{miss}
 use Rattle.whole_steps.specs.Within.{whole-ok}
 use Rattle.carrying.specs.Steps.{checkedStep}
-use Rattle.carrying.proofs.Laws.{load-names, store-names, load-object, rest-check}
+use Rattle.carrying.specs.Names.{load-names, store-names, load-object}
+use Rattle.carrying.proofs.Laws.{rest-check}
 use borrow.Author.Needs.{needs}
 use Rattle.carrying.proofs.checks.check_step.Statement.{statement}
 use Rattle.carrying.proofs.checks.check_step.Tie as tie

@@ -1,4 +1,5 @@
-use Rattle.carrying.proofs.Laws.{load-names, load-object, rest-types}
+use Rattle.carrying.specs.Names.{load-names, load-object}
+use Rattle.carrying.proofs.Laws.{rest-types}
 use Rattle.whole_steps.specs.Within.{whole-ok}
 use types.Run.{miss}
 use mathlib.Core.List.{[], _∷_}

@@ -1,5 +1,6 @@
 use lib.ListN.{length}
-use Rattle.carrying.proofs.Laws.{load-names, store-names, load-option, rest-refusal, rest-done}
+use Rattle.carrying.specs.Names.{load-names, store-names, load-option}
+use Rattle.carrying.proofs.Laws.{rest-refusal, rest-done}
 use Rattle.carrying.specs.Loops.{object-machine, given-sized, load-clear, store-clear}
 use Rattle.carrying.specs.Steps.{machine, machineOf, registersOf, performedStep, loadDone}
 use Rattle.transfers.specs.Acts.{state}

@@ -3,8 +3,9 @@ use Prim.Native.Nat.{_-_, _≤_}
 use mathlib.Core.Path.{_≡_, _∙_}
 use Rattle.numbers.specs.Choice.{went-not, went-past}
 use Rattle.registers.specs.Sized.{Sized, sized-empty}
+use Rattle.carrying.specs.Types.{empty-types}
 use Rattle.tape.specs.Running.{tapeRecord, rangeFrom, rangeRefusal}
-use Rattle.tape.specs.Turns.{empty-types, range-start, range-go, range-stop, range-end, decoded-sized}
+use Rattle.tape.specs.Turns.{range-start, range-go, range-stop, range-end, decoded-sized}
 use borrow.Author.Needs.{needs}
 use native.Mathlib.Omega.{arith}
 use Rattle.tape.proofs.judging.range.Statement.{statement}

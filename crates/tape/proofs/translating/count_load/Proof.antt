@@ -4,8 +4,9 @@ use Prim.Native.Nat.{_*_}
 use lib.ListN.{length}
 use Rattle.transfers.specs.Transfers.{outcomeOf}
 use Rattle.carrying.specs.Steps.{accessOf}
+use Rattle.carrying.specs.Names.{load-names, object-few}
 use Rattle.runs.specs.Writing.{count-records}
-use Rattle.tape.proofs.TranslateLaws.{load-names, object-few, own-records, own-clear, other-records, other-clear, access-few}
+use Rattle.tape.proofs.TranslateLaws.{own-records, own-clear, other-records, other-clear, access-few}
 use native.Mathlib.Omega.{arith}
 use Rattle.tape.proofs.translating.count_load.Statement.{statement}
 use Rattle.tape.proofs.translating.count_load.Tie as tie

@@ -7,8 +7,9 @@ use types.Run.{miss}
 use Rattle.transfers.specs.Transfers.{outcomeOf}
 use Rattle.carrying.specs.Steps.{accessOf}
 use Rattle.runs.specs.Writing.{count-records}
+use Rattle.carrying.specs.Names.{store-names}
 use Rattle.tape.specs.Tapes.{stepRecords}
-use Rattle.tape.proofs.TranslateLaws.{store-names, store-records, store-clear, rest-records}
+use Rattle.tape.proofs.TranslateLaws.{store-records, store-clear, rest-records}
 use borrow.Author.Needs.{needs}
 use Rattle.tape.proofs.translating.count_step.Statement.{statement}
 use Rattle.tape.proofs.translating.count_step.Tie as tie

@@ -4,9 +4,10 @@ use mathlib.Core.Bool.{true}
 use Prim.Native.Nat.{_*_, _+_, _≤_}
 use lib.ListN.{length}
 use Rattle.carrying.specs.Steps.{accessOf}
+use Rattle.carrying.specs.Names.{load-names, object-few}
 use Rattle.records.specs.declared.Record.the-variants.{Copy}
 use Rattle.tape.specs.Tapes.{accessRecords}
-use Rattle.tape.proofs.TranslateLaws.{load-names, object-few, own-records, own-clear, other-records, other-clear, other-some, one-more}
+use Rattle.tape.proofs.TranslateLaws.{own-records, own-clear, other-records, other-clear, other-some, one-more}
 use native.Mathlib.Omega.{arith}
 use borrow.Author.Needs.{needs}
 use Rattle.tape.proofs.translating.write_load.Statement.{statement}

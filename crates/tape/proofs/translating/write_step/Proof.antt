@@ -1,8 +1,9 @@
 use mathlib.Core.Path.{refl}
 use mathlib.Core.List.{[], _∷_}
 use types.Run.{miss}
+use Rattle.carrying.specs.Names.{store-names}
 use Rattle.tape.specs.Tapes.{stepRecords}
-use Rattle.tape.proofs.TranslateLaws.{store-names, store-records, store-clear, rest-records}
+use Rattle.tape.proofs.TranslateLaws.{store-records, store-clear, rest-records}
 use native.Mathlib.Omega.{arith}
 use borrow.Author.Needs.{needs}
 use Rattle.tape.proofs.translating.write_step.Statement.{statement}

@@ -5,11 +5,11 @@ use lib.ListN.{length, length-append}
 use lib.Seq.{sets}
 use Rattle.sheet.specs.Steps.{theStep}
 use Rattle.carrying.specs.Steps.{checkedStep}
-use Rattle.carrying.specs.Types.{within-step, check-types}
+use Rattle.carrying.specs.Types.{within-step, check-types, empty-types}
 use Rattle.records.specs.declared.Record.{Record}
 use Rattle.records.specs.Records.{tapeNumbers}
 use Rattle.tape.specs.Tapes.{stepRecords, tapeFrom, tapeOf}
-use Rattle.tape.proofs.TranslateLaws.{Rest, rest-start, rest-first, rest-next, tape-start, tape-go, tape-end, empty-types, records-after}
+use Rattle.tape.proofs.TranslateLaws.{Rest, rest-start, rest-first, rest-next, tape-start, tape-go, tape-end, records-after}
 use borrow.Author.Needs.{needs}
 use native.Mathlib.Omega.{arith}
 use Rattle.tape.proofs.translating.write_tape.Statement.{statement}
