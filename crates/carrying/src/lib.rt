@@ -15,7 +15,8 @@ use sheet::Refusal;
 // The largest memory.
 pub const MEMORY_LIMIT: usize = 65_536;
 
-const MEMORY_TOO_LARGE: u8 = 18;
+// The refusal of a larger one.
+pub const MEMORY_TOO_LARGE: u8 = 18;
 
 // What the check of a step tells: its refusal, or the types that it leaves and how many of its elements have a byte.
 pub struct StepCheck {
@@ -66,7 +67,8 @@ pub fn check_sheet(sheet: &[u8], memory_len: usize) -> CheckAnswer
     checks::check(model, memory_len)
 }
 
-fn carry_refused(refusal: Refusal) -> CarryAnswer
+// A refusal, with empty registers and a count of 0.
+pub fn carry_refused(refusal: Refusal) -> CarryAnswer
     ensures { λ r. ⌜ r ≡ carryAnswer refusal emptyRegisters 0 ⌝ }
 {
     let registers = registers::empty_registers();

@@ -5,12 +5,11 @@ ghost use mathlib.Core.List.{List};
 ghost use Prim.Native.Nat.{ℕ, _+_, _*_, _<_, _≤_, _^_};
 ghost use lib.ListN.{length};
 ghost use Rattle.sheet.specs.Steps.{theStep};
-ghost use Rattle.registers.specs.Registers.{emptyRegisters};
 ghost use Rattle.registers.specs.Sized.{Sized};
 ghost use Rattle.round_trip.specs.Sheets.{Within};
 ghost use Rattle.transfers.specs.Acts.{state};
 ghost use Rattle.carrying.specs.Steps.{machine, machineOf, wholeStepDone};
-ghost use Rattle.carrying.specs.Carrying.{started, carryAnswer};
+ghost use Rattle.carrying.specs.Carrying.{started};
 ghost use Rattle.records.specs.Ranges.{Sound};
 ghost use Rattle.records.specs.declared.Decoded.the-variants.{Good};
 ghost use Rattle.tape.specs.Records.{wholeRecordOk, recordOk, ranRecord};
@@ -29,8 +28,6 @@ use registers::MatrixType;
 use registers::Registers;
 use sheet::Refusal;
 use sheet::Sheet;
-
-const MEMORY_TOO_LARGE: u8 = 18;
 
 // Op 4. The registers' elements go through a copy here, and only here.
 fn run_whole(
@@ -184,17 +181,6 @@ fn run_records(sheet: Sheet, tape: &[i32], records: usize, memory: &mut [u8]) ->
     }
 }
 
-fn run_refused(refusal: Refusal) -> CarryAnswer
-    ensures { λ r. ⌜ r ≡ carryAnswer refusal emptyRegisters 0 ⌝ }
-{
-    let registers = registers::empty_registers();
-    CarryAnswer {
-        refusal,
-        count: 0,
-        registers,
-    }
-}
-
 // A record count that does not fit has place 0.
 fn tape_refusal(sheet: Sheet, tape: &[i32], records: usize, len: usize) -> Refusal
     requires { ⌜ Within sheet ⌝ }
@@ -212,17 +198,17 @@ pub fn run_tape(sheet: &[u8], tape: &[i32], records: usize, memory: &mut [u8]) -
     ensures { λ _. ⌜ now (memory .exit) ≡ ranMemory (now (sheet .entry)) (now (tape .entry)) records (now (memory .entry)) ⌝ }
 {
     if carrying::MEMORY_LIMIT < memory.len() {
-        return run_refused(checks::refusal_at(MEMORY_TOO_LARGE, 0, 0));
+        return carrying::carry_refused(checks::refusal_at(carrying::MEMORY_TOO_LARGE, 0, 0));
     }
     let read = sheet_reader::read_sheet(sheet);
     let unread = read.refusal;
     if 0 < unread.number {
-        return run_refused(unread);
+        return carrying::carry_refused(unread);
     }
     let model = read.sheet;
     let refused = tape_refusal(model, tape, records, memory.len());
     if 0 < refused.number {
-        return run_refused(refused);
+        return carrying::carry_refused(refused);
     }
     let done = run_records(model, tape, records, memory);
     let registers = done.registers;

@@ -18,8 +18,8 @@ use Rattle.tape.proofs.running.run_tape.Tie as tie
 refusal-at-requires : tie.Need-refusal-at-requires
 refusal-at-requires c κs = search needs
 
-run-refused-requires : tie.Need-run-refused-requires
-run-refused-requires c κs = search needs
+carry-refused-requires : tie.Need-carry-refused-requires
+carry-refused-requires c κs = search needs
 
 returns : tie.Need-returns
 returns c =
@@ -28,13 +28,13 @@ returns c =
     let t = now (a .tape) in
     let m = now (a .memory) in
     let u = run-large s t (a .records) (length m) (c .before .before .if1 .taken) in
-    (c .run-refused .ensures ∙ ap (λ (r : Refusal). carryAnswer r emptyRegisters 0) (c .before .refusal-at .ensures) ∙ run-refused s t (a .records) m u (omega arith), ran-refused s t (a .records) m u (omega arith))
+    (c .carry-refused .ensures ∙ ap (λ (r : Refusal). carryAnswer r emptyRegisters 0) (c .before .refusal-at .ensures) ∙ run-refused s t (a .records) m u (omega arith), ran-refused s t (a .records) m u (omega arith))
 
 read-sheet-requires : tie.Need-read-sheet-requires
 read-sheet-requires c κs = search needs
 
-run-refused-requires-2 : tie.Need-run-refused-requires-2
-run-refused-requires-2 c κs = search needs
+carry-refused-requires-2 : tie.Need-carry-refused-requires-2
+carry-refused-requires-2 c κs = search needs
 
 returns-2 : tie.Need-returns-2
 returns-2 c =
@@ -45,7 +45,7 @@ returns-2 c =
     let e = c .before .before .before .before .read-sheet .ensures in
     let n : 0 < readSheet s .refusal .number = rw e at (c .before .if2 .taken) in
     let u = run-unread s t (a .records) (length m) (c .before .before .before .before .before .if1 .left) n in
-    (c .run-refused2 .ensures ∙ ap (λ (r : ReadAnswer). carryAnswer (r .refusal) emptyRegisters 0) e ∙ run-refused s t (a .records) m u n, ran-refused s t (a .records) m u n)
+    (c .carry-refused2 .ensures ∙ ap (λ (r : ReadAnswer). carryAnswer (r .refusal) emptyRegisters 0) e ∙ run-refused s t (a .records) m u n, ran-refused s t (a .records) m u n)
 
 tape-refusal-requires : tie.Need-tape-refusal-requires
 tape-refusal-requires c κs =
@@ -55,8 +55,8 @@ tape-refusal-requires c κs =
     let z : readSheet s .refusal .number ≤ 0 = rw e at (c .before .if2 .left) in
     rw e (read-within s _ (not-refused s (omega arith)))
 
-run-refused-requires-3 : tie.Need-run-refused-requires-3
-run-refused-requires-3 c κs = search needs
+carry-refused-requires-3 : tie.Need-carry-refused-requires-3
+carry-refused-requires-3 c κs = search needs
 
 returns-3 : tie.Need-returns-3
 returns-3 c =
@@ -68,7 +68,7 @@ returns-3 c =
     let e = d .read-sheet .ensures in
     let z : readSheet s .refusal .number ≤ 0 = rw e at (c .before .before .before .before .before .if2 .left) in
     let u = run-readable s t (a .records) (length m) (d .before .if1 .left) (omega arith) ∙ ap (λ (r : ReadAnswer). tapeRefusal (r .sheet) t (a .records) (length m)) (sym e) ∙ sym (c .before .before .before .tape-refusal .ensures) in
-    (c .run-refused3 .ensures ∙ run-refused s t (a .records) m u (c .before .if3 .taken), ran-refused s t (a .records) m u (c .before .if3 .taken))
+    (c .carry-refused3 .ensures ∙ run-refused s t (a .records) m u (c .before .if3 .taken), ran-refused s t (a .records) m u (c .before .if3 .taken))
 
 run-records-requires : tie.Need-run-records-requires
 run-records-requires c κs =
@@ -112,13 +112,13 @@ run-tape-spec =
     tie.close
     (tie.spec
     refusal-at-requires
-    run-refused-requires
+    carry-refused-requires
     returns
     read-sheet-requires
-    run-refused-requires-2
+    carry-refused-requires-2
     returns-2
     tape-refusal-requires
-    run-refused-requires-3
+    carry-refused-requires-3
     returns-3
     run-records-requires
     refusal-at-requires-2
