@@ -1,6 +1,6 @@
 -- The loads and stores of a sheet that is within Sizes, and what their check tells.
 use Prim.Native.Nat.{ℕ, _*_, _<_, _≤_}
-use mathlib.Core.Path.{_≡_, refl, sym, _∙_}
+use mathlib.Core.Path.{_≡_, sym, _∙_}
 use mathlib.Core.Bool.{Bool, true, false, not, true≢false}
 use mathlib.Core.List.{List}
 use mathlib.Core.Logic.{⊎-elim}
@@ -13,13 +13,14 @@ use Rattle.kinds.specs.Laws.{bytes-size, bytes-low, bytes-high}
 use Rattle.sheet.specs.Sizes.{optionOk}
 use Rattle.sheet.specs.declared.Sheet.{Sheet}
 use Rattle.round_trip.specs.Sheets.{Within}
-use Rattle.registers.specs.Types.{isEmpty, withType}
+use Rattle.registers.specs.Types.{isEmpty}
 use Rattle.registers.specs.Sized.{SizedType}
 use Rattle.registers.specs.declared.MatrixType.{MatrixType}
 use Rattle.addressing.specs.declared.Access.{Access}
 use Rattle.addressing.specs.Valid.{SizedAccess}
-use Rattle.accesses.specs.Refusals.{accessRefusal, checkedAccess, checked}
-use Rattle.carrying.specs.Steps.{viewed, accessOf, stepCheck, accessCheck, loadCheck, storeCheck}
+use Rattle.accesses.specs.Refusals.{accessRefusal, checked}
+use Rattle.carrying.specs.Steps.{viewed, accessOf, loadCheck, storeCheck}
+use Rattle.carrying.specs.Types.{load-some, store-some, load-access, store-access}
 
 -- a view that a step names, and that is one, is among those given
 pub view-given : (count view : ℕ) → optionOk count view ≡ true → viewed view ≡ true → view < count
@@ -65,21 +66,15 @@ pub record Clear (t : MatrixType) (a : Access) : Type 0 where
   pub filled : isEmpty t ≡ false
   pub clear : accessRefusal a (t .rows) (t .columns) .number ≡ 0
 
-accepted : (t : MatrixType) (a : Access) (ts us : List MatrixType) → pick (isEmpty t) (stepCheck 7 0 ts 0) (accessCheck us (checkedAccess a (t .rows) (t .columns))) .stop .number ≡ 0 → Clear t a
-unfolding pick checked
-accepted t a ts us e =
-    by-test (isEmpty t) (λ b. let z : _≡_ {A = ℕ} 7 0 = rw b at e in absurd (omega arith))
-    (λ b. record { filled = b; clear = rw b at e })
-  where
-    by-test : {P : Type 0} (b : Bool) → (b ≡ true → P) → (b ≡ false → P) → P
-    by-test true f g = f refl
-    by-test false f g = g refl
-
 module _ (sh : Sheet) (ts : List MatrixType) (len register : ℕ) (t : MatrixType) (layout view base : ℕ) where
   pub load-accepted : loadCheck sh ts len register t layout view base .stop .number ≡ 0 → Clear t (accessOf sh true layout view base t len)
-  unfolding loadCheck
-  load-accepted e = accepted t (accessOf sh true layout view base t len) ts (withType ts register t) e
+  unfolding checked
+  load-accepted e =
+      let some = load-some sh ts len register t layout view base e in
+      record { filled = some; clear = rw (load-access sh ts len register t layout view base some) at e }
 
   pub store-accepted : storeCheck sh ts len t layout view base .stop .number ≡ 0 → Clear t (accessOf sh false layout view base t len)
-  unfolding storeCheck
-  store-accepted e = accepted t (accessOf sh false layout view base t len) ts ts e
+  unfolding checked
+  store-accepted e =
+      let some = store-some sh ts len t layout view base e in
+      record { filled = some; clear = rw (store-access sh ts len t layout view base some) at e }
