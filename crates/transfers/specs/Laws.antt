@@ -1,15 +1,13 @@
 -- What one element's act keeps, and one more element.
 use Prim.Native.Nat.{ℕ, zero, suc, _+_, _<_, _≤_}
 use mathlib.Core.Path.{_≡_, refl, sym, ap₂, _∙_}
-use mathlib.Core.Bool.{Bool, true, false}
 use mathlib.Core.List.{List}
 use mathlib.Core.Logic.{inl, inr}
 use native.Mathlib.Nat.{le-refl}
 use native.Mathlib.Numerals.{add-one}
 use native.Mathlib.Omega.{arith}
-use lib.Dec.{eqb}
 use lib.ListN.{length}
-use borrow.Author.Tests.{eqb-true, eqb-false}
+use Rattle.numbers.specs.Places.{by-place}
 use Rattle.kinds.specs.Laws.{ElementSize}
 use Rattle.outcomes.specs.declared.Outcome.{Outcome}
 use Rattle.outcomes.specs.declared.Outcome.the-variants.{Skipped, Filled, Discarded, Placed}
@@ -70,20 +68,11 @@ sound-inside a (Filled bits) s = tt
 sound-inside a Discarded s = tt
 sound-inside a (Placed byte) s = s .0
 
-by-test : {P : Type 0} (b : Bool) → (b ≡ true → P) → (b ≡ false → P) → P
-by-test true f g = f refl
-by-test false f g = g refl
-
 -- the elements of an access have 1, 2 or 4 bytes
 pub access-size : (a : Access) → SizedAccess a → ElementSize (a .size)
 access-size a s =
-    by-test (eqb (a .size) 1) (λ e. inl (eqb-true _ _ e))
-    (λ e. by-test (eqb (a .size) 2) (λ f. inr (inl (eqb-true _ _ f)))
-    (λ f.
-    let n : a .size ≡ 1 → ⊥ = eqb-false _ _ e in
-    let m : a .size ≡ 2 → ⊥ = eqb-false _ _ f in
-    let k : a .size ≡ 4 = omega (arith, s .some, s .most, s .odd) in
-    inr (inr k)))
+    by-place (a .size) 1 inl
+    (λ n. by-place (a .size) 2 (λ e. inr (inl e)) (λ m. let k : a .size ≡ 4 = omega (arith, s .some, s .most, s .odd) in inr (inr k)))
 
 -- a state by its parts
 made : (x : State) {es m : List ℕ} {n : ℕ} → es ≡ x .elements → m ≡ x .memory → n ≡ x .count → state es m n ≡ x
