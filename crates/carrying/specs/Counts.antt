@@ -17,12 +17,11 @@ use Rattle.round_trip.specs.Sheets.{Within}
 use Rattle.registers.specs.Types.{theType, isEmpty}
 use Rattle.registers.specs.Sized.{SizedType, Sized}
 use Rattle.registers.specs.declared.MatrixType.{MatrixType}
-use Rattle.outcomes.specs.declared.Outcome.{Outcome}
-use Rattle.outcomes.specs.declared.Outcome.the-variants.{Skipped, Filled, Discarded, Placed}
 use Rattle.addressing.specs.declared.Access.{Access}
 use Rattle.addressing.specs.declared.Located.{Located}
 use Rattle.accesses.specs.Refusals as accesses
-use Rattle.accesses.specs.Refusals.{elementOutcome, placedOne, placedCount, checkedAccess}
+use Rattle.accesses.specs.Refusals.{elementOutcome, placedCount, checkedAccess}
+use Rattle.accesses.specs.Accepted.{placed-most}
 use Rattle.accesses.specs.declared.Stop.{Stop}
 use Rattle.transfers.specs.Effects.{transferred-counts, loaded-counts, stored-counts}
 use Rattle.carrying.specs.Steps.{accessOf, objectOf, loadCheck, storeCheck, checkedStep, Machine, stateOf, loadDone, storeDone, performedStep}
@@ -30,18 +29,6 @@ use Rattle.carrying.specs.Carrying.{checkedFrom, checked, performedFrom,
 use Rattle.carrying.specs.Types.{checkOn, Accepted, load-some, store-some, load-access, store-access, object-memory, object-count, object-type, Formed, started-formed, step-formed, checkFrom, first-accepted, rest-checked, within-step}
 use Rattle.carrying.specs.declared.StepCheck.{StepCheck}
 use Rattle.carrying.specs.declared.CheckAnswer.{CheckAnswer}
-
-one-most : (o : Outcome) → placedOne o ≤ 1
-one-most Skipped = omega arith
-one-most (Filled bits) = omega arith
-one-most Discarded = omega arith
-one-most (Placed byte) = omega arith
-
--- of n elements at most n have a byte
-pub placed-most : (f : ℕ → Located) (n : ℕ) → placedCount f n ≤ n
-unfolding placedCount
-placed-most f zero = omega arith
-placed-most f (suc n) = omega (arith, placed-most f n, one-most (f n .outcome))
 
 checked-most : (f : ℕ → Located) (n : ℕ) (s : Stop) → accesses.checked f n s .placed ≤ n
 unfolding accesses.checked

@@ -5,12 +5,12 @@ use mathlib.Core.Bool.{Bool, true, false}
 use mathlib.Core.List.{List, [], _∷_, _++_}
 use mathlib.Core.Logic.{_⊎_, ⊎-elim}
 use native.Mathlib.Omega.{arith}
-use borrow.Author.Tests.{leb-true, eqb-true, eqb-false, eq-eqb, ne-eqb}
-use lib.Dec.{eqb, leb}
+use borrow.Author.Tests.{eqb-true, eq-eqb, ne-eqb}
+use lib.Dec.{eqb}
 use lib.IntN.{ℤ}
 use lib.ListN.{length, length-append}
 use lib.Seq.{sets}
-use Rattle.numbers.specs.Choice.{pick, pick-case, both-right}
+use Rattle.numbers.specs.Choice.{pick, pick-case}
 use Rattle.numbers.specs.Lists.{puts-after}
 use Rattle.outcomes.specs.declared.Outcome.{Outcome}
 use Rattle.outcomes.specs.declared.Outcome.the-variants.{Skipped, Filled, Discarded, Placed}
@@ -34,7 +34,7 @@ use Rattle.sheet.specs.declared.Step.the-variants.{Nothing, Fill, Load, Store, 
 use Rattle.registers.specs.Types.{theType}
 use Rattle.registers.specs.declared.MatrixType.{MatrixType}
 use Rattle.carrying.specs.Steps.{accessOf, objectOf, checkedStep}
-use Rattle.carrying.specs.Carrying.{checkedFrom, checked, checkedSheet, memoryLimit, refusalAt}
+use Rattle.carrying.specs.Carrying.{checkedFrom, checked, checkedSheet, refusalAt}
 use Rattle.carrying.specs.Types.{check-sized}
 use Rattle.carrying.specs.Loops.{one-less}
 use Rattle.carrying.specs.declared.StepCheck.{StepCheck}
@@ -46,9 +46,8 @@ use Rattle.records.specs.Records.{recordNumbers, tapeNumbers}
 use Rattle.records.specs.Laws.{length-numbers, length-tape, tape-append}
 use Rattle.sheet_reader.specs.Reading.{readSheet}
 use Rattle.sheet_reader.specs.declared.ReadAnswer.{ReadAnswer}
-use Rattle.round_trip.specs.Sheets.{Within}
-use Rattle.round_trip.specs.Theorems.{not-refused, read-within}
 use Rattle.tape.specs.Translating.{recordsFit, translateAnswer, fitsRoom, translated, translatedRoom}
+use Rattle.tape.specs.Turns.{fit-room}
 use Rattle.tape.specs.Tapes.{copyRecords, accessRecords, stepRecords, tapeFrom, tapeOf}
 
 -- ---- outcomes
@@ -238,25 +237,6 @@ step-few sh ts len k (MultiplyAdd result a b c) s = omega arith
 -- ---- the answer
 
 module _ (s : List ℕ) (len : ℕ) where
-  -- what the check accepts is read, and fits memory
-  pub record Readable : Type 0 where
-    pub few : len ≤ memoryLimit
-    pub within : Within (readSheet s .sheet)
-    pub clear : checked (readSheet s .sheet) len .refusal .number ≡ 0
-
-  pub sheet-readable : checkedSheet s len .refusal .number ≡ 0 → Readable
-  unfolding checkedSheet
-  sheet-readable =
-      pick-case (λ (c : CheckAnswer). c .refusal .number ≡ 0 → Readable) (leb len memoryLimit) _ _
-      (λ l. pick-case (λ (c : CheckAnswer). c .refusal .number ≡ 0 → Readable) (eqb (readSheet s .refusal .number) 0) _ _
-      (λ e h.
-      record {
-        few = leb-true len memoryLimit l;
-        within = read-within s (readSheet s .sheet) (not-refused s (eqb-true (readSheet s .refusal .number) 0 e));
-        clear = h;
-      })
-      (λ e h. absurd (eqb-false (readSheet s .refusal .number) 0 e h))) (λ l h. absurd (omega arith))
-
   module _ {c : CheckAnswer} (is : c ≡ checkedSheet s len) where
     -- refused by the check
     pub refused-answer : (room : ℕ) → 0 < c .refusal .number → translateAnswer (c .refusal) 0 0 ≡ translated s len room
@@ -290,8 +270,8 @@ module _ (s : List ℕ) (len : ℕ) where
 
   -- the numbers of a tape that fits
   pub fits-room : (room : ℕ) → fitsRoom s len room ≡ true → length (tapeOf (readSheet s .sheet) len) * 6 ≤ room
-  unfolding fitsRoom recordsFit
-  fits-room room e = leb-true _ room (both-right _ _ e)
+  unfolding fitsRoom
+  fits-room room e = fit-room _ _ _ e
 
   -- whether it fits, of the sheet that was read and the records that were counted
   pub room-tested : {read : ReadAnswer} {n : ℕ} {b : Bool} (room : ℕ) → read ≡ readSheet s → n ≡ length (tapeOf (read .sheet) len)

@@ -11,7 +11,7 @@ use lib.Dec.{leb, eqb}
 use lib.IntN.{ℤ}
 use lib.ListN.{length, drop}
 use lib.Seq.{sets-eq}
-use Rattle.numbers.specs.Choice.{pick, pick-case, both-left, both-right}
+use Rattle.numbers.specs.Choice.{pick, pick-case, both-left}
 use Rattle.sheet.specs.declared.Sheet.{Sheet}
 use Rattle.sheet_reader.specs.Reading.{readSheet}
 use Rattle.round_trip.specs.Sheets.{Within}
@@ -24,26 +24,30 @@ use Rattle.records.specs.Laws.{length-tape}
 use Rattle.tape.specs.Tapes.{tapeOf}
 use Rattle.tape.specs.Translating.{recordLimit, recordsFit, fitsRoom, translated, translatedRoom}
 use Rattle.tape.specs.Running.{runRefusal, runTape, ranMemory}
+use Rattle.tape.specs.Turns.{fit-room}
 use Rattle.tape.specs.Agreement.{NumbersAgree, agreement-numbers}
 use Rattle.tape.specs.declared.TranslateAnswer.{TranslateAnswer}
 
 -- a sheet that is not refused for a memory of a length
-record SheetAccepted (s : List ℕ) (len : ℕ) : Type 0 where
-  most : len ≤ memoryLimit
-  read : readSheet s .refusal .number ≡ 0
-  steps : checked (readSheet s .sheet) len .refusal .number ≡ 0
+pub record Readable (s : List ℕ) (len : ℕ) : Type 0 where
+  pub few : len ≤ memoryLimit
+  pub read : readSheet s .refusal .number ≡ 0
+  pub within : Within (readSheet s .sheet)
+  pub clear : checked (readSheet s .sheet) len .refusal .number ≡ 0
 
-sheet-accepted : (s : List ℕ) (len : ℕ) → checkedSheet s len .refusal .number ≡ 0 → SheetAccepted s len
+pub sheet-readable : (s : List ℕ) (len : ℕ) → checkedSheet s len .refusal .number ≡ 0 → Readable s len
 unfolding checkedSheet
-sheet-accepted s len =
+sheet-readable s len =
     pick-case P (leb len memoryLimit) _ _
     (λ l. pick-case P (eqb (readSheet s .refusal .number) 0) _ _
-    (λ e h. record { most = leb-true len memoryLimit l; read = eqb-true (readSheet s .refusal .number) 0 e; steps = h })
+    (λ e h.
+    let read = eqb-true (readSheet s .refusal .number) 0 e in
+    record { few = leb-true len memoryLimit l; read = read; within = read-within s _ (not-refused s read); clear = h })
     (λ e h. absurd (eqb-false (readSheet s .refusal .number) 0 e h)))
     (λ l h. absurd (omega arith))
   where
     P : CheckAnswer → Type 0
-    P c = c .refusal .number ≡ 0 → SheetAccepted s len
+    P c = c .refusal .number ≡ 0 → Readable s len
 
 -- a sheet that is translated into a room
 record Translated (s : List ℕ) (len room : ℕ) (r : TranslateAnswer) : Type 0 where
@@ -85,30 +89,27 @@ module _ (s memory : List ℕ) (room : List ℤ) (h : translated s (length memor
   told : Translated s (length memory) (length room) (translated s (length memory) (length room))
   told = is-translated s (length memory) (length room) h
 
-  accepted : SheetAccepted s (length memory)
-  accepted = sheet-accepted s (length memory) (told .accepted)
+  accepted : Readable s (length memory)
+  accepted = sheet-readable s (length memory) (told .accepted)
 
   few : length (tapeOf sh (length memory)) ≤ recordLimit (sh .edition)
   unfolding fitsRoom recordsFit
   few = leb-true _ _ (both-left _ _ (told .fits))
 
   long : length written ≤ length room
-  unfolding fitsRoom recordsFit
-  long = rw (length-tape (tapeOf sh (length memory))) (leb-true _ _ (both-right _ _ (told .fits)))
+  unfolding fitsRoom
+  long = rw (length-tape (tapeOf sh (length memory))) (fit-room _ _ _ (told .fits))
 
   numbers-are : numbers ≡ written ++ rest
   unfolding translatedRoom pick
   numbers-are = rw (told .accepted, told .fits) (sets-eq written room 0 (rw (zero-add (length written)) long) ∙ rw (zero-add (length written)))
 
-  sheet-within : Within sh
-  sheet-within = read-within s sh (not-refused s (accepted .read))
-
   agrees : NumbersAgree sh memory (length (tapeOf sh (length memory))) numbers
-  agrees = agreement-numbers sh sheet-within memory (accepted .steps) (accepted .most) few numbers rest numbers-are
+  agrees = agreement-numbers sh (accepted .within) memory (accepted .clear) (accepted .few) few numbers rest numbers-are
 
   run-accepted : runRefusal s numbers (length (tapeOf sh (length memory))) (length memory) ≡ refusalAt 0 0 0
   unfolding runRefusal pick
-  run-accepted = rw (le-leb (length memory) memoryLimit (accepted .most), eq-eqb (readSheet s .refusal .number) 0 (accepted .read)) (agrees .accepted)
+  run-accepted = rw (le-leb (length memory) memoryLimit (accepted .few), eq-eqb (readSheet s .refusal .number) 0 (accepted .read)) (agrees .accepted)
 
   runs-as-carried : RunsAsCarried s memory numbers (length (tapeOf sh (length memory)))
   unfolding runTape ranMemory carried carriedMemory pick

@@ -10,7 +10,8 @@ use Rattle.carrying.specs.declared.CheckAnswer.{CheckAnswer}
 use Rattle.records.specs.Records.{tapeNumbers}
 use Rattle.tape.specs.Tapes.{tapeOf}
 use Rattle.tape.specs.Translating.{translateAnswer}
-use Rattle.tape.proofs.TranslateLaws.{sheet-readable, refused-answer, refused-room, long-answer, long-room, tape-answer, tape-room, fits-room, room-tested}
+use Rattle.tape.specs.Theorems.{sheet-readable}
+use Rattle.tape.proofs.TranslateLaws.{refused-answer, refused-room, long-answer, long-room, tape-answer, tape-room, fits-room, room-tested}
 use native.Mathlib.Omega.{arith}
 use borrow.Author.Needs.{needs}
 use Rattle.tape.proofs.translating.translate.Statement.{statement}
