@@ -1,19 +1,19 @@
 -- What the loop over a sheet's steps keeps.
 use Prim.Native.Nat.{ℕ, suc, _+_, _-_, _*_, _<_, _≤_}
 use mathlib.Core.Path.{_≡_, refl, ap, _∙_}
-use mathlib.Core.Bool.{Bool, true, false}
+use mathlib.Core.Bool.{true, false}
 use mathlib.Core.List.{List}
 use native.Mathlib.Omega.{arith}
 use lib.Dec.{eqb}
 use lib.ListN.{length}
 use Rattle.numbers.specs.Choice.{pick}
+use Rattle.numbers.specs.Places.{by-test}
 use Rattle.sheet.specs.Steps.{theStep}
 use Rattle.sheet.specs.declared.Sheet.{Sheet}
 use Rattle.round_trip.specs.Sheets.{Within}
 use Rattle.sheet.specs.declared.Step.the-variants.{Load, Store}
 use Rattle.registers.specs.Types.{theType}
 use Rattle.registers.specs.Sized.{Sized, sized-with}
-use Rattle.registers.specs.Registers.{copied}
 use Rattle.registers.specs.declared.Registers.{Registers}
 use Rattle.carrying.specs.Steps.{Machine, machine, objectOf, objectDone, objectRegisters, accessOf, checkedStep, performedStep}
 use Rattle.carrying.specs.Carrying.{checked, performedFrom, performed, started}
@@ -67,11 +67,7 @@ ready-end sh k m start r = r .rest
 -- giving a load's register its object touches the registers alone
 pub object-machine : (register object : ℕ) (g : Registers) (memory : List ℕ) (count : ℕ) → machine (objectRegisters register object g) memory count ≡ objectDone register object (machine g memory count)
 unfolding objectDone objectRegisters pick
-object-machine register object g memory count = by-test (eqb object 255)
-  where
-    by-test : (b : Bool) → machine (pick b g (copied g register object)) memory count ≡ pick b (machine g memory count) (machine (copied g register object) memory count)
-    by-test true = refl
-    by-test false = refl
+object-machine register object g memory count = by-test (eqb object 255) (λ e. rw e) (λ e. rw e)
 
 -- a load and a store that are accepted, by their parts
 module _ (sh : Sheet) (m : Machine) (register layout view base : ℕ) where

@@ -273,22 +273,31 @@ unfoldable pub typesFrom : ℕ → Sheet → ℕ → ℕ → List MatrixType →
 typesFrom zero sh len k ts = ts
 typesFrom (suc n) sh len k ts = typesFrom n sh len (k + 1) (checkedStep sh ts len (theStep (sh .step) k) .types)
 
--- where they are accepted, so is the first
-pub first-accepted : (n : ℕ) (sh : Sheet) (k : ℕ) (m : Machine) (count : ℕ) → checkFrom (suc n) sh k m count .refusal .number ≡ 0 → Accepted sh (theStep (sh .step) k) m
-unfolding checkedFrom
-first-accepted n sh k m count =
-    let c = checkOn sh (theStep (sh .step) k) m in
-    pick-case (λ (r : CheckAnswer). r .refusal .number ≡ 0 → c .stop .number ≡ 0) (eqb (c .stop .number) 0) _ _
-    (λ e h. eqb-true (c .stop .number) 0 e) (λ e h. h)
+-- where they are accepted, so is the first, and what the check says of them is what it says of the others
+module _ (n : ℕ) (sh : Sheet) (len k : ℕ) (ts : List MatrixType) (count : ℕ) where
+  abbrev first : StepCheck
+  first = checkedStep sh ts len (theStep (sh .step) k)
 
--- and what the check says of them is what it says of the others on the machine that the first leaves
+  pub first-clear : checkedFrom (suc n) sh len k ts count .refusal .number ≡ 0 → first .stop .number ≡ 0
+  unfolding checkedFrom
+  first-clear =
+      pick-case (λ (r : CheckAnswer). r .refusal .number ≡ 0 → first .stop .number ≡ 0) (eqb (first .stop .number) 0) _ _
+      (λ e h. eqb-true (first .stop .number) 0 e) (λ e h. h)
+
+  pub rest-clear : first .stop .number ≡ 0 → checkedFrom (suc n) sh len k ts count ≡ checkedFrom n sh len (k + 1) (first .types) (count + first .placed)
+  unfolding checkedFrom pick
+  rest-clear e = rw (eq-eqb (first .stop .number) 0 e)
+
+pub first-accepted : (n : ℕ) (sh : Sheet) (k : ℕ) (m : Machine) (count : ℕ) → checkFrom (suc n) sh k m count .refusal .number ≡ 0 → Accepted sh (theStep (sh .step) k) m
+first-accepted n sh k m count = first-clear n sh (length (m .memory)) k (m .registers .types) count
+
+-- the others are checked on the machine that the first leaves
 pub rest-checked : (n : ℕ) (sh : Sheet) (k : ℕ) (m : Machine) (count : ℕ) → Accepted sh (theStep (sh .step) k) m
     → checkFrom (suc n) sh k m count
     ≡ checkFrom n sh (k + 1) (performedStep sh (theStep (sh .step) k) m) (count + checkOn sh (theStep (sh .step) k) m .placed)
-unfolding checkedFrom pick
 rest-checked n sh k m count a =
     let step = theStep (sh .step) k in
-    rw (step-length sh step m, step-types sh step m a, eq-eqb (checkOn sh step m .stop .number) 0 a)
+    rest-clear n sh (length (m .memory)) k (m .registers .types) count a ∙ rw (step-length sh step m, step-types sh step m a)
 
 -- so each of them is accepted, on the machine that those before it leave
 pub from-accepted : (n : ℕ) (sh : Sheet) (k : ℕ) (m : Machine) (count : ℕ) → checkFrom n sh k m count .refusal .number ≡ 0

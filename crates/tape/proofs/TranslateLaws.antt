@@ -5,7 +5,7 @@ use mathlib.Core.Bool.{Bool, true, false}
 use mathlib.Core.List.{List, [], _∷_, _++_}
 use mathlib.Core.Logic.{_⊎_, ⊎-elim}
 use native.Mathlib.Omega.{arith}
-use borrow.Author.Tests.{eqb-true, eq-eqb, ne-eqb}
+use borrow.Author.Tests.{eq-eqb, ne-eqb}
 use lib.Dec.{eqb}
 use lib.IntN.{ℤ}
 use lib.ListN.{length, length-append}
@@ -35,9 +35,8 @@ use Rattle.registers.specs.Types.{theType}
 use Rattle.registers.specs.declared.MatrixType.{MatrixType}
 use Rattle.carrying.specs.Steps.{accessOf, objectOf, checkedStep}
 use Rattle.carrying.specs.Carrying.{checkedFrom, checked, checkedSheet, refusalAt}
-use Rattle.carrying.specs.Types.{check-sized}
+use Rattle.carrying.specs.Types.{check-sized, first-clear, rest-clear}
 use Rattle.carrying.specs.Loops.{one-less}
-use Rattle.carrying.specs.declared.StepCheck.{StepCheck}
 use Rattle.carrying.specs.declared.CheckAnswer.{CheckAnswer}
 use Rattle.carrying.specs.Accesses.{Clear, load-accepted, store-accepted}
 use Rattle.records.specs.declared.Record.{Record}
@@ -149,21 +148,6 @@ pub rest-start : (sh : Sheet) (len : ℕ) → checked sh len .refusal .number �
 unfolding checked
 rest-start sh len h = rw sub-zero (record { sized = sized-empty; counted = 0; clear = h })
 
-module _ (n : ℕ) (sh : Sheet) (len k : ℕ) (ts : List MatrixType) where
-  abbrev check : StepCheck
-  check = checkedStep sh ts len (theStep (sh .step) k)
-
-  first-clear : (count : ℕ) → checkedFrom (suc n) sh len k ts count .refusal .number ≡ 0 → check .stop .number ≡ 0
-  unfolding checkedFrom
-  first-clear count =
-      pick-case (λ (r : CheckAnswer). r .refusal .number ≡ 0 → check .stop .number ≡ 0) (eqb (check .stop .number) 0) _ _
-      (λ e h. eqb-true (check .stop .number) 0 e) (λ e h. h)
-
-  rest-clear : (count : ℕ) → check .stop .number ≡ 0 → checkedFrom (suc n) sh len k ts count .refusal .number ≡ 0
-      → checkedFrom n sh len (k + 1) (check .types) (count + check .placed) .refusal .number ≡ 0
-  unfolding checkedFrom pick
-  rest-clear count e h = rw (eq-eqb (check .stop .number) 0 e) at h
-
 module _ (n : ℕ) (sh : Sheet) (len k : ℕ) (ts : List MatrixType) (h : k < n) where
   abbrev step : Step
   step = theStep (sh .step) k
@@ -182,7 +166,7 @@ module _ (n : ℕ) (sh : Sheet) (len k : ℕ) (ts : List MatrixType) (h : k < n)
         (record {
           sized = check-sized sh ts len step (sh .edition) (sh .layouts) (sh .views) ok (r .sized);
           counted = r .counted + checkedStep sh ts len step .placed;
-          clear = rest-clear (n - (k + 1)) sh len k ts (r .counted) rest-first clear;
+          clear = rw (rest-clear (n - (k + 1)) sh len k ts (r .counted) rest-first) at clear;
         })
 
   -- the records of the next step, and the others
