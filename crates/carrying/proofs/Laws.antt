@@ -9,6 +9,7 @@ use borrow.Author.Tests.{le-leb, lt-leb, eq-eqb, ne-eqb}
 use lib.Dec.{eqb}
 use Rattle.numbers.specs.Choice.{pick}
 use Rattle.sheet.specs.Steps.{theStep}
+use Rattle.sheet.specs.declared.Refusal.{Refusal}
 use Rattle.sheet.specs.declared.Sheet.{Sheet}
 use Rattle.sheet.specs.declared.Step.{Step}
 use Rattle.sheet.specs.declared.Step.the-variants.{Nothing, Fill, Load, Store, Reduce, Transpose, MultiplyAdd}
@@ -96,6 +97,10 @@ module _ (s : List ℕ) (len : ℕ) where
   pub readable : len ≤ memoryLimit → readSheet s .refusal .number ≡ 0 → checkedSheet s len ≡ checked (readSheet s .sheet) len
   unfolding checkedSheet pick
   readable h n = rw (le-leb len memoryLimit h, eq-eqb (readSheet s .refusal .number) 0 n)
+
+-- a refusal is none with number 0
+pub refused-not : {c : CheckAnswer} {r : Refusal} → c ≡ checkRefused r → 0 < r .number → c .refusal .number ≡ 0 → ⊥
+refused-not {r = r} e n z = let q : r .number ≡ 0 = rw e at z in omega arith
 
 module _ (s memory : List ℕ) where
   -- refused: the check's refusal, empty registers, memory unchanged

@@ -9,3 +9,4 @@ pub mod Stores
 pub mod Strips
 pub mod Done
 pub mod Loops
+pub mod Readable

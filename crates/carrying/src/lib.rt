@@ -5,12 +5,15 @@ pub mod performing;
 
 ghost use mathlib.Core.Path.{_≡_};
 ghost use lib.ListN.{length};
-ghost use Rattle.carrying.specs.Carrying.{carryAnswer, checkedSheet, carried, carriedMemory};
+ghost use Rattle.carrying.specs.Carrying.{checkRefused, carryAnswer, checkedSheet, carried, carriedMemory};
+ghost use Rattle.sheet_reader.specs.Reading.{readSheet};
 ghost use Rattle.registers.specs.Registers.{emptyRegisters};
 use accesses::Stop;
 use registers::MatrixType;
 use registers::Registers;
 use sheet::Refusal;
+use sheet::Sheet;
+use sheet::sheets;
 
 // The largest memory.
 pub const MEMORY_LIMIT: usize = 65_536;
@@ -51,23 +54,50 @@ pub struct Stepped {
     pub count: usize,
 }
 
-// Whether a sheet would be refused for a memory of a length, and how many elements of its loads and stores have a byte.
-pub fn check_sheet(sheet: &[u8], memory_len: usize) -> CheckAnswer
-    ensures { λ r. ⌜ r ≡ checkedSheet (now (sheet .entry)) «memory_len» ⌝ }
+// A sheet read and checked: the check's answer, and where it is not refused the sheet.
+pub struct Judged {
+    pub answer: CheckAnswer,
+    pub sheet: Sheet,
+}
+
+fn judged_refused(refusal: Refusal) -> Judged
+    ensures { λ r. ⌜ r .answer ≡ checkRefused refusal ⌝ }
+{
+    Judged {
+        answer: checks::check_refused(refusal),
+        sheet: sheets::empty_sheet(),
+    }
+}
+
+// 18, the sheet's reading, and its check: what carrying out and translating begin with.
+pub fn judge(sheet: &[u8], memory_len: usize) -> Judged
+    ensures { λ r. ⌜ r .answer ≡ checkedSheet (now (sheet .entry)) «memory_len» ⌝ }
+    ensures { λ r. ⌜ (r .answer .refusal .number ≡ 0 → r .sheet ≡ readSheet (now (sheet .entry)) .sheet) ⌝ }
 {
     if MEMORY_LIMIT < memory_len {
-        return checks::check_refused(checks::refusal_at(MEMORY_TOO_LARGE, 0, 0));
+        return judged_refused(checks::refusal_at(MEMORY_TOO_LARGE, 0, 0));
     }
     let read = sheet_reader::read_sheet(sheet);
     let refusal = read.refusal;
     if 0 < refusal.number {
-        return checks::check_refused(refusal);
+        return judged_refused(refusal);
     }
     let model = read.sheet;
-    checks::check(model, memory_len)
+    let answer = checks::check(model, memory_len);
+    Judged {
+        answer,
+        sheet: model,
+    }
 }
 
-// A refusal, with empty registers and a count of 0.
+// Whether a sheet would be refused for a memory of a length, and how many elements of its loads and stores have a byte.
+pub fn check_sheet(sheet: &[u8], memory_len: usize) -> CheckAnswer
+    ensures { λ r. ⌜ r ≡ checkedSheet (now (sheet .entry)) «memory_len» ⌝ }
+{
+    let judged = judge(sheet, memory_len);
+    judged.answer
+}
+
 pub fn carry_refused(refusal: Refusal) -> CarryAnswer
     ensures { λ r. ⌜ r ≡ carryAnswer refusal emptyRegisters 0 ⌝ }
 {
@@ -84,20 +114,13 @@ pub fn carry_out(sheet: &[u8], memory: &mut [u8]) -> CarryAnswer
     ensures { λ r. ⌜ r ≡ carried (now (sheet .entry)) (now (memory .entry)) ⌝ }
     ensures { λ _. ⌜ now (memory .exit) ≡ carriedMemory (now (sheet .entry)) (now (memory .entry)) ⌝ }
 {
-    if MEMORY_LIMIT < memory.len() {
-        return carry_refused(checks::refusal_at(MEMORY_TOO_LARGE, 0, 0));
-    }
-    let read = sheet_reader::read_sheet(sheet);
-    let unread = read.refusal;
-    if 0 < unread.number {
-        return carry_refused(unread);
-    }
-    let model = read.sheet;
-    let found = checks::check(model, memory.len());
+    let judged = judge(sheet, memory.len());
+    let found = judged.answer;
     let refused = found.refusal;
     if 0 < refused.number {
         return carry_refused(refused);
     }
+    let model = judged.sheet;
     let done = performing::perform(model, memory);
     let registers = done.registers;
     CarryAnswer {

@@ -44,7 +44,6 @@ use Rattle.records.specs.declared.Record.the-variants.{Copy, Whole}
 use Rattle.records.specs.Records.{recordNumbers, tapeNumbers}
 use Rattle.records.specs.Laws.{length-numbers, length-tape, tape-append}
 use Rattle.sheet_reader.specs.Reading.{readSheet}
-use Rattle.sheet_reader.specs.declared.ReadAnswer.{ReadAnswer}
 use Rattle.tape.specs.Translating.{recordsFit, translateAnswer, fitsRoom, translated, translatedRoom}
 use Rattle.tape.specs.Turns.{fit-room}
 use Rattle.tape.specs.Tapes.{copyRecords, accessRecords, stepRecords, tapeFrom, tapeOf}
@@ -258,7 +257,7 @@ module _ (s : List ℕ) (len : ℕ) where
   fits-room room e = fit-room _ _ _ e
 
   -- whether it fits, of the sheet that was read and the records that were counted
-  pub room-tested : {read : ReadAnswer} {n : ℕ} {b : Bool} (room : ℕ) → read ≡ readSheet s → n ≡ length (tapeOf (read .sheet) len)
-      → b ≡ recordsFit (read .sheet .edition) room n → b ≡ fitsRoom s len room
+  pub room-tested : {model : Sheet} {n : ℕ} {b : Bool} (room : ℕ) → model ≡ readSheet s .sheet → n ≡ length (tapeOf model len)
+      → b ≡ recordsFit (model .edition) room n → b ≡ fitsRoom s len room
   unfolding fitsRoom
   room-tested room e f g = g ∙ rw (f, e) refl

@@ -7,47 +7,24 @@ use mathlib.Core.List.{List, _++_}
 use native.Mathlib.Nat.{zero-add}
 use native.Mathlib.Omega.{arith}
 use borrow.Author.Tests.{leb-true, le-leb, eqb-true, eqb-false, eq-eqb}
-use lib.Dec.{leb, eqb}
+use lib.Dec.{eqb}
 use lib.IntN.{ℤ}
 use lib.ListN.{length, drop}
 use lib.Seq.{sets-eq}
 use Rattle.numbers.specs.Choice.{pick, pick-case, both-left}
 use Rattle.sheet.specs.declared.Sheet.{Sheet}
 use Rattle.sheet_reader.specs.Reading.{readSheet}
-use Rattle.round_trip.specs.Sheets.{Within}
-use Rattle.round_trip.specs.Theorems.{read-within, not-refused}
 use Rattle.carrying.specs.Steps.{Machine}
-use Rattle.carrying.specs.Carrying.{refusalAt, memoryLimit, checked, checkedSheet, carryAnswer, carried, carriedMemory}
-use Rattle.carrying.specs.declared.CheckAnswer.{CheckAnswer}
+use Rattle.carrying.specs.Carrying.{refusalAt, memoryLimit, checkedSheet, carryAnswer, carried, carriedMemory}
 use Rattle.records.specs.Records.{tapeNumbers}
 use Rattle.records.specs.Laws.{length-tape}
 use Rattle.tape.specs.Tapes.{tapeOf}
+use Rattle.carrying.specs.Readable.{Readable, sheet-readable}
 use Rattle.tape.specs.Translating.{recordLimit, recordsFit, fitsRoom, translated, translatedRoom}
 use Rattle.tape.specs.Running.{runRefusal, runTape, ranMemory}
 use Rattle.tape.specs.Turns.{fit-room}
 use Rattle.tape.specs.Agreement.{NumbersAgree, agreement-numbers}
 use Rattle.tape.specs.declared.TranslateAnswer.{TranslateAnswer}
-
--- a sheet that is not refused for a memory of a length
-pub record Readable (s : List ℕ) (len : ℕ) : Type 0 where
-  pub few : len ≤ memoryLimit
-  pub read : readSheet s .refusal .number ≡ 0
-  pub within : Within (readSheet s .sheet)
-  pub clear : checked (readSheet s .sheet) len .refusal .number ≡ 0
-
-pub sheet-readable : (s : List ℕ) (len : ℕ) → checkedSheet s len .refusal .number ≡ 0 → Readable s len
-unfolding checkedSheet
-sheet-readable s len =
-    pick-case P (leb len memoryLimit) _ _
-    (λ l. pick-case P (eqb (readSheet s .refusal .number) 0) _ _
-    (λ e h.
-    let read = eqb-true (readSheet s .refusal .number) 0 e in
-    record { few = leb-true len memoryLimit l; read = read; within = read-within s _ (not-refused s read); clear = h })
-    (λ e h. absurd (eqb-false (readSheet s .refusal .number) 0 e h)))
-    (λ l h. absurd (omega arith))
-  where
-    P : CheckAnswer → Type 0
-    P c = c .refusal .number ≡ 0 → Readable s len
 
 -- a sheet that is translated into a room
 record Translated (s : List ℕ) (len room : ℕ) (r : TranslateAnswer) : Type 0 where

@@ -387,13 +387,13 @@ pub fn translate(sheet: &[u8], memory_len: usize, tape: &mut [i32]) -> Translate
     ensures { λ r. ⌜ r ≡ translated (now (sheet .entry)) «memory_len» (length (now (tape .entry))) ⌝ }
     ensures { λ _. ⌜ now (tape .exit) ≡ translatedRoom (now (sheet .entry)) «memory_len» (now (tape .entry)) ⌝ }
 {
-    let found = carrying::check_sheet(sheet, memory_len);
+    let judged = carrying::judge(sheet, memory_len);
+    let found = judged.answer;
     let refused = found.refusal;
     if 0 < refused.number {
         return translate_refused(refused);
     }
-    let read = sheet_reader::read_sheet(sheet);
-    let model = read.sheet;
+    let model = judged.sheet;
     let records = count_tape(model, memory_len);
     if !records_fit(model.edition, tape.len(), records) {
         return translate_refused(checks::refusal_at(TAPE_TOO_LONG, 0, 0));
