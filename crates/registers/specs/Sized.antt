@@ -5,9 +5,8 @@ use Prim.Native.Nat.{ℕ, zero, suc, _<_, _≤_}
 use native.Mathlib.Omega.{arith}
 use lib.ListN.{replicate}
 use Rattle.registers.specs.Types.{noType, theType, withType}
-use Rattle.registers.specs.Registers.{emptyRegisters, copied}
+use Rattle.registers.specs.Registers.{emptyRegisters}
 use Rattle.registers.specs.declared.MatrixType.{MatrixType}
-use Rattle.registers.specs.declared.Registers.{Registers}
 
 -- a type of at most 16 by 16 elements of a kind, or none
 pub record SizedType (t : MatrixType) : Type 0 where
@@ -32,9 +31,6 @@ at-set P (x ∷ ts) (suc r) t (suc k) p q = at-set P ts r t k p q
 
 pub sized-with : (ts : List MatrixType) (r : ℕ) (t : MatrixType) → Sized ts → SizedType t → Sized (withType ts r t)
 sized-with ts r t s p = record { each = λ k. at-set SizedType ts r t k (s .each k) p }
-
-pub sized-copied : (g : Registers) (r s : ℕ) → Sized (g .types) → Sized (copied g r s .types)
-sized-copied g r s p = sized-with (g .types) r (theType (g .types) s) p (p .each s)
 
 none-at : (n k : ℕ) → SizedType (theType (replicate n noType) k)
 none-at zero k = sized-none

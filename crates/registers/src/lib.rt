@@ -3,7 +3,7 @@ ghost use mathlib.Core.Path.{_≡_};
 ghost use Prim.Native.Nat.{_<_, _≤_};
 ghost use lib.ListN.{getD};
 ghost use Rattle.registers.specs.Types.{noType, theType, isEmpty, withType};
-ghost use Rattle.registers.specs.Registers.{room, placeOf, elementOf, withElementOf, withBlock, copiedElements, copied, emptyRegisters};
+ghost use Rattle.registers.specs.Registers.{room, placeOf, elementOf, withElementOf, withBlock, copiedElements, emptyRegisters};
 
 // Kind and sides of a matrix. Rows 0: the register is empty, and all three are 0.
 pub struct MatrixType {
@@ -111,20 +111,5 @@ pub fn copy_elements(elements: &mut [u32; 1024], register: u8, source: u8)
     while e < ROOM {
         elements[to + e] = elements[from + e];
         e += 1;
-    }
-}
-
-// A register made equal to another.
-pub fn copied(registers: Registers, register: u8, source: u8) -> Registers
-    requires { ⌜ (register < 4) × (source < 4) ⌝ }
-    ensures { λ r. ⌜ r ≡ copied registers register source ⌝ }
-{
-    let types = registers.types;
-    let t = the_type(types, source);
-    let mut elements = registers.elements;
-    copy_elements(&mut elements, register, source);
-    Registers {
-        types: with_type(types, register, t),
-        elements,
     }
 }
