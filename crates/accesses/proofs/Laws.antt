@@ -16,9 +16,10 @@ use Rattle.outcomes.specs.declared.Outcome.{Outcome}
 use Rattle.outcomes.specs.declared.Outcome.the-variants.{Skipped, Filled, Discarded, Placed}
 use Rattle.addressing.specs.declared.Access.{Access}
 use Rattle.addressing.specs.declared.Located.{Located}
-use Rattle.accesses.specs.declared.Stop.{Stop}
+use Rattle.stops.specs.Stops.{stopAt}
+use Rattle.stops.specs.declared.Stop.{Stop}
 use Rattle.accesses.specs.declared.Survey.{Survey}
-use Rattle.accesses.specs.Refusals.{elementOutcome, stopAt, firstRefused, sameByte, sameAt, meets, clashFrom, clashRefusal, elementsRefusal, placedOne, placedCount, checkedBy, checked, misplaced, ranksDiffer, storeBlocked, accessRefusal, checkedAccess}
+use Rattle.accesses.specs.Refusals.{elementOutcome, firstRefused, sameByte, sameAt, meets, clashFrom, clashRefusal, elementsRefusal, placedOne, placedCount, checkedBy, checked, misplaced, ranksDiffer, storeBlocked, accessRefusal, checkedAccess}
 use Rattle.accesses.specs.Entries.{Near, entryOf, hits, sameEntry, Surveyed}
 
 -- The search of refusal 15

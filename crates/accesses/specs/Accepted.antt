@@ -15,8 +15,9 @@ use Rattle.addressing.specs.declared.Access.{Access}
 use Rattle.addressing.specs.declared.Located.{Located}
 use Rattle.addressing.specs.Valid.{SizedAccess, ValidAccess}
 use Rattle.addressing.specs.Sound.{Sound, located-sound, low-bits-fit}
-use Rattle.accesses.specs.declared.Stop.{Stop}
-use Rattle.accesses.specs.Refusals.{elementOutcome, stopAt, misplaced, ranksDiffer, storeBlocked, firstRefused, sameAt, meets, clashFrom, clashRefusal, elementsRefusal, accessRefusal, placedOne, placedCount}
+use Rattle.stops.specs.Stops.{stopAt}
+use Rattle.stops.specs.declared.Stop.{Stop}
+use Rattle.accesses.specs.Refusals.{elementOutcome, misplaced, ranksDiffer, storeBlocked, firstRefused, sameAt, meets, clashFrom, clashRefusal, elementsRefusal, accessRefusal, placedOne, placedCount}
 
 pub element-sound : (a : Access) (n k : ℕ) → Sound a (elementOutcome a n k .outcome)
 unfolding elementOutcome

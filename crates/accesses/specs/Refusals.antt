@@ -11,15 +11,13 @@ use Rattle.outcomes.specs.declared.Outcome.the-variants.{Skipped, Filled, Disca
 use Rattle.addressing.specs.declared.Access.{Access}
 use Rattle.addressing.specs.declared.Located.{Located}
 use Rattle.addressing.specs.Rules.{located}
-use Rattle.accesses.specs.declared.Stop.{Stop}
+use Rattle.stops.specs.Stops.{stopAt}
+use Rattle.stops.specs.declared.Stop.{Stop}
 use Rattle.accesses.specs.declared.Checked.{Checked}
 
 -- what becomes of element number k of a matrix of n columns: its row is k / n, its column k mod n
 unfoldable pub elementOutcome : Access → ℕ → ℕ → Located
 elementOutcome a n k = located a n (k / n) (k % n)
-
-abbrev pub stopAt : ℕ → ℕ → Stop
-stopAt number element = record { number = number; element = element }
 
 -- Refusal 9: base not a multiple of 16
 abbrev pub misplaced : Access → Bool

@@ -17,6 +17,7 @@ use Rattle.outcomes.specs.declared.Outcome.the-variants.{Skipped, Filled, Disca
 use Rattle.addressing.specs.declared.Access.{Access}
 use Rattle.addressing.specs.declared.Located.{Located}
 use Rattle.addressing.specs.Rules
+use Rattle.stops.specs.Stops.{stopAt}
 use Rattle.accesses.specs.declared.Checked.{Checked}
 use Rattle.accesses.specs.Refusals
 
@@ -63,10 +64,10 @@ bad : Located
 bad = Rules.refused 13
 
 accepted : ℕ → Checked
-accepted placed = Refusals.checkedBy (Refusals.stopAt 0 0) placed
+accepted placed = Refusals.checkedBy (stopAt 0 0) placed
 
 refusedAt : ℕ → ℕ → Checked
-refusedAt number element = Refusals.checkedBy (Refusals.stopAt number element) 0
+refusedAt number element = Refusals.checkedBy (stopAt number element) 0
 
 -- a dimension of n with block 1
 dimension : ℕ → ℕ → ℕ → ℕ → Dimension

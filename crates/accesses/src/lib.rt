@@ -2,14 +2,16 @@
 ghost use mathlib.Core.Path.{_≡_};
 ghost use mathlib.Core.Bool.{true};
 ghost use Prim.Native.Nat.{_*_, _≤_, _<_};
+ghost use Rattle.stops.specs.Stops.{stopAt};
 ghost use Rattle.sheet.specs.Layouts.{theDimension, layoutOk};
 ghost use Rattle.addressing.specs.Valid.{SizedAccess, Planned};
-ghost use Rattle.accesses.specs.Refusals.{elementOutcome, ranksDiffer, blocksOne, storeBlocked, stopAt, clashFrom, elementsRefusal, placedOne, checkedBy, checked, checkedAccess};
+ghost use Rattle.accesses.specs.Refusals.{elementOutcome, ranksDiffer, blocksOne, storeBlocked, clashFrom, elementsRefusal, placedOne, checkedBy, checked, checkedAccess};
 ghost use Rattle.accesses.specs.Entries.{Near, entryOf, entryOutcome, hits, sameEntry, Surveyed};
 use addressing::Access;
 use addressing::Plan;
 use outcomes::Outcome;
 use sheet::Layout;
+use stops::Stop;
 
 // The most elements of a matrix.
 const ELEMENTS: usize = 256;
@@ -18,12 +20,6 @@ const ELEMENTS: usize = 256;
 const FILLED: u32 = 65_537;
 
 const DISCARDED: u32 = 65_538;
-
-// A refusal's number and its element, 0 where it names none. All zero: not refused.
-pub struct Stop {
-    pub number: u8,
-    pub element: usize,
-}
 
 // An access's refusal, and where it is not refused the number of elements with a byte.
 pub struct Checked {

@@ -1,6 +1,6 @@
--- The steps that are no load and no store, the turns of the check, and the answers.
+-- The turns of the check, and the answers.
 use Prim.Native.Nat.{ℕ, _+_, _-_, _<_, _≤_}
-use mathlib.Core.Path.{_≡_, refl}
+use mathlib.Core.Path.{_≡_}
 use mathlib.Core.Bool.{false}
 use mathlib.Core.List.{List}
 use native.Mathlib.Omega.{arith}
@@ -11,58 +11,15 @@ use Rattle.numbers.specs.Choice.{pick}
 use Rattle.sheet.specs.Steps.{theStep}
 use Rattle.sheet.specs.declared.Refusal.{Refusal}
 use Rattle.sheet.specs.declared.Sheet.{Sheet}
-use Rattle.sheet.specs.declared.Step.{Step}
-use Rattle.sheet.specs.declared.Step.the-variants.{Nothing, Fill, Load, Store, Reduce, Transpose, MultiplyAdd}
-use Rattle.whole_steps.specs.Refusals.{wholeRefusal}
-use Rattle.whole_steps.specs.Whole.{wholeTypes}
 use Rattle.registers.specs.Registers.{emptyRegisters}
 use Rattle.registers.specs.declared.MatrixType.{MatrixType}
 use Rattle.registers.specs.declared.Registers.{Registers}
 use Rattle.sheet_reader.specs.Reading.{readSheet}
-use Rattle.carrying.specs.Steps.{wholeCheck, stepTypes, checkedStep, Machine, machine, wholeStepDone, performedStep}
+use Rattle.carrying.specs.Steps.{checkedStep, machine}
 use Rattle.carrying.specs.Carrying.{refusalAt, memoryLimit, checkRefused, checkedFrom, checked, checkedSheet, started, performed, carryAnswer, carried, carriedMemory}
 use Rattle.carrying.specs.Loops.{one-less}
 use Rattle.carrying.specs.declared.StepCheck.{StepCheck}
 use Rattle.carrying.specs.declared.CheckAnswer.{CheckAnswer}
-
--- of a step that is no load the whole step's types are all
-pub rest-types : (ts : List MatrixType) (step : Step) → ((register object layout view base : ℕ) → step ≡ Load register object layout view base → ⊥)
-    → wholeTypes ts step ≡ stepTypes ts step
-rest-types ts Nothing h = refl
-rest-types ts (Fill register rows columns kind value) h = refl
-rest-types ts (Load register object layout view base) h = absurd (h register object layout view base refl)
-rest-types ts (Store register layout view base) h = refl
-rest-types ts (Reduce result source rows columns mode combine) h = refl
-rest-types ts (Transpose result source) h = refl
-rest-types ts (MultiplyAdd result a b c) h = refl
-
--- and of a step that is no store either, the whole step's check and deed
-module _ (sh : Sheet) where
-  pub rest-check : (ts : List MatrixType) (len : ℕ) (step : Step) → ((register object layout view base : ℕ) → step ≡ Load register object layout view base → ⊥)
-      → ((register layout view base : ℕ) → step ≡ Store register layout view base → ⊥) → wholeCheck ts step ≡ checkedStep sh ts len step
-  unfolding checkedStep
-  rest-check ts len Nothing h g = refl
-  rest-check ts len (Fill register rows columns kind value) h g = refl
-  rest-check ts len (Load register object layout view base) h g = absurd (h register object layout view base refl)
-  rest-check ts len (Store register layout view base) h g = absurd (g register layout view base refl)
-  rest-check ts len (Reduce result source rows columns mode combine) h g = refl
-  rest-check ts len (Transpose result source) h g = refl
-  rest-check ts len (MultiplyAdd result a b c) h g = refl
-
-  pub rest-refusal : (ts : List MatrixType) (len : ℕ) (step : Step) → ((register object layout view base : ℕ) → step ≡ Load register object layout view base → ⊥)
-      → ((register layout view base : ℕ) → step ≡ Store register layout view base → ⊥) → checkedStep sh ts len step .stop .number ≡ wholeRefusal ts step
-  rest-refusal ts len step h g = rw (← rest-check ts len step h g) refl
-
-  pub rest-done : (step : Step) (m : Machine) → ((register object layout view base : ℕ) → step ≡ Load register object layout view base → ⊥)
-      → ((register layout view base : ℕ) → step ≡ Store register layout view base → ⊥) → wholeStepDone step m ≡ performedStep sh step m
-  unfolding performedStep
-  rest-done Nothing m h g = refl
-  rest-done (Fill register rows columns kind value) m h g = refl
-  rest-done (Load register object layout view base) m h g = absurd (h register object layout view base refl)
-  rest-done (Store register layout view base) m h g = absurd (g register layout view base refl)
-  rest-done (Reduce result source rows columns mode combine) m h g = refl
-  rest-done (Transpose result source) m h g = refl
-  rest-done (MultiplyAdd result a b c) m h g = refl
 
 pub checked-start : (sh : Sheet) (len : ℕ) → checkedFrom (sh .steps - 0) sh len 0 (emptyRegisters .types) 0 ≡ checked sh len
 unfolding checked

@@ -12,7 +12,7 @@ use Rattle.numbers.specs.Choice.{pick, pick-case, both-left}
 use Rattle.sheet.specs.Steps.{theStep, loadOk, stepOk}
 use Rattle.sheet.specs.declared.Sheet.{Sheet}
 use Rattle.sheet.specs.declared.Step.{Step}
-use Rattle.sheet.specs.declared.Step.the-variants.{Nothing, Fill, Load, Store, Reduce, Transpose, MultiplyAdd}
+use Rattle.sheet.specs.declared.Step.the-variants.{Nothing, Load, Store, Whole}
 use Rattle.round_trip.specs.Sheets.{Within}
 use Rattle.registers.specs.Types.{theType, isEmpty}
 use Rattle.registers.specs.Sized.{SizedType, Sized}
@@ -22,7 +22,7 @@ use Rattle.addressing.specs.declared.Located.{Located}
 use Rattle.accesses.specs.Refusals as accesses
 use Rattle.accesses.specs.Refusals.{elementOutcome, placedCount, checkedAccess}
 use Rattle.accesses.specs.Accepted.{placed-most}
-use Rattle.accesses.specs.declared.Stop.{Stop}
+use Rattle.stops.specs.declared.Stop.{Stop}
 use Rattle.transfers.specs.Effects.{transferred-counts, loaded-counts, stored-counts}
 use Rattle.carrying.specs.Steps.{accessOf, objectOf, loadCheck, storeCheck, checkedStep, Machine, stateOf, loadDone, storeDone, performedStep}
 use Rattle.carrying.specs.Carrying.{checkedFrom, checked, performedFrom, performed, started}
@@ -44,7 +44,6 @@ access-most a t s = omega (arith, sized-most t s, checked-most (elementOutcome a
 pub step-placed : (sh : Sheet) (ts : List MatrixType) (len : ℕ) (step : Step) → Sized ts → checkedStep sh ts len step .placed ≤ 256
 unfolding checkedStep loadCheck storeCheck
 step-placed sh ts len Nothing s = omega arith
-step-placed sh ts len (Fill register rows columns kind value) s = omega arith
 step-placed sh ts len (Load register object layout view base) s =
     let t = theType ts (objectOf register object) in
     pick-case (λ (c : StepCheck). c .placed ≤ 256) (isEmpty t) _ _ (λ e. omega arith)
@@ -53,9 +52,7 @@ step-placed sh ts len (Store register layout view base) s =
     let t = theType ts register in
     pick-case (λ (c : StepCheck). c .placed ≤ 256) (isEmpty t) _ _ (λ e. omega arith)
     (λ e. access-most (accessOf sh false layout view base t len) t (s .each register))
-step-placed sh ts len (Reduce result source rows columns mode combine) s = omega arith
-step-placed sh ts len (Transpose result source) s = omega arith
-step-placed sh ts len (MultiplyAdd result a b c) s = omega arith
+step-placed sh ts len (Whole whole) s = omega arith
 
 -- an access that is not refused has placed what it counts
 access-placed : (a : Access) (rows n : ℕ) → checkedAccess a rows n .stop .number ≡ 0 → checkedAccess a rows n .placed ≡ placedCount (elementOutcome a n) (rows * n)
@@ -67,7 +64,6 @@ pub step-count : (sh : Sheet) (step : Step) (m : Machine) (edition layouts views
     → stepOk edition layouts views step ≡ true → Accepted sh step m → Formed m → performedStep sh step m .count ≡ m .count + checkOn sh step m .placed
 unfolding checkedStep performedStep loadDone storeDone loadOk
 step-count sh Nothing m edition layouts views ok a f = sym (add-zero (m .count))
-step-count sh (Fill register rows columns kind value) m edition layouts views ok a f = sym (add-zero (m .count))
 step-count sh (Load register object layout view base) m edition layouts views ok a f =
     let ts = m .registers .types in
     let t = theType ts (objectOf register object) in
@@ -84,9 +80,7 @@ step-count sh (Store register layout view base) m edition layouts views ok a f =
     let e = store-access sh ts (length (m .memory)) t layout view base (store-some sh ts (length (m .memory)) t layout view base a) in
     transferred-counts _ (stored-counts (x .size) register) (elementOutcome x (t .columns)) (t .rows * t .columns) (stateOf m)
     ∙ rw e (ap (λ (n : ℕ). m .count + n) (sym (access-placed x (t .rows) (t .columns) (rw e at a))))
-step-count sh (Reduce result source rows columns mode combine) m edition layouts views ok a f = sym (add-zero (m .count))
-step-count sh (Transpose result source) m edition layouts views ok a f = sym (add-zero (m .count))
-step-count sh (MultiplyAdd result a b c) m edition layouts views ok e f = sym (add-zero (m .count))
+step-count sh (Whole whole) m edition layouts views ok a f = sym (add-zero (m .count))
 
 module _ (sh : Sheet) (w : Within sh) where
   from-count : (n k : ℕ) (m : Machine) → k + n ≤ sh .steps → checkFrom n sh k m (m .count) .refusal .number ≡ 0 → Formed m → performedFrom n sh k m .count ≡ checkFrom n sh k m (m .count) .count

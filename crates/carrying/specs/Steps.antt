@@ -11,13 +11,15 @@ use Rattle.sheet.specs.Views.{theView, noView}
 use Rattle.sheet.specs.declared.View.{View}
 use Rattle.sheet.specs.declared.Sheet.{Sheet}
 use Rattle.sheet.specs.declared.Step.{Step}
-use Rattle.sheet.specs.declared.Step.the-variants.{Nothing, Fill, Load, Store, Reduce, Transpose, MultiplyAdd}
+use Rattle.sheet.specs.declared.Step.the-variants.{Nothing, Load, Store, Whole}
+use Rattle.sheet.specs.declared.WholeStep.{WholeStep}
+use Rattle.stops.specs.Stops.{stopAt}
 use Rattle.registers.specs.Types.{theType, isEmpty, withType}
 use Rattle.registers.specs.Registers.{copied}
 use Rattle.registers.specs.declared.MatrixType.{MatrixType}
 use Rattle.registers.specs.declared.Registers.{Registers}
 use Rattle.addressing.specs.declared.Access.{Access}
-use Rattle.accesses.specs.Refusals.{checkedAccess, stopAt}
+use Rattle.accesses.specs.Refusals.{checkedAccess}
 use Rattle.accesses.specs.declared.Checked.{Checked}
 use Rattle.whole_steps.specs.Refusals.{wholeRefusal}
 use Rattle.whole_steps.specs.Whole.{wholeTypes, wholeDone}
@@ -66,29 +68,23 @@ storeCheck sh ts len t layout view base =
     pick (isEmpty t) (stepCheck 7 0 ts 0)
     (accessCheck ts (checkedAccess (accessOf sh false layout view base t len) (t .rows) (t .columns)))
 
-abbrev pub wholeCheck : List MatrixType → Step → StepCheck
-wholeCheck ts step = stepCheck (wholeRefusal ts step) 0 (wholeTypes ts step) 0
+abbrev pub wholeCheck : ℕ → List MatrixType → ℕ → WholeStep → StepCheck
+wholeCheck edition ts len w = record { stop = wholeRefusal edition ts len w; types = wholeTypes ts w; placed = 0 }
 
 -- refusals 7 to 15 of a step, over the registers' types and the memory's length; load gives its register the object's type
 unfoldable pub checkedStep : Sheet → List MatrixType → ℕ → Step → StepCheck
-checkedStep sh ts len Nothing = wholeCheck ts Nothing
-checkedStep sh ts len (Fill register rows columns kind value) = wholeCheck ts (Fill register rows columns kind value)
+checkedStep sh ts len Nothing = stepCheck 0 0 ts 0
 checkedStep sh ts len (Load register object layout view base) =
     loadCheck sh ts len register (theType ts (objectOf register object)) layout view base
 checkedStep sh ts len (Store register layout view base) = storeCheck sh ts len (theType ts register) layout view base
-checkedStep sh ts len (Reduce result source rows columns mode combine) = wholeCheck ts (Reduce result source rows columns mode combine)
-checkedStep sh ts len (Transpose result source) = wholeCheck ts (Transpose result source)
-checkedStep sh ts len (MultiplyAdd result a b c) = wholeCheck ts (MultiplyAdd result a b c)
+checkedStep sh ts len (Whole whole) = wholeCheck (sh .edition) ts len whole
 
 -- the types that a step leaves where it is not refused
 abbrev pub stepTypes : List MatrixType → Step → List MatrixType
-stepTypes ts Nothing = wholeTypes ts Nothing
-stepTypes ts (Fill register rows columns kind value) = wholeTypes ts (Fill register rows columns kind value)
+stepTypes ts Nothing = ts
 stepTypes ts (Load register object layout view base) = withType ts register (theType ts (objectOf register object))
 stepTypes ts (Store register layout view base) = ts
-stepTypes ts (Reduce result source rows columns mode combine) = wholeTypes ts (Reduce result source rows columns mode combine)
-stepTypes ts (Transpose result source) = wholeTypes ts (Transpose result source)
-stepTypes ts (MultiplyAdd result a b c) = wholeTypes ts (MultiplyAdd result a b c)
+stepTypes ts (Whole whole) = wholeTypes ts whole
 
 -- registers, memory, and how many elements of loads and stores had a byte
 pub record Machine : Type 0 where
@@ -131,15 +127,13 @@ objectDone register object m =
 unfoldable pub objectRegisters : ℕ → ℕ → Registers → Registers
 objectRegisters register object g = pick (eqb object 255) g (copied g register object)
 
-abbrev pub wholeStepDone : Step → Machine → Machine
-wholeStepDone step m = machine (wholeDone (m .registers) step) (m .memory) (m .count)
+-- a whole step reads memory, and leaves it as it was
+abbrev pub wholeStepDone : WholeStep → Machine → Machine
+wholeStepDone w m = machine (wholeDone (m .registers) (m .memory) w) (m .memory) (m .count)
 
 -- what a step does
 unfoldable pub performedStep : Sheet → Step → Machine → Machine
 performedStep sh Nothing m = m
-performedStep sh (Fill register rows columns kind value) m = wholeStepDone (Fill register rows columns kind value) m
 performedStep sh (Load register object layout view base) m = loadDone sh register layout view base (objectDone register object m)
 performedStep sh (Store register layout view base) m = storeDone sh register layout view base m
-performedStep sh (Reduce result source rows columns mode combine) m = wholeStepDone (Reduce result source rows columns mode combine) m
-performedStep sh (Transpose result source) m = wholeStepDone (Transpose result source) m
-performedStep sh (MultiplyAdd result a b c) m = wholeStepDone (MultiplyAdd result a b c) m
+performedStep sh (Whole whole) m = wholeStepDone whole m

@@ -10,7 +10,7 @@ use Rattle.numbers.specs.Places.{by-place}
 use Rattle.sheet.specs.Steps.{theStep}
 use Rattle.sheet.specs.declared.Sheet.{Sheet}
 use Rattle.sheet.specs.declared.Step.{Step}
-use Rattle.sheet.specs.declared.Step.the-variants.{Nothing, Fill, Load, Store, Reduce, Transpose, MultiplyAdd}
+use Rattle.sheet.specs.declared.Step.the-variants.{Nothing, Load, Store, Whole}
 use Rattle.registers.specs.Types.{theType}
 use Rattle.registers.specs.declared.MatrixType.{MatrixType}
 use Rattle.addressing.specs.declared.Access.{Access}
@@ -32,16 +32,13 @@ access-inside a t e b h =
 -- A byte of an element of a load or a store lies in memory.
 pub byte-inside : (sh : Sheet) (step : Step) (m : Machine) (e b : ℕ) → HasByte sh step m e b → b < length (m .memory)
 byte-inside sh Nothing m e b h = absurd h
-byte-inside sh (Fill register rows columns kind value) m e b h = absurd h
 byte-inside sh (Load register object layout view base) m e b h =
     let t = theType (m .registers .types) (objectOf register object) in
     access-inside (accessOf sh true layout view base t (length (m .memory))) t e b h
 byte-inside sh (Store register layout view base) m e b h =
     let t = theType (m .registers .types) register in
     access-inside (accessOf sh false layout view base t (length (m .memory))) t e b h
-byte-inside sh (Reduce result source rows columns mode combine) m e b h = absurd h
-byte-inside sh (Transpose result source) m e b h = absurd h
-byte-inside sh (MultiplyAdd result a b′ c) m e b h = absurd h
+byte-inside sh (Whole whole) m e b h = absurd h
 
 access-apart : (a : Access) (t : MatrixType) → a .load ≡ false → accessRefusal a (t .rows) (t .columns) .number ≡ 0 → (i j b : ℕ) → HasByteOf a t i b → HasByteOf a t j b → i ≡ j
 access-apart a t s ok i j b g h =
@@ -57,7 +54,6 @@ access-apart a t s ok i j b g h =
 pub bytes-apart : (sh : Sheet) (step : Step) (m : Machine) → Accepted sh step m → isStore step ≡ true → (i j b : ℕ) → HasByte sh step m i b → HasByte sh step m j b → i ≡ j
 unfolding checkedStep accesses.checked
 bytes-apart sh Nothing m a s i j b g h = absurd g
-bytes-apart sh (Fill register rows columns kind value) m a s i j b g h = absurd g
 bytes-apart sh (Load register object layout view base) m a s i j b g h = absurd (true≢false (sym s))
 bytes-apart sh (Store register layout view base) m a s i j b g h =
     let ts = m .registers .types in
@@ -65,9 +61,7 @@ bytes-apart sh (Store register layout view base) m a s i j b g h =
     let len = length (m .memory) in
     let e = store-access sh ts len t layout view base (store-some sh ts len t layout view base a) in
     access-apart (accessOf sh false layout view base t len) t refl (rw e at a) i j b g h
-bytes-apart sh (Reduce result source rows columns mode combine) m a s i j b g h = absurd g
-bytes-apart sh (Transpose result source) m a s i j b g h = absurd g
-bytes-apart sh (MultiplyAdd result a b′ c) m e s i j b g h = absurd g
+bytes-apart sh (Whole whole) m a s i j b g h = absurd g
 
 -- The same of step k of a sheet, on the machine that the steps before it leave.
 module _ (sh : Sheet) (memory : List ℕ) (k : ℕ) where

@@ -23,7 +23,8 @@ use Rattle.sheet.specs.declared.Dimension.{Dimension}
 use Rattle.sheet.specs.declared.Layout.{Layout}
 use Rattle.sheet.specs.declared.View.{View}
 use Rattle.sheet.specs.declared.Step.{Step}
-use Rattle.sheet.specs.declared.Step.the-variants.{Fill, Load, Store, Reduce}
+use Rattle.sheet.specs.declared.Step.the-variants.{Load, Store, Whole}
+use Rattle.sheet.specs.declared.WholeStep.the-variants.{Fill, Reduce}
 use Rattle.sheet.specs.declared.Cell.{Cell}
 use Rattle.sheet.specs.declared.Sheet.{Sheet}
 use Rattle.sheet.specs.declared.Refusal.{Refusal}
@@ -121,7 +122,7 @@ counting = countingFrom 0 64
 
 -- register 0 is filled with a value, rows by columns, u8; register 1 is loaded with object 0 from byte 0, and n of its elements are asked
 fill : ℕ → ℕ → ℕ → Step
-fill rows columns value = Fill 0 rows columns 0 value
+fill rows columns value = Whole (Fill 0 rows columns 0 value)
 
 loadStrip : Layout → List View → ℕ → ℕ → ℕ → ℕ → ℕ → Answer → Strip
 loadStrip layout views view rows columns value n wanted =
@@ -187,7 +188,7 @@ strips =
     ∷ storeStrip (plain 8 0) 1 2 100 (refused (refusalAt 15 1 1))
     -- 11: 2x2 add of a loaded u8 matrix
     ∷ record {
-      sheet = sheetOf (plain 4 1 ∷ []) [] (fill 2 2 0 ∷ Load 1 0 0 255 0 ∷ Reduce 2 1 1 1 TwoByTwo Add ∷ []);
+      sheet = sheetOf (plain 4 1 ∷ []) [] (fill 2 2 0 ∷ Load 1 0 0 255 0 ∷ Whole (Reduce 2 1 1 1 TwoByTwo Add) ∷ []);
       memory = 200 ∷ 100 ∷ 1 ∷ 2 ∷ [];
       question = elements 2 1;
       wanted = accepted (47 ∷ []);

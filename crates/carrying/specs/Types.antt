@@ -5,25 +5,24 @@ use mathlib.Core.List.{List, [], _∷_}
 use Prim.Native.Nat.{ℕ, zero, suc, _+_, _<_, _≤_}
 use native.Mathlib.Nat.{zero-add, add-zero, not-suc-le-zero}
 use native.Mathlib.Omega.{arith}
-use borrow.Author.Tests.{eqb-true, eq-eqb, leb-true}
+use borrow.Author.Tests.{eqb-true, eq-eqb}
 use lib.Dec.{eqb}
 use lib.ListN.{length, length-set, length-replicate}
 use lib.Seq.{set-getD, getD-set-same}
-use Rattle.numbers.specs.Choice.{pick, pick-case, both-left, both-right, between-low, between-high}
+use Rattle.numbers.specs.Choice.{pick, pick-case}
 use Rattle.numbers.specs.Lists.{length-line}
-use Rattle.numbers.specs.Places.{by-place}
-use Rattle.sheet.specs.Sizes.{sideLimit, sideOk}
-use Rattle.sheet.specs.Steps.{theStep, fillOk, reduceOk, stepOk}
+use Rattle.sheet.specs.Steps.{theStep, stepOk}
 use Rattle.sheet.specs.declared.Sheet.{Sheet}
 use Rattle.sheet.specs.declared.Step.{Step}
-use Rattle.sheet.specs.declared.Step.the-variants.{Nothing, Fill, Load, Store, Reduce, Transpose, MultiplyAdd}
+use Rattle.sheet.specs.declared.Step.the-variants.{Nothing, Load, Store, Whole}
 use Rattle.round_trip.specs.Sheets.{Within}
 use Rattle.registers.specs.Types.{noType, theType, isEmpty, withType}
 use Rattle.registers.specs.Registers.{room, placeOf, elementOf, emptyRegisters, copied}
-use Rattle.registers.specs.Sized.{SizedType, Sized, sized-with, sized-empty}
+use Rattle.registers.specs.Sized.{Sized, sized-with, sized-empty}
 use Rattle.registers.specs.declared.MatrixType.{MatrixType}
 use Rattle.accesses.specs.Refusals.{checkedAccess}
-use Rattle.whole_steps.specs.Whole.{matrixType, reducedType, transposedType}
+use Rattle.whole_steps.specs.Whole.{wholeResult}
+use Rattle.whole_steps.specs.Within.{whole-ok, sized-whole}
 use Rattle.transfers.specs.Acts.{State}
 use Rattle.transfers.specs.Laws.{loaded-memory, stored-elements, stored-length}
 use Rattle.transfers.specs.Effects.{transferred-keeps, loaded-places}
@@ -71,16 +70,13 @@ store-access sh ts len t layout view base e = rw e
 pub check-types : (sh : Sheet) (ts : List MatrixType) (len : ℕ) (step : Step) → checkedStep sh ts len step .stop .number ≡ 0 → checkedStep sh ts len step .types ≡ stepTypes ts step
 unfolding checkedStep
 check-types sh ts len Nothing h = refl
-check-types sh ts len (Fill register rows columns kind value) h = refl
 check-types sh ts len (Load register object layout view base) h =
     let t = theType ts (objectOf register object) in
     ap (λ (c : StepCheck). c .types) (load-access sh ts len register t layout view base (load-some sh ts len register t layout view base h))
 check-types sh ts len (Store register layout view base) h =
     let t = theType ts register in
     ap (λ (c : StepCheck). c .types) (store-access sh ts len t layout view base (store-some sh ts len t layout view base h))
-check-types sh ts len (Reduce result source rows columns mode combine) h = refl
-check-types sh ts len (Transpose result source) h = refl
-check-types sh ts len (MultiplyAdd result a b c) h = refl
+check-types sh ts len (Whole whole) h = refl
 
 -- a load first gives its register the object: the types have the object's, the rest is as it was
 module _ (register object : ℕ) (m : Machine) where
@@ -131,7 +127,6 @@ module _ (register object : ℕ) (m : Machine) where
 pub step-types : (sh : Sheet) (step : Step) (m : Machine) → Accepted sh step m → performedStep sh step m .registers .types ≡ checkOn sh step m .types
 unfolding checkedStep performedStep loadDone storeDone
 step-types sh Nothing m a = refl
-step-types sh (Fill register rows columns kind value) m a = refl
 step-types sh (Load register object layout view base) m a =
     let ts = m .registers .types in
     let t = theType ts (objectOf register object) in
@@ -141,100 +136,49 @@ step-types sh (Store register layout view base) m a =
     let ts = m .registers .types in
     let t = theType ts register in
     sym (ap (λ (c : StepCheck). c .types) (store-access sh ts (length (m .memory)) t layout view base (store-some sh ts (length (m .memory)) t layout view base a)))
-step-types sh (Reduce result source rows columns mode combine) m a = refl
-step-types sh (Transpose result source) m a = refl
-step-types sh (MultiplyAdd result a b c) m e = refl
+step-types sh (Whole whole) m a = refl
 
 -- Performing a step keeps the length of memory.
 pub step-length : (sh : Sheet) (step : Step) (m : Machine) → length (performedStep sh step m .memory) ≡ length (m .memory)
 unfolding performedStep loadDone storeDone
 step-length sh Nothing m = refl
-step-length sh (Fill register rows columns kind value) m = refl
 step-length sh (Load register object layout view base) m =
     ap length (transferred-keeps (λ (s : State). s .memory) _ (loaded-memory _ register) _ _ (stateOf (objectDone register object m)) ∙ object-memory register object m)
 step-length sh (Store register layout view base) m =
     transferred-keeps (λ (s : State). length (s .memory)) _ (stored-length _ register) _ _ (stateOf m)
-step-length sh (Reduce result source rows columns mode combine) m = refl
-step-length sh (Transpose result source) m = refl
-step-length sh (MultiplyAdd result a b c) m = refl
+step-length sh (Whole whole) m = refl
 
 -- Performing a step keeps the number of the registers' places.
 pub step-places : (sh : Sheet) (step : Step) (m : Machine) → length (performedStep sh step m .registers .elements) ≡ length (m .registers .elements)
 unfolding performedStep loadDone storeDone
 step-places sh Nothing m = refl
-step-places sh (Fill register rows columns kind value) m = length-line (m .registers .elements) (placeOf register 0) _ room
 step-places sh (Load register object layout view base) m =
     transferred-keeps (λ (s : State). length (s .elements)) _ (loaded-places _ register) _ _ (stateOf (objectDone register object m))
     ∙ object-places register object m
 step-places sh (Store register layout view base) m =
     ap length (transferred-keeps (λ (s : State). s .elements) _ (stored-elements _ register) _ _ (stateOf m))
-step-places sh (Reduce result source rows columns mode combine) m = length-line (m .registers .elements) (placeOf result 0) _ room
-step-places sh (Transpose result source) m = length-line (m .registers .elements) (placeOf result 0) _ room
-step-places sh (MultiplyAdd result a b c) m = length-line (m .registers .elements) (placeOf result 0) _ room
-
--- sides and kinds of a step within Sizes
-module _ (edition : ℕ) where
-  side-some : (x : ℕ) → sideOk edition x ≡ true → 0 < x
-  side-some x e = between-low 1 (sideLimit edition) x e
-
-  side-most : (x : ℕ) → sideOk edition x ≡ true → x ≤ 16
-  unfolding sideLimit
-  side-most x e = between-high 1 (sideLimit edition) x e
-
-  sized-matrix : (kind rows columns : ℕ) → kind ≤ 5 → sideOk edition rows ≡ true → sideOk edition columns ≡ true → SizedType (matrixType kind rows columns)
-  sized-matrix kind rows columns k r c =
-      record {
-        kind = k;
-        rows = side-most rows r;
-        columns = side-most columns c;
-        some = λ h. side-some columns c;
-        none = λ e. absurd (omega (arith, side-some rows r));
-      }
-
-sized-transposed : (t : MatrixType) → SizedType t → SizedType (transposedType t)
-sized-transposed t s =
-    record {
-      kind = s .kind;
-      rows = s .columns;
-      columns = s .rows;
-      some = λ h. by-place (t .rows) 0 (λ e. absurd (omega (arith, ap (λ (u : MatrixType). u .columns) (s .none e)))) (λ d. omega arith);
-      none = λ e. by-place (t .rows) 0 (λ r. ap transposedType (s .none r)) (λ d. absurd (omega (arith, s .some (omega arith))));
-    }
+step-places sh (Whole whole) m = length-line (m .registers .elements) (placeOf (wholeResult whole) 0) _ room
 
 -- The types that the check of a step within Sizes leaves keep to Sizes, and are as many.
 pub check-sized : (sh : Sheet) (ts : List MatrixType) (len : ℕ) (step : Step) (edition layouts views : ℕ)
     → stepOk edition layouts views step ≡ true → Sized ts → Sized (checkedStep sh ts len step .types)
-unfolding checkedStep loadCheck storeCheck fillOk reduceOk
+unfolding checkedStep loadCheck storeCheck
 check-sized sh ts len Nothing edition layouts views ok s = s
-check-sized sh ts len (Fill register rows columns kind value) edition layouts views ok s =
-    let sides = both-right _ _ ok in
-    let more = both-right _ _ sides in
-    sized-with ts register (matrixType kind rows columns) s
-    (sized-matrix edition kind rows columns (leb-true kind 5 (both-left _ _ (both-right _ _ more))) (both-left _ _ sides) (both-left _ _ more))
 check-sized sh ts len (Load register object layout view base) edition layouts views ok s =
     let t = theType ts (objectOf register object) in
     pick-case (λ (c : StepCheck). Sized (c .types)) (isEmpty t) _ _ (λ e. s) (λ e. sized-with ts register t s (s .each (objectOf register object)))
 check-sized sh ts len (Store register layout view base) edition layouts views ok s =
     pick-case (λ (c : StepCheck). Sized (c .types)) (isEmpty (theType ts register)) _ _ (λ e. s) (λ e. s)
-check-sized sh ts len (Reduce result source rows columns mode combine) edition layouts views ok s =
-    let sides = both-right _ _ (both-right _ _ ok) in
-    sized-with ts result (reducedType (theType ts source) rows columns) s
-    (sized-matrix edition (theType ts source .kind) rows columns (s .each source .kind) (both-left _ _ sides) (both-right _ _ sides))
-check-sized sh ts len (Transpose result source) edition layouts views ok s =
-    sized-with ts result (transposedType (theType ts source)) s (sized-transposed (theType ts source) (s .each source))
-check-sized sh ts len (MultiplyAdd result a b c) edition layouts views ok s = sized-with ts result (theType ts c) s (s .each c)
+check-sized sh ts len (Whole whole) edition layouts views ok s = sized-whole ts whole s (whole-ok edition whole ok)
 
 pub check-registers : (sh : Sheet) (ts : List MatrixType) (len : ℕ) (step : Step) → length (checkedStep sh ts len step .types) ≡ length ts
 unfolding checkedStep loadCheck storeCheck
 check-registers sh ts len Nothing = refl
-check-registers sh ts len (Fill register rows columns kind value) = length-set ts register _
 check-registers sh ts len (Load register object layout view base) =
     pick-case (λ (c : StepCheck). length (c .types) ≡ length ts) (isEmpty (theType ts (objectOf register object))) _ _ (λ e. refl) (λ e. length-set ts register _)
 check-registers sh ts len (Store register layout view base) =
     pick-case (λ (c : StepCheck). length (c .types) ≡ length ts) (isEmpty (theType ts register)) _ _ (λ e. refl) (λ e. refl)
-check-registers sh ts len (Reduce result source rows columns mode combine) = length-set ts result _
-check-registers sh ts len (Transpose result source) = length-set ts result _
-check-registers sh ts len (MultiplyAdd result a b c) = length-set ts result _
+check-registers sh ts len (Whole whole) = length-set ts (wholeResult whole) _
 
 -- four registers of 256 places, with types within Sizes
 pub record Formed (m : Machine) : Type 0 where

@@ -11,7 +11,7 @@ use Rattle.numbers.specs.Choice.{pick-case}
 use Rattle.sheet.specs.Steps.{theStep}
 use Rattle.sheet.specs.declared.Sheet.{Sheet}
 use Rattle.sheet.specs.declared.Step.{Step}
-use Rattle.sheet.specs.declared.Step.the-variants.{Nothing, Fill, Load, Store, Reduce, Transpose, MultiplyAdd}
+use Rattle.sheet.specs.declared.Step.the-variants.{Nothing, Load, Store, Whole}
 use Rattle.sheet_reader.specs.Reading.{readSheet}
 use Rattle.registers.specs.Types.{theType}
 use Rattle.registers.specs.declared.MatrixType.{MatrixType}
@@ -31,23 +31,17 @@ HasByteOf a t e b = (e < t .rows * t .columns) × Has (a .size) b (outcomeOf a (
 -- byte b is one of those of element e of a step, which is a load or a store
 abbrev pub HasByte : Sheet → Step → Machine → ℕ → ℕ → Type 0
 HasByte sh Nothing m e b = ⊥
-HasByte sh (Fill register rows columns kind value) m e b = ⊥
 HasByte sh (Load register object layout view base) m e b =
     let t = theType (m .registers .types) (objectOf register object) in HasByteOf (accessOf sh true layout view base t (length (m .memory))) t e b
 HasByte sh (Store register layout view base) m e b =
     let t = theType (m .registers .types) register in HasByteOf (accessOf sh false layout view base t (length (m .memory))) t e b
-HasByte sh (Reduce result source rows columns mode combine) m e b = ⊥
-HasByte sh (Transpose result source) m e b = ⊥
-HasByte sh (MultiplyAdd result a b′ c) m e b = ⊥
+HasByte sh (Whole whole) m e b = ⊥
 
 abbrev pub isStore : Step → Bool
 isStore Nothing = false
-isStore (Fill register rows columns kind value) = false
 isStore (Load register object layout view base) = false
 isStore (Store register layout view base) = true
-isStore (Reduce result source rows columns mode combine) = false
-isStore (Transpose result source) = false
-isStore (MultiplyAdd result a b c) = false
+isStore (Whole whole) = false
 
 -- a step covers byte b: it is a store, and b is a byte of one of its elements
 abbrev pub Covers : Sheet → Step → Machine → ℕ → Type 0
@@ -57,25 +51,19 @@ Covers sh step m b = (isStore step ≡ true) × ((e : ℕ) × HasByte sh step m 
 pub step-memory : (sh : Sheet) (step : Step) (m : Machine) → isStore step ≡ false → performedStep sh step m .memory ≡ m .memory
 unfolding performedStep loadDone
 step-memory sh Nothing m e = refl
-step-memory sh (Fill register rows columns kind value) m e = refl
 step-memory sh (Load register object layout view base) m e =
     transferred-keeps (λ (s : State). s .memory) _ (loaded-memory _ register) _ _ (stateOf (objectDone register object m)) ∙ object-memory register object m
 step-memory sh (Store register layout view base) m e = absurd (true≢false e)
-step-memory sh (Reduce result source rows columns mode combine) m e = refl
-step-memory sh (Transpose result source) m e = refl
-step-memory sh (MultiplyAdd result a b c) m e = refl
+step-memory sh (Whole whole) m e = refl
 
 -- A byte that a step does not cover is as before.
 pub step-untouched : (sh : Sheet) (step : Step) (m : Machine) (b : ℕ) → (Covers sh step m b → ⊥) → getD (performedStep sh step m .memory) b 0 ≡ getD (m .memory) b 0
 unfolding performedStep storeDone
 step-untouched sh Nothing m b h = refl
-step-untouched sh (Fill register rows columns kind value) m b h = refl
 step-untouched sh (Load register object layout view base) m b h = rw (step-memory sh (Load register object layout view base) m refl)
 step-untouched sh (Store register layout view base) m b h =
     stores-outside _ register b _ _ (stateOf m) (λ e l p. h (refl, (e, (l, p))))
-step-untouched sh (Reduce result source rows columns mode combine) m b h = refl
-step-untouched sh (Transpose result source) m b h = refl
-step-untouched sh (MultiplyAdd result a b′ c) m b h = refl
+step-untouched sh (Whole whole) m b h = refl
 
 -- n steps, the next of which is number k: step k + i is performed on the machine that the i steps before it leave
 pub from-untouched : (n : ℕ) (sh : Sheet) (k : ℕ) (m : Machine) (b : ℕ)

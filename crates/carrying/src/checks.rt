@@ -6,17 +6,18 @@ ghost use Rattle.sheet.specs.Steps.{stepOk};
 ghost use Rattle.registers.specs.Sized.{Sized};
 ghost use Rattle.whole_steps.specs.Within.{WholeOk};
 ghost use Rattle.round_trip.specs.Sheets.{Within};
-ghost use Rattle.carrying.specs.Steps.{objectOf, wholeCheck, stepTypes, checkedStep};
+ghost use Rattle.carrying.specs.Steps.{objectOf, stepCheck, wholeCheck, stepTypes, checkedStep};
 ghost use Rattle.carrying.specs.Carrying.{refusalAt, checkRefused, checked, memoryLimit};
 use super::CheckAnswer;
 use super::StepCheck;
 use super::memory_steps;
-use accesses::Stop;
 use registers::MatrixType;
 use sheet::Refusal;
 use sheet::Sheet;
 use sheet::Step;
+use sheet::WholeStep;
 use sheet::sizes;
+use stops::Stop;
 
 pub fn refusal_at(number: u8, place: usize, element: usize) -> Refusal
     ensures { λ r. ⌜ r ≡ refusalAt number place element ⌝ }
@@ -34,15 +35,29 @@ pub fn check_refused(refusal: Refusal) -> CheckAnswer
     CheckAnswer { refusal, count: 0 }
 }
 
-fn check_whole(types: [MatrixType; 4], step: Step) -> StepCheck
+fn check_whole(edition: u8, types: [MatrixType; 4], memory: usize, step: WholeStep) -> StepCheck
     requires { ⌜ WholeOk step ⌝ }
-    ensures { λ r. ⌜ r ≡ wholeCheck types step ⌝ }
+    ensures { λ r. ⌜ r ≡ wholeCheck edition types memory step ⌝ }
 {
-    let number = whole_steps::refusals::whole_refusal(types, step);
+    let stop = whole_steps::refusals::whole_refusal(edition, types, memory, step);
     let after = whole_steps::types::whole_types(types, step);
     StepCheck {
-        stop: Stop { number, element: 0 },
+        stop,
         types: after,
+        placed: 0,
+    }
+}
+
+// An unused place: nothing is refused, and nothing changes.
+fn check_nothing(types: [MatrixType; 4]) -> StepCheck
+    ensures { λ r. ⌜ r ≡ stepCheck 0 0 types 0 ⌝ }
+{
+    StepCheck {
+        stop: Stop {
+            number: 0,
+            element: 0,
+        },
+        types,
         placed: 0,
     }
 }
@@ -63,6 +78,7 @@ pub fn check_step(sheet: Sheet, types: [MatrixType; 4], memory: usize, step: Ste
     ensures { λ r. ⌜ r ≡ checkedStep sheet types memory step ⌝ }
 {
     match step {
+        Step::Nothing => check_nothing(types),
         Step::Load {
             register,
             object,
@@ -82,7 +98,7 @@ pub fn check_step(sheet: Sheet, types: [MatrixType; 4], memory: usize, step: Ste
             let t = registers::the_type(types, register);
             memory_steps::check_store(sheet, types, memory, t, layout, view, base)
         }
-        _ => check_whole(types, step),
+        Step::Whole(whole) => check_whole(sheet.edition, types, memory, whole),
     }
 }
 
@@ -92,6 +108,7 @@ pub fn step_types(types: [MatrixType; 4], step: Step) -> [MatrixType; 4]
     ensures { λ r. ⌜ r ≡ stepTypes types step ⌝ }
 {
     match step {
+        Step::Nothing => types,
         Step::Load {
             register,
             object,
@@ -102,7 +119,13 @@ pub fn step_types(types: [MatrixType; 4], step: Step) -> [MatrixType; 4]
             let t = registers::the_type(types, object_of(register, object));
             registers::with_type(types, register, t)
         }
-        _ => whole_steps::types::whole_types(types, step),
+        Step::Store {
+            register: _,
+            layout: _,
+            view: _,
+            base: _,
+        } => types,
+        Step::Whole(whole) => whole_steps::types::whole_types(types, whole),
     }
 }
 

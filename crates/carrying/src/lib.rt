@@ -8,12 +8,12 @@ ghost use lib.ListN.{length};
 ghost use Rattle.carrying.specs.Carrying.{checkRefused, carryAnswer, checkedSheet, carried, carriedMemory};
 ghost use Rattle.sheet_reader.specs.Reading.{readSheet};
 ghost use Rattle.registers.specs.Registers.{emptyRegisters};
-use accesses::Stop;
 use registers::MatrixType;
 use registers::Registers;
 use sheet::Refusal;
 use sheet::Sheet;
 use sheet::sheets;
+use stops::Stop;
 
 // The largest memory.
 pub const MEMORY_LIMIT: usize = 65_536;

@@ -13,15 +13,14 @@ ghost use Rattle.carrying.specs.Steps.{viewNamed, accessOf, stepCheck, l
 ghost use Rattle.carrying.specs.Carrying.{memoryLimit};
 ghost use Rattle.carrying.specs.Accesses.{Clear};
 use super::StepCheck;
-use accesses::Stop;
 use addressing::Access;
 use registers::MatrixType;
 use sheet::Sheet;
 use sheet::View;
 use sheet::sizes;
 use sheet::views;
-
-const EMPTY_REGISTER: u8 = 7;
+use stops::EMPTY;
+use stops::Stop;
 
 // The view that a step names, or the unused one for none.
 fn view_named(sheet: Sheet, view: u8) -> View
@@ -88,7 +87,7 @@ pub fn check_load(
     ensures { λ r. ⌜ r ≡ loadCheck sheet types memory register t layout view base ⌝ }
 {
     if registers::is_empty(t) {
-        return refused(EMPTY_REGISTER, types);
+        return refused(EMPTY, types);
     }
     let a = access_of(sheet, true, layout, view, base, t, memory);
     let c = accesses::check_access(a, t.rows as u32, t.columns as u32);
@@ -115,7 +114,7 @@ pub fn check_store(
     ensures { λ r. ⌜ r ≡ storeCheck sheet types memory t layout view base ⌝ }
 {
     if registers::is_empty(t) {
-        return refused(EMPTY_REGISTER, types);
+        return refused(EMPTY, types);
     }
     let a = access_of(sheet, false, layout, view, base, t, memory);
     let c = accesses::check_access(a, t.rows as u32, t.columns as u32);

@@ -6,9 +6,6 @@ ghost use lib.ListN.{length};
 ghost use Rattle.sheet.specs.Sizes.{optionOk};
 ghost use Rattle.sheet.specs.Steps.{stepOk};
 ghost use Rattle.registers.specs.Sized.{Sized};
-ghost use Rattle.whole_steps.specs.Refusals.{wholeRefusal};
-ghost use Rattle.whole_steps.specs.Whole.{wholeDone};
-ghost use Rattle.whole_steps.specs.Within.{WholeOk};
 ghost use Rattle.round_trip.specs.Sheets.{Within};
 ghost use Rattle.transfers.specs.Acts.{state};
 ghost use Rattle.carrying.specs.Steps.{machine, registersOf, machineOf, objectRegisters, performedStep};
@@ -41,28 +38,6 @@ fn with_object(
     registers::with_type(types, register, t)
 }
 
-// A step without memory. The answer is the types.
-pub fn perform_whole(
-    types: [MatrixType; 4],
-    elements: &mut [u32; 1024],
-    step: Step,
-) -> [MatrixType; 4]
-    requires { ⌜ WholeOk step × Sized types × (wholeRefusal types step ≡ 0) ⌝ }
-    ensures { λ r. ⌜ registersOf r (now (elements .exit)) ≡ wholeDone (registersOf types (now (elements .entry))) step ⌝ }
-{
-    let held = *elements;
-    let after = whole_steps::perform_whole(
-        Registers {
-            types,
-            elements: held,
-        },
-        step,
-    );
-    let made = after.elements;
-    *elements = made;
-    after.types
-}
-
 fn perform_step(
     sheet: Sheet,
     types: [MatrixType; 4],
@@ -76,6 +51,7 @@ fn perform_step(
     ensures { λ r. ⌜ machineOf (r .types) (state (now (elements .exit)) (now (memory .exit)) (r .count)) ≡ performedStep sheet step (machineOf types (state (now (elements .entry)) (now (memory .entry)) count)) ⌝ }
 {
     match step {
+        Step::Nothing => Stepped { types, count },
         Step::Load {
             register,
             object,
@@ -122,8 +98,8 @@ fn perform_step(
                 count: counted,
             }
         }
-        _ => {
-            let after = perform_whole(types, elements, step);
+        Step::Whole(whole) => {
+            let after = whole_steps::perform_whole(types, elements, memory, whole);
             Stepped {
                 types: after,
                 count,

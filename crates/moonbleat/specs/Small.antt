@@ -15,7 +15,7 @@ use Rattle.sheet.specs.Steps.{theStep}
 use Rattle.sheet.specs.declared.Refusal.{Refusal}
 use Rattle.sheet.specs.declared.Sheet.{Sheet}
 use Rattle.sheet.specs.declared.Step.{Step}
-use Rattle.sheet.specs.declared.Step.the-variants.{Nothing, Fill, Load, Store, Reduce, Transpose, MultiplyAdd}
+use Rattle.sheet.specs.declared.Step.the-variants.{Nothing, Load, Store, Whole}
 use Rattle.sheet_reader.specs.Reading.{refusedRead, acceptedRead, readSheet}
 use Rattle.sheet_reader.specs.declared.ReadAnswer.{ReadAnswer}
 use Rattle.sheet_writer.specs.Bytes.{sheetBytes}
@@ -32,7 +32,8 @@ use Rattle.addressing.specs.declared.Access.{Access}
 use Rattle.addressing.specs.declared.Located.{Located}
 use Rattle.accesses.specs.Refusals as accesses
 use Rattle.accesses.specs.Refusals.{elementOutcome, misplaced, ranksDiffer, storeBlocked, firstRefused, sameAt, clashFrom, clashRefusal, elementsRefusal, accessRefusal}
-use Rattle.accesses.specs.declared.Stop.{Stop}
+use Rattle.stops.specs.declared.Stop.{Stop}
+use Rattle.whole_steps.specs.Within.{refusal-element}
 use Rattle.carrying.specs.Steps.{accessOf, objectOf, loadCheck, storeCheck, checkedStep, Machine}
 use Rattle.carrying.specs.Carrying.{memoryLimit, checkedFrom, checked, checkedSheet, performed, started, carried}
 use Rattle.carrying.specs.Types.{check-sized, within-step}
@@ -124,7 +125,6 @@ sized-among a t s = omega (arith, access-among a (t .rows) (t .columns), sized-r
 step-element : (sh : Sheet) (ts : List MatrixType) (len : ℕ) (step : Step) → Sized ts → checkedStep sh ts len step .stop .element ≤ 256
 unfolding checkedStep loadCheck storeCheck accesses.checked
 step-element sh ts len Nothing s = omega arith
-step-element sh ts len (Fill register rows columns kind value) s = omega arith
 step-element sh ts len (Load register object layout view base) s =
     let t = theType ts (objectOf register object) in
     pick-case (λ (c : StepCheck). c .stop .element ≤ 256) (isEmpty t) _ _ (λ e. omega arith)
@@ -133,9 +133,7 @@ step-element sh ts len (Store register layout view base) s =
     let t = theType ts register in
     pick-case (λ (c : StepCheck). c .stop .element ≤ 256) (isEmpty t) _ _ (λ e. omega arith)
     (λ e. sized-among (accessOf sh false layout view base t len) t (s .each register))
-step-element sh ts len (Reduce result source rows columns mode combine) s = omega arith
-step-element sh ts len (Transpose result source) s = omega arith
-step-element sh ts len (MultiplyAdd result a b c) s = omega arith
+step-element sh ts len (Whole whole) s = refusal-element (sh .edition) ts len whole
 
 abbrev SmallCheck : CheckAnswer → Type 0
 SmallCheck c = Small (c .refusal) (c .count)

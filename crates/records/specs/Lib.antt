@@ -1,3 +1,4 @@
 pub mod Records
 pub mod Ranges
 pub mod Laws
+pub mod ByteSteps

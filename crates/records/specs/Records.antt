@@ -2,7 +2,7 @@
 use Prim.Native.Nat.{ℕ, _+_}
 use mathlib.Core.Bool.{Bool, true, false}
 use mathlib.Core.List.{List, [], _∷_, _++_}
-use lib.IntN.{ℤ, pos}
+use lib.IntN.{ℤ, pos, _+ℤ_, _*ℤ_}
 use Rattle.numbers.specs.Choice.{pick, both}
 use Rattle.signed.specs.Numbers.{number, rise, fall, is, atLeast, spans, difference, signedOf, bitsOf}
 use Rattle.records.specs.declared.Record.{Record}
@@ -15,6 +15,10 @@ use Rattle.records.specs.declared.Decoded.the-variants.{Good, Bad}
 -- 1 take and 2 put: register, first, count, byte, step
 abbrev pub bytesNumbers : ℕ → ℕ → ℕ → ℕ → ℕ → ℕ → ℕ → List ℤ
 bytesNumbers op register first count byte up down = pos op ∷ pos register ∷ pos first ∷ pos count ∷ pos byte ∷ difference up down ∷ []
+
+-- element first+i is at byte+i*step
+unfoldable pub evenByte : ℕ → ℤ → ℕ → ℤ
+evenByte byte step i = pos byte +ℤ pos i *ℤ step
 
 -- 0 copy: register, object, 0, 0, 0
 -- 3 fill: register, first, count, value (its raw bits, zeros above them, as 32 bits read as signed), 0

@@ -11,7 +11,7 @@ use Rattle.sheet.specs.declared.Layout.{Layout}
 use Rattle.sheet.specs.declared.Clip.{Clip}
 use Rattle.sheet.specs.declared.View.{View}
 use Rattle.sheet.specs.declared.Step.{Step}
-use Rattle.sheet.specs.declared.Step.the-variants.{Nothing, Fill, Load, Store, Reduce, Transpose, MultiplyAdd}
+use Rattle.sheet.specs.declared.Step.the-variants.{Nothing, Load, Store, Whole}
 use Rattle.sheet.specs.declared.Sheet.{Sheet}
 
 abbrev pub U16 : ℕ → Type 0
@@ -39,12 +39,9 @@ pub record ViewFits (v : View) : Type 0 where
 
 abbrev pub StepFits : Step → Type 0
 StepFits Nothing = Unit {0}
-StepFits (Fill register rows columns kind value) = Unit {0}
 StepFits (Load register object layout view base) = U32 base
 StepFits (Store register layout view base) = U32 base
-StepFits (Reduce result source rows columns mode combine) = Unit {0}
-StepFits (Transpose result source) = Unit {0}
-StepFits (MultiplyAdd result a b c) = Unit {0}
+StepFits (Whole whole) = Unit {0}
 
 abbrev pub LayoutSized : Layout → Type 0
 LayoutSized l = length (l .dimensions) ≡ 5

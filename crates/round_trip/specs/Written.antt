@@ -15,7 +15,7 @@ use Rattle.sheet.specs.Sizes.{sideLimit, sizeOk, optionOk}
 use Rattle.sheet.specs.Codes.{clampCode}
 use Rattle.sheet.specs.Layouts.{theDimension, theLayout, dimensionOk, layoutOk}
 use Rattle.sheet.specs.Views.{theViewDimension, theView, sizedRank, viewOk}
-use Rattle.sheet.specs.Steps.{theStep, fillOk, loadOk, storeOk, reduceOk, transposeOk, multiplyOk, stepOk}
+use Rattle.sheet.specs.Steps.{theStep, fillOk, loadOk, storeOk, reduceOk, transposeOk, multiplyOk, wholeOk, stepOk}
 use Rattle.sheet.specs.Facts.{layout-most, view-most, view-entry}
 use Rattle.sheet.specs.declared.Dimension.{Dimension}
 use Rattle.sheet.specs.declared.Layout.{Layout}
@@ -23,15 +23,17 @@ use Rattle.sheet.specs.declared.ViewDimension.{ViewDimension}
 use Rattle.sheet.specs.declared.Clip.{Clip}
 use Rattle.sheet.specs.declared.View.{View}
 use Rattle.sheet.specs.declared.Step.{Step}
-use Rattle.sheet.specs.declared.Step.the-variants.{Nothing, Fill, Load, Store, Reduce, Transpose, MultiplyAdd}
+use Rattle.sheet.specs.declared.Step.the-variants.{Nothing, Load, Store, Whole}
+use Rattle.sheet.specs.declared.WholeStep.{WholeStep}
+use Rattle.sheet.specs.declared.WholeStep.the-variants.{Fill, Reduce, Transpose, MultiplyAdd}
 use Rattle.sheet.specs.declared.Sheet.{Sheet}
-use Rattle.sheet_writer.specs.Bytes.{fieldBytes, dimensionBytes, layoutBytes, viewDimensionBytes, clipBytes, sizedCode, viewBytes, stepTag, stepBytes, layoutField, viewField, stepField, sheetBytes}
+use Rattle.sheet_writer.specs.Bytes.{fieldBytes, dimensionBytes, layoutBytes, viewDimensionBytes, clipBytes, sizedCode, viewBytes, stepTag, wholeBytes, stepBytes, layoutField, viewField, stepField, sheetBytes}
 use Rattle.round_trip.specs.Stretches.{Bytes}
 use Rattle.round_trip.specs.Codes.{clamp-code-small, reduce-code-between, combine-code-small, sized-code-small}
 use Rattle.round_trip.specs.Typed.{DimensionFits, LayoutFits, ClipFits, ViewFits, StepFits, Fits}
 use Rattle.round_trip.specs.Layouts.{layout-held, layout-long}
 use Rattle.round_trip.specs.Views.{view-held, view-long, sized-few}
-use Rattle.round_trip.specs.Steps.{step-short}
+use Rattle.round_trip.specs.Steps.{step-short, tag-range}
 use Rattle.round_trip.specs.Sheets.{Within}
 
 -- each number of s is a byte, from the first on
@@ -139,15 +141,28 @@ side-below edition x e = omega (arith, between-high 1 16 x e)
 layout-below : (layouts x : ℕ) → layouts ≤ 4 → ltb x layouts ≡ true → x < 256
 layout-below layouts x h e = omega (arith, ltb-true x layouts e)
 
-below-step : (edition layouts views : ℕ) → layouts ≤ 4 → views ≤ 4 → (st : Step) → stepOk edition layouts views st ≡ true → StepFits st → Below (stepBytes st)
-unfolding fillOk loadOk storeOk reduceOk transposeOk multiplyOk
-below-step edition layouts views fl fv Nothing e f = absurd (true≢false (sym e))
-below-step edition layouts views fl fv (Fill register rows columns kind value) e f =
+below-whole : (edition : ℕ) (w : WholeStep) → wholeOk edition w ≡ true → Below (wholeBytes w)
+unfolding fillOk reduceOk transposeOk multiplyOk
+below-whole edition (Fill register rows columns kind value) e =
     let e1 = both-right _ _ e in
     let e2 = both-right _ _ e1 in
     let e3 = both-right _ _ e2 in
     let k = leb-true kind 5 (both-left _ _ e3) in
     (register-below register (both-left _ _ e), (side-below edition rows (both-left _ _ e1), (side-below edition columns (both-left _ _ e2), (omega arith, below-u32 value (value-below kind value (both-right _ _ e3))))))
+below-whole edition (Reduce result source rows columns mode combine) e =
+    let e1 = both-right _ _ e in
+    let e2 = both-right _ _ e1 in
+    (register-below result (both-left _ _ e), (register-below source (both-left _ _ e1), (side-below edition rows (both-left _ _ e2), (side-below edition columns (both-right _ _ e2), (omega (arith, reduce-code-between mode), (omega (arith, combine-code-small combine), tt))))))
+below-whole edition (Transpose result source) e =
+    (register-below result (both-left _ _ e), (register-below source (both-right _ _ e), tt))
+below-whole edition (MultiplyAdd result a b c) e =
+    let e1 = both-right _ _ e in
+    let e2 = both-right _ _ e1 in
+    (register-below result (both-left _ _ e), (register-below a (both-left _ _ e1), (register-below b (both-left _ _ e2), (register-below c (both-right _ _ e2), tt))))
+
+below-step : (edition layouts views : ℕ) → layouts ≤ 4 → views ≤ 4 → (st : Step) → stepOk edition layouts views st ≡ true → StepFits st → Below (stepBytes st)
+unfolding loadOk storeOk
+below-step edition layouts views fl fv Nothing e f = absurd (true≢false (sym e))
 below-step edition layouts views fl fv (Load register object layout view base) e f =
     let e1 = both-right _ _ e in
     let e2 = both-right _ _ e1 in
@@ -155,25 +170,7 @@ below-step edition layouts views fl fv (Load register object layout view base) e
 below-step edition layouts views fl fv (Store register layout view base) e f =
     let e1 = both-right _ _ e in
     (register-below register (both-left _ _ e), (layout-below layouts layout fl (both-left _ _ e1), (option-below views view fv (both-right _ _ e1), below-u32 base f)))
-below-step edition layouts views fl fv (Reduce result source rows columns mode combine) e f =
-    let e1 = both-right _ _ e in
-    let e2 = both-right _ _ e1 in
-    (register-below result (both-left _ _ e), (register-below source (both-left _ _ e1), (side-below edition rows (both-left _ _ e2), (side-below edition columns (both-right _ _ e2), (omega (arith, reduce-code-between mode), (omega (arith, combine-code-small combine), tt))))))
-below-step edition layouts views fl fv (Transpose result source) e f =
-    (register-below result (both-left _ _ e), (register-below source (both-right _ _ e), tt))
-below-step edition layouts views fl fv (MultiplyAdd result a b c) e f =
-    let e1 = both-right _ _ e in
-    let e2 = both-right _ _ e1 in
-    (register-below result (both-left _ _ e), (register-below a (both-left _ _ e1), (register-below b (both-left _ _ e2), (register-below c (both-right _ _ e2), tt))))
-
-tag-below : (st : Step) → stepTag st < 256
-tag-below Nothing = omega arith
-tag-below (Fill register rows columns kind value) = omega arith
-tag-below (Load register object layout view base) = omega arith
-tag-below (Store register layout view base) = omega arith
-tag-below (Reduce result source rows columns mode combine) = omega arith
-tag-below (Transpose result source) = omega arith
-tag-below (MultiplyAdd result a b c) = omega arith
+below-step edition layouts views fl fv (Whole whole) e f = below-whole edition whole e
 
 -- the whole sheet
 module _ (sh : Sheet) (w : Within sh) (f : Fits sh) where
@@ -192,8 +189,9 @@ module _ (sh : Sheet) (w : Within sh) (f : Fits sh) where
   step-field : (k : ℕ) → k < sh .steps → Below (stepField (sh .step) k)
   step-field k h =
       let st = theStep (sh .step) k in
-      below-field (stepTag st) (stepBytes st) (tag-below st) (omega (arith, step-short st))
-      (below-step (sh .edition) (sh .layouts) (sh .views) (w .layouts) (w .views) st (w .step .given k h) (f .steps k))
+      let e = w .step .given k h in
+      below-field (stepTag st) (stepBytes st) (omega (arith, tag-range (sh .edition) (sh .layouts) (sh .views) st e)) (omega (arith, step-short st))
+      (below-step (sh .edition) (sh .layouts) (sh .views) (w .layouts) (w .views) st e (f .steps k))
 
   pub sheet-bytes : Bytes (sheetBytes sh)
   unfolding sheetBytes

@@ -3,45 +3,32 @@ use Prim.Native.Nat.{ℕ, zero, suc, _+_, _*_, _-_, _≤_, _<_, min}
 use mathlib.Core.Path.{_≡_, refl, sym, ap, subst, _∙_}
 use mathlib.Core.Bool.{Bool, true, false, true≢false}
 use mathlib.Core.List.{List, [], _∷_, _++_}
-use native.Mathlib.Nat.{add-mul}
 use native.Mathlib.Omega.{arith}
 use borrow.Author.Tests.{eqb-true, eqb-false, leb-true, leb-false}
 use lib.Dec.{eqb, leb}
+use lib.IntN.{ℤ}
 use Rattle.numbers.specs.Choice.{pick-case}
 use Rattle.numbers.specs.Lists.{each}
 use Rattle.outcomes.specs.declared.Outcome.{Outcome}
 use Rattle.outcomes.specs.declared.Outcome.the-variants.{Skipped, Filled, Discarded, Placed}
+use Rattle.signed.specs.Numbers.{difference}
+use Rattle.records.specs.ByteSteps.{at-step, step-at}
 use Rattle.runs.specs.declared.Run.{Run}
 use Rattle.runs.specs.declared.Run.the-variants.{Idle, Bytes, Fills}
 use Rattle.runs.specs.declared.Turn.{Turn}
 use Rattle.runs.specs.Runs.{lone, meetByte, meetFill, next, emit, held, ending, ended, runs}
+use Rattle.runs.specs.Even.{Stretch, bytes, fills, firstOf, countOf, EvenBytes, EvenFills, Even, Longest}
+use Rattle.runs.specs.Alike.{same-byte, same-value, alike-byte, alike-step, alike-value, one-sort}
 
-module _ (f : ℕ → Outcome) where
-  -- of the first n elements, m from e on are an even run: consecutive elements alike
-  pub data Even (n e m : ℕ) : Type 0 where
-    -- bytes at the same step: from each element to the next the same difference
-    bytes : (at : ℕ → ℕ) → e + m ≤ n
-        → ((i : ℕ) → i < m → f (e + i) ≡ Placed (at i))
-        → ((i : ℕ) → i + 2 < m → at (i + 2) + at i ≡ at (i + 1) + at (i + 1))
-        → Even n e m
-    -- fills with the same bits
-    fills : (v : ℕ) → e + m ≤ n → ((i : ℕ) → i < m → f (e + i) ≡ Filled v) → Even n e m
+-- a run of bytes that is taken, its step as an integer; up - down goes one way
+pub record LongestBytes (f : ℕ → Outcome) (n e m b u d : ℕ) : Type 0 where
+  pub longest : Longest f n (bytes e m b (difference u d))
+  pub way : min u d ≡ 0
 
-  -- no longer even run starts at the same element
-  pub record Longest (n e m : ℕ) : Type 0 where
-    pub some : 1 ≤ m
-    pub even : Even n e m
-    pub most : (k : ℕ) → Even n e k → k ≤ m
-
-  -- and a run of one has step 0
-  pub record LongestBytes (n e m u d : ℕ) : Type 0 where
-    pub longest : Longest n e m
-    pub lone : m ≡ 1 → (u ≡ 0) × (d ≡ 0)
-
-  abbrev pub LongestRun : ℕ → Run → Type 0
-  LongestRun n Idle = ⊥
-  LongestRun n (Bytes e m b u d) = LongestBytes n e m u d
-  LongestRun n (Fills e m v) = Longest n e m
+abbrev pub LongestRun : (ℕ → Outcome) → ℕ → Run → Type 0
+LongestRun f n Idle = ⊥
+LongestRun f n (Bytes e m b u d) = LongestBytes f n e m b u d
+LongestRun f n (Fills e m v) = Longest f n (fills e m v)
 
 pub data AllRuns (P : Run → Type 0) : List Run → Type 0 where
   none : AllRuns P []
@@ -75,69 +62,56 @@ by-order {P = P} a b p q = by (leb a b) refl
     by false e = q (leb-false a b e)
 
 module _ (f : ℕ → Outcome) where
-  same-byte : {x y : ℕ} {o : Outcome} → o ≡ Placed x → o ≡ Placed y → x ≡ y
-  same-byte p q = cc
-
-  same-value : {x y : ℕ} {o : Outcome} → o ≡ Filled x → o ≡ Filled y → x ≡ y
-  same-value p q = cc
-
-  other : {x y : ℕ} {o : Outcome} → o ≡ Placed x → o ≡ Filled y → ⊥
-  other p q = let z : _≡_ {A = ℕ} 0 1 = cc in omega arith
-
-  steps : (i u : ℕ) → ((i + 1) * u ≡ i * u + u) × ((i + 2) * u ≡ i * u + 2 * u)
-  steps i u = (add-mul i 1 u ∙ omega arith, add-mul i 2 u)
-
-  even-bytes : {k e m b u d : ℕ} (n : ℕ) → k ≤ n → Going f k e m b u d → Even f n e m
+  even-bytes : {k e m b u d : ℕ} (n : ℕ) → k ≤ n → Going f k e m b u d → EvenBytes f n e m b (difference u d)
+  unfolding difference
   even-bytes {k} {e} {m} {b} {u} {d} n h g =
-      bytes (λ (i : ℕ). b + i * u - i * d) (omega (arith, g .ends)) (g .at)
-      (λ i l. omega (arith, g .low i (omega arith), g .low (i + 1) (omega arith), g .low (i + 2) l, steps i u .0, steps i u .1, steps i d .0, steps i d .1))
+      record {
+        some = g .some;
+        within = omega (arith, g .ends);
+        at = λ i l. record { byte = b + i * u - i * d; placed = g .at i l; same = at-step b u d i (b + i * u - i * d) (omega (arith, g .low i l)) };
+        lone = λ z. rw (g .lone z .0, g .lone z .1);
+      }
 
   -- a run of bytes is the longest if the next element, where it has a byte, does not go on at the same step
   longest-bytes : {k e m b u d : ℕ} (n : ℕ) → k ≤ n → Going f k e m b u d
       → (k < n → (x : ℕ) → f k ≡ Placed x → (2 ≤ m) × (x + m * d ≡ b + m * u → ⊥))
-      → LongestBytes f n e m u d
-  longest-bytes {k} {e} {m} {b} {u} {d} n h g stops =
-      record { longest = record { some = g .some; even = even-bytes n h g; most = most }; lone = g .lone }
+      → LongestBytes f n e m b u d
+  longest-bytes {k} {e} {m} {b} {u} {d} n h g stops = record { longest = record { even = even; most = most }; way = g .way }
     where
-      here : (at : ℕ → ℕ) (l : ℕ) → m < l → ((i : ℕ) → i < l → f (e + i) ≡ Placed (at i)) → f k ≡ Placed (at m)
-      here at l q a = subst (λ (x : ℕ). f x ≡ Placed (at m)) (g .ends) (a m q)
+      even : EvenBytes f n e m b (difference u d)
+      even = even-bytes n h g
 
-      goes-on : (at : ℕ → ℕ) (l j : ℕ) → m < l → m ≡ j + 2
-          → ((i : ℕ) → i < l → f (e + i) ≡ Placed (at i))
-          → ((i : ℕ) → i + 2 < l → at (i + 2) + at i ≡ at (i + 1) + at (i + 1))
-          → at m + m * d ≡ b + m * u
-      goes-on at l j q z a s =
-          rw z
-          (omega (arith, s j (omega arith), same-byte (a j (omega arith)) (g .at j (omega arith)), same-byte (a (j + 1) (omega arith)) (g .at (j + 1) (omega arith)), g .low j (omega arith), g .low (j + 1) (omega arith), steps j u .0, steps j u .1, steps j d .0, steps j d .1))
+      too-long : (l c : ℕ) (t : ℤ) → EvenBytes f n e l c t → m < l → ⊥
+      too-long l c t q w =
+          let here = q .at m w in
+          let no = stops (omega (arith, g .ends, q .within)) (here .byte) (ap f (sym (g .ends)) ∙ here .placed) in
+          let z = rw (alike-byte f q even, alike-step f q even (omega (arith, no .0)) (no .0)) at (here .same) in
+          no .1 (step-at b u d m (here .byte) z)
 
-      too-long : (l : ℕ) → m < l → Even f n e l → ⊥
-      too-long l q (bytes at t a s) =
-          let w = stops (omega (arith, g .ends)) (at m) (here at l q a) in
-          w .1 (goes-on at l (m - 2) q (omega (arith, w .0)) a s)
-      too-long l q (fills v t a) = other (g .at 0 (omega (arith, g .some))) (a 0 (omega arith))
+      most : (q : Stretch) → Even f n q → firstOf q ≡ e → countOf q ≤ m
+      most (bytes e₁ l c t) q z = by-order l m (λ w. w) (λ w. absurd (too-long l c t (rw z at q) w))
+      most (fills e₁ l v) q z = absurd (one-sort f even (rw z at q))
 
-      most : (l : ℕ) → Even f n e l → l ≤ m
-      most l s = by-order l m (λ q. q) (λ q. absurd (too-long l q s))
-
-  longest-fills : {k e m v : ℕ} (n : ℕ) → k ≤ n → Pouring f k e m v → (k < n → f k ≡ Filled v → ⊥) → Longest f n e m
-  longest-fills {k} {e} {m} {v} n h g stops =
-      record { some = g .some; even = fills v (omega (arith, g .ends)) (g .at); most = most }
+  longest-fills : {k e m v : ℕ} (n : ℕ) → k ≤ n → Pouring f k e m v → (k < n → f k ≡ Filled v → ⊥) → Longest f n (fills e m v)
+  longest-fills {k} {e} {m} {v} n h g stops = record { even = even; most = most }
     where
-      too-long : (l : ℕ) → m < l → Even f n e l → ⊥
-      too-long l q (bytes at t a s) = other (a 0 (omega arith)) (g .at 0 (omega (arith, g .some)))
-      too-long l q (fills w t a) =
-          let z = same-value (a 0 (omega arith)) (g .at 0 (omega (arith, g .some))) in
-          stops (omega (arith, g .ends)) (subst (λ (x : ℕ). f x ≡ Filled v) (g .ends) (a m q ∙ ap Filled z))
+      even : EvenFills f n e m v
+      even = record { some = g .some; within = omega (arith, g .ends); at = g .at }
 
-      most : (l : ℕ) → Even f n e l → l ≤ m
-      most l s = by-order l m (λ q. q) (λ q. absurd (too-long l q s))
+      too-long : (l w : ℕ) → EvenFills f n e l w → m < l → ⊥
+      too-long l w q z =
+          stops (omega (arith, g .ends, q .within)) (ap f (sym (g .ends)) ∙ q .at m z ∙ ap Filled (alike-value f q even))
+
+      most : (q : Stretch) → Even f n q → firstOf q ≡ e → countOf q ≤ m
+      most (bytes e₁ l c t) q z = absurd (one-sort f (rw z at q) even)
+      most (fills e₁ l w) q z = by-order l m (λ y. y) (λ y. absurd (too-long l w (rw z at q) y))
 
   -- ---- one element more
 
   abbrev Done : ℕ → Run → Type 0
   Done n Idle = Unit {0}
-  Done n (Bytes e m b u d) = LongestBytes f n e m u d
-  Done n (Fills e m v) = Longest f n e m
+  Done n (Bytes e m b u d) = LongestBytes f n e m b u d
+  Done n (Fills e m v) = Longest f n (fills e m v)
 
   record Turned (n k : ℕ) (t : Turn) : Type 0 where
     was : Open f k (t .done)
@@ -221,10 +195,10 @@ module _ (f : ℕ → Outcome) where
   filled Discarded = false
   filled (Placed b) = false
 
-  ends-bytes : {k e m b u d : ℕ} (n : ℕ) (o : Outcome) → k < n → Going f k e m b u d → f k ≡ o → placed o ≡ false → LongestBytes f n e m u d
+  ends-bytes : {k e m b u d : ℕ} (n : ℕ) (o : Outcome) → k < n → Going f k e m b u d → f k ≡ o → placed o ≡ false → LongestBytes f n e m b u d
   ends-bytes n o l g q z = longest-bytes n (omega arith) g (λ h x p. absurd (true≢false (ap placed (sym p ∙ q) ∙ z)))
 
-  ends-fills : {k e m v : ℕ} (n : ℕ) (o : Outcome) → k < n → Pouring f k e m v → f k ≡ o → filled o ≡ false → Longest f n e m
+  ends-fills : {k e m v : ℕ} (n : ℕ) (o : Outcome) → k < n → Pouring f k e m v → f k ≡ o → filled o ≡ false → Longest f n (fills e m v)
   ends-fills n o l g q z = longest-fills n (omega arith) g (λ h p. true≢false (ap filled (sym p ∙ q) ∙ z))
 
   byte-turned : (n k e m b u d x : ℕ) → k < n → Going f k e m b u d → f k ≡ Placed x → Turned n k (meetByte e m b u d k x)
@@ -300,7 +274,7 @@ module _ (f : ℕ → Outcome) where
   last-longest n (Bytes e m b u d) g = longest-bytes n (omega arith) g (λ h. absurd (omega arith))
   last-longest n (Fills e m v) g = longest-fills n (omega arith) g (λ h. absurd (omega arith))
 
-  -- each run of the first n elements is the longest even run from its first element; a run of one has step 0
+  -- each run of the first n elements is the longest even run from its first element
   pub runs-longest : (n : ℕ) → AllRuns (LongestRun f n) (runs f n)
   unfolding runs
   runs-longest n = all-append (ended-longest n n (omega arith)) (emitted n (held f n) (last-longest n (held f n) (held-open n)))

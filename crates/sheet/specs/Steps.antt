@@ -8,7 +8,9 @@ use Rattle.numbers.specs.Choice.{both}
 use Rattle.kinds.specs.Widths.{kindOk, fits}
 use Rattle.sheet.specs.Sizes.{sideOk, registerOk, optionOk}
 use Rattle.sheet.specs.declared.Step.{Step}
-use Rattle.sheet.specs.declared.Step.the-variants.{Nothing, Fill, Load, Store, Reduce, Transpose, MultiplyAdd}
+use Rattle.sheet.specs.declared.Step.the-variants.{Nothing, Load, Store, Whole}
+use Rattle.sheet.specs.declared.WholeStep.{WholeStep}
+use Rattle.sheet.specs.declared.WholeStep.the-variants.{Fill, Reduce, Transpose, MultiplyAdd}
 use Rattle.sheet.specs.declared.Cell.{Cell}
 
 -- the place of a step that is not given
@@ -45,21 +47,21 @@ transposeOk result source = both (registerOk result) (registerOk source)
 unfoldable pub multiplyOk : ℕ → ℕ → ℕ → ℕ → Bool
 multiplyOk result a b c = both (registerOk result) (both (registerOk a) (both (registerOk b) (registerOk c)))
 
+abbrev pub wholeOk : ℕ → WholeStep → Bool
+wholeOk edition (Fill register rows columns kind value) = fillOk edition register rows columns kind value
+wholeOk edition (Reduce result source rows columns mode combine) = reduceOk edition result source rows columns
+wholeOk edition (Transpose result source) = transposeOk result source
+wholeOk edition (MultiplyAdd result a b c) = multiplyOk result a b c
+
 -- any base of 32 bits is within Sizes
 abbrev pub stepOk : ℕ → ℕ → ℕ → Step → Bool
 stepOk edition layouts views Nothing = false
-stepOk edition layouts views (Fill register rows columns kind value) = fillOk edition register rows columns kind value
 stepOk edition layouts views (Load register object layout view base) = loadOk layouts views register object layout view
 stepOk edition layouts views (Store register layout view base) = storeOk layouts views register layout view
-stepOk edition layouts views (Reduce result source rows columns mode combine) = reduceOk edition result source rows columns
-stepOk edition layouts views (Transpose result source) = transposeOk result source
-stepOk edition layouts views (MultiplyAdd result a b c) = multiplyOk result a b c
+stepOk edition layouts views (Whole whole) = wholeOk edition whole
 
 abbrev pub stepUnused : Step → Bool
 stepUnused Nothing = true
-stepUnused (Fill register rows columns kind value) = false
 stepUnused (Load register object layout view base) = false
 stepUnused (Store register layout view base) = false
-stepUnused (Reduce result source rows columns mode combine) = false
-stepUnused (Transpose result source) = false
-stepUnused (MultiplyAdd result a b c) = false
+stepUnused (Whole whole) = false

@@ -71,28 +71,14 @@ pub struct View {
     pub columns: Clip,
 }
 
-// A step. An object or a view of 255 is none.
-pub enum Step {
-    Nothing,
+// A step that makes one matrix, whole, in one register.
+pub enum WholeStep {
     Fill {
         register: u8,
         rows: u8,
         columns: u8,
         kind: u8,
         value: u32,
-    },
-    Load {
-        register: u8,
-        object: u8,
-        layout: u8,
-        view: u8,
-        base: u32,
-    },
-    Store {
-        register: u8,
-        layout: u8,
-        view: u8,
-        base: u32,
     },
     Reduce {
         result: u8,
@@ -112,6 +98,25 @@ pub enum Step {
         b: u8,
         c: u8,
     },
+}
+
+// A step: a load or a store, which go element by element, or a whole step. An object or a view of 255 is none.
+pub enum Step {
+    Nothing,
+    Load {
+        register: u8,
+        object: u8,
+        layout: u8,
+        view: u8,
+        base: u32,
+    },
+    Store {
+        register: u8,
+        layout: u8,
+        view: u8,
+        base: u32,
+    },
+    Whole(WholeStep),
 }
 
 // A step's place in a sheet.

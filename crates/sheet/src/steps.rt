@@ -1,9 +1,10 @@
 // Steps: what a step must keep to, in a sheet of an edition with so many layouts and views.
 ghost use mathlib.Core.Path.{_≡_};
 ghost use Prim.Native.Nat.{_≤_, _<_};
-ghost use Rattle.sheet.specs.Steps.{noCell, fillOk, loadOk, storeOk, reduceOk, transposeOk, multiplyOk, stepOk, stepUnused};
+ghost use Rattle.sheet.specs.Steps.{noCell, fillOk, loadOk, storeOk, reduceOk, transposeOk, multiplyOk, wholeOk, stepOk, stepUnused};
 use super::Cell;
 use super::Step;
+use super::WholeStep;
 use super::sizes;
 
 pub fn no_cell() -> Cell
@@ -98,19 +99,36 @@ fn multiply_ok(result: u8, a: u8, b: u8, c: u8) -> bool
     sizes::register_ok(c)
 }
 
-// Any base of 32 bits is within Sizes.
-pub fn step_ok(edition: u8, layouts: usize, views: usize, step: Step) -> bool
-    ensures { λ r. ⌜ r ≡ stepOk edition layouts views step ⌝ }
+fn whole_ok(edition: u8, step: WholeStep) -> bool
+    ensures { λ r. ⌜ r ≡ wholeOk edition step ⌝ }
 {
     match step {
-        Step::Nothing => false,
-        Step::Fill {
+        WholeStep::Fill {
             register,
             rows,
             columns,
             kind,
             value,
         } => fill_ok(edition, register, rows, columns, kind, value),
+        WholeStep::Reduce {
+            result,
+            source,
+            rows,
+            columns,
+            mode: _,
+            combine: _,
+        } => reduce_ok(edition, result, source, rows, columns),
+        WholeStep::Transpose { result, source } => transpose_ok(result, source),
+        WholeStep::MultiplyAdd { result, a, b, c } => multiply_ok(result, a, b, c),
+    }
+}
+
+// Any base of 32 bits is within Sizes.
+pub fn step_ok(edition: u8, layouts: usize, views: usize, step: Step) -> bool
+    ensures { λ r. ⌜ r ≡ stepOk edition layouts views step ⌝ }
+{
+    match step {
+        Step::Nothing => false,
         Step::Load {
             register,
             object,
@@ -124,16 +142,7 @@ pub fn step_ok(edition: u8, layouts: usize, views: usize, step: Step) -> bool
             view,
             base: _,
         } => store_ok(layouts, views, register, layout, view),
-        Step::Reduce {
-            result,
-            source,
-            rows,
-            columns,
-            mode: _,
-            combine: _,
-        } => reduce_ok(edition, result, source, rows, columns),
-        Step::Transpose { result, source } => transpose_ok(result, source),
-        Step::MultiplyAdd { result, a, b, c } => multiply_ok(result, a, b, c),
+        Step::Whole(whole) => whole_ok(edition, whole),
     }
 }
 
@@ -142,13 +151,6 @@ pub fn step_unused(step: Step) -> bool
 {
     match step {
         Step::Nothing => true,
-        Step::Fill {
-            register: _,
-            rows: _,
-            columns: _,
-            kind: _,
-            value: _,
-        } => false,
         Step::Load {
             register: _,
             object: _,
@@ -162,23 +164,6 @@ pub fn step_unused(step: Step) -> bool
             view: _,
             base: _,
         } => false,
-        Step::Reduce {
-            result: _,
-            source: _,
-            rows: _,
-            columns: _,
-            mode: _,
-            combine: _,
-        } => false,
-        Step::Transpose {
-            result: _,
-            source: _,
-        } => false,
-        Step::MultiplyAdd {
-            result: _,
-            a: _,
-            b: _,
-            c: _,
-        } => false,
+        Step::Whole(_) => false,
     }
 }

@@ -17,7 +17,8 @@ use Rattle.sheet.specs.declared.ViewDimension.{ViewDimension}
 use Rattle.sheet.specs.declared.Clip.{Clip}
 use Rattle.sheet.specs.declared.View.{View}
 use Rattle.sheet.specs.declared.Step.{Step}
-use Rattle.sheet.specs.declared.Step.the-variants.{Nothing, Fill, Load, Store, Reduce, Transpose, MultiplyAdd}
+use Rattle.sheet.specs.declared.Step.the-variants.{Nothing, Load, Store, Whole}
+use Rattle.sheet.specs.declared.WholeStep.the-variants.{Fill, Reduce, Transpose, MultiplyAdd}
 
 -- 0x10: dimension count, clamp mode, clamp value; per dimension block size, dimension, stride, offset and span
 unfoldable pub dimensionAt : List ℕ → ℕ → Dimension
@@ -95,7 +96,7 @@ viewHeadOk s p len =
 
 -- 0x20 to 0x25
 unfoldable pub fillAt : List ℕ → ℕ → Step
-fillAt s p = Fill (getD s p 0) (getD s (p + 1) 0) (getD s (p + 2) 0) (getD s (p + 3) 0) (u32At s (p + 4))
+fillAt s p = Whole (Fill (getD s p 0) (getD s (p + 1) 0) (getD s (p + 2) 0) (getD s (p + 3) 0) (u32At s (p + 4)))
 
 unfoldable pub loadAt : List ℕ → ℕ → Step
 loadAt s p = Load (getD s p 0) (getD s (p + 1) 0) (getD s (p + 2) 0) (getD s (p + 3) 0) (u32At s (p + 4))
@@ -108,15 +109,15 @@ unfoldable pub reduceAt : List ℕ → ℕ → Step
 reduceAt s p =
     pick (between 1 4 (getD s (p + 4) 0))
     (pick (leb (getD s (p + 5) 0) 5)
-    (Reduce (getD s p 0) (getD s (p + 1) 0) (getD s (p + 2) 0) (getD s (p + 3) 0) (reduceMode (getD s (p + 4) 0)) (combineOf (getD s (p + 5) 0)))
+    (Whole (Reduce (getD s p 0) (getD s (p + 1) 0) (getD s (p + 2) 0) (getD s (p + 3) 0) (reduceMode (getD s (p + 4) 0)) (combineOf (getD s (p + 5) 0))))
     Nothing)
     Nothing
 
 unfoldable pub transposeAt : List ℕ → ℕ → Step
-transposeAt s p = Transpose (getD s p 0) (getD s (p + 1) 0)
+transposeAt s p = Whole (Transpose (getD s p 0) (getD s (p + 1) 0))
 
 unfoldable pub multiplyAt : List ℕ → ℕ → Step
-multiplyAt s p = MultiplyAdd (getD s p 0) (getD s (p + 1) 0) (getD s (p + 2) 0) (getD s (p + 3) 0)
+multiplyAt s p = Whole (MultiplyAdd (getD s p 0) (getD s (p + 1) 0) (getD s (p + 2) 0) (getD s (p + 3) 0))
 
 unfoldable pub stepAt : List ℕ → ℕ → ℕ → Step
 stepAt s tag p =

@@ -13,6 +13,7 @@ use sheet::Layout;
 use sheet::Step;
 use sheet::View;
 use sheet::ViewDimension;
+use sheet::WholeStep;
 use sheet::codes;
 use sheet::layouts;
 use sheet::sizes;
@@ -198,13 +199,14 @@ fn fill_at(s: &[u8], p: usize) -> Step
     requires { ⌜ p + 8 ≤ length (now s) ⌝ }
     ensures { λ r. ⌜ r ≡ fillAt (now (s .entry)) p ⌝ }
 {
-    Step::Fill {
+    let whole = WholeStep::Fill {
         register: s[p],
         rows: s[p + 1],
         columns: s[p + 2],
         kind: s[p + 3],
         value: u32_at(s, p + 4),
-    }
+    };
+    Step::Whole(whole)
 }
 
 fn load_at(s: &[u8], p: usize) -> Step
@@ -247,36 +249,39 @@ fn reduce_at(s: &[u8], p: usize) -> Step
     }
     let over = codes::reduce_mode(mode);
     let by = codes::combine_of(combine);
-    Step::Reduce {
+    let whole = WholeStep::Reduce {
         result: s[p],
         source: s[p + 1],
         rows: s[p + 2],
         columns: s[p + 3],
         mode: over,
         combine: by,
-    }
+    };
+    Step::Whole(whole)
 }
 
 fn transpose_at(s: &[u8], p: usize) -> Step
     requires { ⌜ p + 2 ≤ length (now s) ⌝ }
     ensures { λ r. ⌜ r ≡ transposeAt (now (s .entry)) p ⌝ }
 {
-    Step::Transpose {
+    let whole = WholeStep::Transpose {
         result: s[p],
         source: s[p + 1],
-    }
+    };
+    Step::Whole(whole)
 }
 
 fn multiply_at(s: &[u8], p: usize) -> Step
     requires { ⌜ p + 4 ≤ length (now s) ⌝ }
     ensures { λ r. ⌜ r ≡ multiplyAt (now (s .entry)) p ⌝ }
 {
-    Step::MultiplyAdd {
+    let whole = WholeStep::MultiplyAdd {
         result: s[p],
         a: s[p + 1],
         b: s[p + 2],
         c: s[p + 3],
-    }
+    };
+    Step::Whole(whole)
 }
 
 // The step of a tag from 0x20 to 0x25 whose content starts at p and has its tag's length.

@@ -16,7 +16,9 @@ use Rattle.sheet.specs.declared.ViewDimension.{ViewDimension}
 use Rattle.sheet.specs.declared.Clip.{Clip}
 use Rattle.sheet.specs.declared.View.{View}
 use Rattle.sheet.specs.declared.Step.{Step}
-use Rattle.sheet.specs.declared.Step.the-variants.{Nothing, Fill, Load, Store, Reduce, Transpose, MultiplyAdd}
+use Rattle.sheet.specs.declared.Step.the-variants.{Nothing, Load, Store, Whole}
+use Rattle.sheet.specs.declared.WholeStep.{WholeStep}
+use Rattle.sheet.specs.declared.WholeStep.the-variants.{Fill, Reduce, Transpose, MultiplyAdd}
 use Rattle.sheet.specs.declared.Cell.{Cell}
 use Rattle.sheet.specs.declared.Sheet.{Sheet}
 
@@ -54,23 +56,29 @@ viewBytes v =
     ++ clipBytes (v .columns)
 
 -- 0x20 to 0x25
+abbrev pub wholeTag : WholeStep → ℕ
+wholeTag (Fill register rows columns kind value) = 0x20
+wholeTag (Reduce result source rows columns mode combine) = 0x23
+wholeTag (Transpose result source) = 0x24
+wholeTag (MultiplyAdd result a b c) = 0x25
+
 abbrev pub stepTag : Step → ℕ
 stepTag Nothing = 0
-stepTag (Fill register rows columns kind value) = 0x20
 stepTag (Load register object layout view base) = 0x21
 stepTag (Store register layout view base) = 0x22
-stepTag (Reduce result source rows columns mode combine) = 0x23
-stepTag (Transpose result source) = 0x24
-stepTag (MultiplyAdd result a b c) = 0x25
+stepTag (Whole whole) = wholeTag whole
+
+abbrev pub wholeBytes : WholeStep → List ℕ
+wholeBytes (Fill register rows columns kind value) = (register ∷ rows ∷ columns ∷ kind ∷ []) ++ u32Bytes value
+wholeBytes (Reduce result source rows columns mode combine) = result ∷ source ∷ rows ∷ columns ∷ reduceCode mode ∷ combineCode combine ∷ []
+wholeBytes (Transpose result source) = result ∷ source ∷ []
+wholeBytes (MultiplyAdd result a b c) = result ∷ a ∷ b ∷ c ∷ []
 
 abbrev pub stepBytes : Step → List ℕ
 stepBytes Nothing = []
-stepBytes (Fill register rows columns kind value) = (register ∷ rows ∷ columns ∷ kind ∷ []) ++ u32Bytes value
 stepBytes (Load register object layout view base) = (register ∷ object ∷ layout ∷ view ∷ []) ++ u32Bytes base
 stepBytes (Store register layout view base) = (register ∷ layout ∷ view ∷ []) ++ u32Bytes base
-stepBytes (Reduce result source rows columns mode combine) = result ∷ source ∷ rows ∷ columns ∷ reduceCode mode ∷ combineCode combine ∷ []
-stepBytes (Transpose result source) = result ∷ source ∷ []
-stepBytes (MultiplyAdd result a b c) = result ∷ a ∷ b ∷ c ∷ []
+stepBytes (Whole whole) = wholeBytes whole
 
 abbrev pub layoutField : List Layout → ℕ → List ℕ
 layoutField ls k = fieldBytes 0x10 (layoutBytes (theLayout ls k))

@@ -5,12 +5,13 @@ ghost use Prim.Native.Nat.{_+_, _*_, _≤_};
 ghost use lib.ListN.{length};
 ghost use Rattle.numbers.specs.Lists.{each};
 ghost use Rattle.sheet.specs.Sheets.{writable};
-ghost use Rattle.sheet_writer.specs.Bytes.{layoutBytes, viewBytes, stepBytes, layoutField, viewField, stepField, sheetBytes};
+ghost use Rattle.sheet_writer.specs.Bytes.{layoutBytes, viewBytes, wholeBytes, stepBytes, layoutField, viewField, stepField, sheetBytes};
 use sheet::Cell;
 use sheet::Layout;
 use sheet::Sheet;
 use sheet::Step;
 use sheet::View;
+use sheet::WholeStep;
 use sheet::views;
 
 // The bytes of a field before its content: a tag and a length.
@@ -35,18 +36,43 @@ pub fn view_len(v: View) -> u16
 }
 
 // By the table of "The sheet".
-pub fn step_len(s: Step) -> u16
-    ensures { λ r. ⌜ r ≡ length (stepBytes s) ⌝ }
+fn whole_len(s: WholeStep) -> u16
+    ensures { λ r. ⌜ r ≡ length (wholeBytes s) ⌝ }
 {
     match s {
-        Step::Nothing => 0,
-        Step::Fill {
+        WholeStep::Fill {
             register: _,
             rows: _,
             columns: _,
             kind: _,
             value: _,
         } => 8,
+        WholeStep::Reduce {
+            result: _,
+            source: _,
+            rows: _,
+            columns: _,
+            mode: _,
+            combine: _,
+        } => 6,
+        WholeStep::Transpose {
+            result: _,
+            source: _,
+        } => 2,
+        WholeStep::MultiplyAdd {
+            result: _,
+            a: _,
+            b: _,
+            c: _,
+        } => 4,
+    }
+}
+
+pub fn step_len(s: Step) -> u16
+    ensures { λ r. ⌜ r ≡ length (stepBytes s) ⌝ }
+{
+    match s {
+        Step::Nothing => 0,
         Step::Load {
             register: _,
             object: _,
@@ -60,24 +86,7 @@ pub fn step_len(s: Step) -> u16
             view: _,
             base: _,
         } => 7,
-        Step::Reduce {
-            result: _,
-            source: _,
-            rows: _,
-            columns: _,
-            mode: _,
-            combine: _,
-        } => 6,
-        Step::Transpose {
-            result: _,
-            source: _,
-        } => 2,
-        Step::MultiplyAdd {
-            result: _,
-            a: _,
-            b: _,
-            c: _,
-        } => 4,
+        Step::Whole(whole) => whole_len(whole),
     }
 }
 

@@ -6,27 +6,54 @@ ghost use lib.ListN.{length};
 ghost use lib.Seq.{sets};
 ghost use Rattle.numbers.specs.Little.{u32Bytes};
 ghost use Rattle.sheet.specs.Codes.{reduceCode, combineCode};
-ghost use Rattle.sheet_writer.specs.Bytes.{fieldBytes, stepTag, stepBytes};
+ghost use Rattle.sheet_writer.specs.Bytes.{fieldBytes, wholeTag, stepTag, wholeBytes, stepBytes};
 use super::fields;
 use super::lengths;
 use sheet::Combine;
 use sheet::ReduceMode;
 use sheet::Step;
+use sheet::WholeStep;
 use sheet::codes;
 
-// The tags of the table of "The sheet". An unused place has none of them.
-fn step_tag(s: Step) -> u8
-    ensures { λ r. ⌜ r ≡ stepTag s ⌝ }
+// The tags of the table of "The sheet".
+fn whole_tag(s: WholeStep) -> u8
+    ensures { λ r. ⌜ r ≡ wholeTag s ⌝ }
 {
     match s {
-        Step::Nothing => 0,
-        Step::Fill {
+        WholeStep::Fill {
             register: _,
             rows: _,
             columns: _,
             kind: _,
             value: _,
         } => 0x20,
+        WholeStep::Reduce {
+            result: _,
+            source: _,
+            rows: _,
+            columns: _,
+            mode: _,
+            combine: _,
+        } => 0x23,
+        WholeStep::Transpose {
+            result: _,
+            source: _,
+        } => 0x24,
+        WholeStep::MultiplyAdd {
+            result: _,
+            a: _,
+            b: _,
+            c: _,
+        } => 0x25,
+    }
+}
+
+// An unused place has none of the table's tags.
+fn step_tag(s: Step) -> u8
+    ensures { λ r. ⌜ r ≡ stepTag s ⌝ }
+{
+    match s {
+        Step::Nothing => 0,
         Step::Load {
             register: _,
             object: _,
@@ -40,24 +67,7 @@ fn step_tag(s: Step) -> u8
             view: _,
             base: _,
         } => 0x22,
-        Step::Reduce {
-            result: _,
-            source: _,
-            rows: _,
-            columns: _,
-            mode: _,
-            combine: _,
-        } => 0x23,
-        Step::Transpose {
-            result: _,
-            source: _,
-        } => 0x24,
-        Step::MultiplyAdd {
-            result: _,
-            a: _,
-            b: _,
-            c: _,
-        } => 0x25,
+        Step::Whole(whole) => whole_tag(whole),
     }
 }
 
@@ -109,19 +119,37 @@ fn put_reduce(
     );
 }
 
-fn put_step_content(out: &mut [u8], at: usize, s: Step)
-    requires { ⌜ at + length (stepBytes s) ≤ length (now out) ⌝ }
-    ensures { λ _. ⌜ now (out .exit) ≡ sets (now (out .entry)) at (stepBytes s) ⌝ }
+fn put_whole_content(out: &mut [u8], at: usize, s: WholeStep)
+    requires { ⌜ at + length (wholeBytes s) ≤ length (now out) ⌝ }
+    ensures { λ _. ⌜ now (out .exit) ≡ sets (now (out .entry)) at (wholeBytes s) ⌝ }
 {
     match s {
-        Step::Nothing => {}
-        Step::Fill {
+        WholeStep::Fill {
             register,
             rows,
             columns,
             kind,
             value,
         } => put_eight(out, at, register, rows, columns, kind, value),
+        WholeStep::Reduce {
+            result,
+            source,
+            rows,
+            columns,
+            mode,
+            combine,
+        } => put_reduce(out, at, result, source, rows, columns, mode, combine),
+        WholeStep::Transpose { result, source } => fields::put_pair(out, at, result, source),
+        WholeStep::MultiplyAdd { result, a, b, c } => put_four(out, at, result, a, b, c),
+    }
+}
+
+fn put_step_content(out: &mut [u8], at: usize, s: Step)
+    requires { ⌜ at + length (stepBytes s) ≤ length (now out) ⌝ }
+    ensures { λ _. ⌜ now (out .exit) ≡ sets (now (out .entry)) at (stepBytes s) ⌝ }
+{
+    match s {
+        Step::Nothing => {}
         Step::Load {
             register,
             object,
@@ -135,16 +163,7 @@ fn put_step_content(out: &mut [u8], at: usize, s: Step)
             view,
             base,
         } => put_store(out, at, register, layout, view, base),
-        Step::Reduce {
-            result,
-            source,
-            rows,
-            columns,
-            mode,
-            combine,
-        } => put_reduce(out, at, result, source, rows, columns, mode, combine),
-        Step::Transpose { result, source } => fields::put_pair(out, at, result, source),
-        Step::MultiplyAdd { result, a, b, c } => put_four(out, at, result, a, b, c),
+        Step::Whole(whole) => put_whole_content(out, at, whole),
     }
 }
 

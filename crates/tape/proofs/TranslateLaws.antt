@@ -30,7 +30,7 @@ use Rattle.runs.specs.Writing.{count-all, count-few, count-records, emit-one}
 use Rattle.sheet.specs.Steps.{theStep, stepOk}
 use Rattle.sheet.specs.declared.Sheet.{Sheet}
 use Rattle.sheet.specs.declared.Step.{Step}
-use Rattle.sheet.specs.declared.Step.the-variants.{Nothing, Fill, Load, Store, Reduce, Transpose, MultiplyAdd}
+use Rattle.sheet.specs.declared.Step.the-variants.{Nothing, Load, Store, Whole}
 use Rattle.registers.specs.Types.{theType}
 use Rattle.registers.specs.declared.MatrixType.{MatrixType}
 use Rattle.carrying.specs.Steps.{accessOf, objectOf, checkedStep}
@@ -40,7 +40,7 @@ use Rattle.carrying.specs.Loops.{one-less}
 use Rattle.carrying.specs.declared.CheckAnswer.{CheckAnswer}
 use Rattle.carrying.specs.Accesses.{Clear, load-accepted, store-accepted}
 use Rattle.records.specs.declared.Record.{Record}
-use Rattle.records.specs.declared.Record.the-variants.{Copy, Whole}
+use Rattle.records.specs.declared.Record.the-variants.{Copy}
 use Rattle.records.specs.Records.{recordNumbers, tapeNumbers}
 use Rattle.records.specs.Laws.{length-numbers, length-tape, tape-append}
 use Rattle.sheet_reader.specs.Reading.{readSheet}
@@ -109,18 +109,6 @@ pub other-some : (sh : Sheet) (ts : List MatrixType) (len register object layout
 other-some sh ts len register object layout view base other k =
     rw (other-records sh ts len register object layout view base (theType ts object) refl other k) (omega arith)
 
--- a step that does something and is no load and no store becomes one op 4
-pub rest-records : (sh : Sheet) (ts : List MatrixType) (len k : ℕ) (st : Step) → (st ≡ Nothing → ⊥) → ((register object layout view base : ℕ) → st ≡ Load register object layout view base → ⊥)
-    → ((register layout view base : ℕ) → st ≡ Store register layout view base → ⊥) → stepRecords sh ts len k st ≡ Whole k ∷ []
-unfolding stepRecords
-rest-records sh ts len k Nothing n h g = absurd (n refl)
-rest-records sh ts len k (Fill register rows columns kind value) n h g = refl
-rest-records sh ts len k (Load register object layout view base) n h g = absurd (h register object layout view base refl)
-rest-records sh ts len k (Store register layout view base) n h g = absurd (g register layout view base refl)
-rest-records sh ts len k (Reduce result source rows columns mode combine) n h g = refl
-rest-records sh ts len k (Transpose result source) n h g = refl
-rest-records sh ts len k (MultiplyAdd result a b c) n h g = refl
-
 -- ---- records written one after the other
 
 pub one-more : (out : List ℤ) (at : ℕ) (r : Record) (rs : List Record) {out₁ out₂ : List ℤ} → out₁ ≡ sets out (at * 6) (recordNumbers r)
@@ -186,12 +174,9 @@ tape-start sh len = rw sub-zero refl
 pub step-records : (sh : Sheet) (ts : List MatrixType) (len k : ℕ) (st : Step) → length (stepRecords sh ts len k st) ≡ length (stepRecords sh ts len 0 st)
 unfolding stepRecords
 step-records sh ts len k Nothing = refl
-step-records sh ts len k (Fill register rows columns kind value) = refl
 step-records sh ts len k (Load register object layout view base) = refl
 step-records sh ts len k (Store register layout view base) = refl
-step-records sh ts len k (Reduce result source rows columns mode combine) = refl
-step-records sh ts len k (Transpose result source) = refl
-step-records sh ts len k (MultiplyAdd result a b c) = refl
+step-records sh ts len k (Whole whole) = refl
 
 matrix-few : (a : Access) (register : ℕ) (t : MatrixType) → SizedType t → length (accessRecords a register t) ≤ 257
 matrix-few a register t s =
@@ -204,7 +189,6 @@ copy-few register object =
 pub step-few : (sh : Sheet) (ts : List MatrixType) (len k : ℕ) (st : Step) → Sized ts → length (stepRecords sh ts len k st) ≤ 258
 unfolding stepRecords
 step-few sh ts len k Nothing s = omega arith
-step-few sh ts len k (Fill register rows columns kind value) s = omega arith
 step-few sh ts len k (Load register object layout view base) s =
     let t = theType ts (objectOf register object) in
     let a = accessOf sh true layout view base (theType ts (objectOf register object)) len in
@@ -213,9 +197,7 @@ step-few sh ts len k (Load register object layout view base) s =
 step-few sh ts len k (Store register layout view base) s =
     let few = matrix-few (accessOf sh false layout view base (theType ts register) len) register (theType ts register) (s .each register) in
     omega (arith, few)
-step-few sh ts len k (Reduce result source rows columns mode combine) s = omega arith
-step-few sh ts len k (Transpose result source) s = omega arith
-step-few sh ts len k (MultiplyAdd result a b c) s = omega arith
+step-few sh ts len k (Whole whole) s = omega arith
 
 -- ---- the answer
 

@@ -1,6 +1,6 @@
 -- None of the records of a load's or a store's runs is out of range, where each element passes.
 use Prim.Native.Nat.{ℕ, zero, suc, _+_, _*_, _≤_}
-use mathlib.Core.Path.{_≡_, subst}
+use mathlib.Core.Path.{_≡_, subst, _∙_}
 use mathlib.Core.Bool.{Bool, true, false, not}
 use mathlib.Core.List.{List, [], _∷_}
 use native.Mathlib.Omega.{arith}
@@ -19,7 +19,8 @@ use Rattle.runs.specs.declared.Run.{Run}
 use Rattle.runs.specs.declared.Run.the-variants.{Idle, Bytes, Fills}
 use Rattle.runs.specs.Runs.{held, ending, runRecords, endedRecords, runsRecords}
 use Rattle.runs.specs.Longest.{Going, Pouring, Open, held-open, ending-open}
-use Rattle.tape.specs.Records.{byteInside, bytesRecordOk, fillRecordOk}
+use Rattle.tape.specs.Records.{bytesRecordOk, fillRecordOk}
+use Rattle.tape.specs.ByteLaws.{inside-natural}
 use Rattle.tape.specs.Passing.{Passes, none, more, passes-append}
 
 -- an element that has a byte has all of its bytes in memory, and what fills an element fits its kind
@@ -35,11 +36,11 @@ module _ (sh : Sheet) (len : ℕ) (load : Bool) (register : ℕ) (ts : List Matr
 
   module _ (f : ℕ → Outcome) (fine : (i : ℕ) → Passable (t .kind) len (f i)) (k : ℕ) (few : k ≤ t .rows * t .columns) where
     bytes-pass : (e n b u d : ℕ) → Going f k e n b u d → bytesRecordOk t len e n b u d ≡ true
-    unfolding bytesRecordOk byteInside
+    unfolding bytesRecordOk
     bytes-pass e n b u d g =
         both-true _ _ not-empty
         (both-true _ _ (le-leb (e + n) (t .rows * t .columns) (omega (arith, g .ends)))
-        (all-true n _ (λ i l. both-true _ _ (le-leb (i * d) (b + i * u) (g .low i l))
+        (all-true n _ (λ i l. inside-natural b u d i (bytesOf (t .kind)) len ∙ both-true _ _ (le-leb (i * d) (b + i * u) (g .low i l))
         (le-leb _ len (subst (Passable (t .kind) len) (g .at i l) (fine (e + i)))))))
 
     fill-passes : (e n v : ℕ) → Pouring f k e n v → fillRecordOk t e n v ≡ true

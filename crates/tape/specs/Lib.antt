@@ -1,6 +1,7 @@
 pub mod Tapes
 pub mod Translating
 pub mod Records
+pub mod ByteLaws
 pub mod Running
 pub mod Passing
 pub mod Turns
@@ -11,4 +12,5 @@ pub mod Ranges
 pub mod Agreement
 pub mod Unchanged
 pub mod Longest
+pub mod GivenTape
 pub mod Theorems

@@ -1,45 +1,19 @@
--- The records of a load or a store are those of its runs, and each run is the longest even run from its first element: that theorem
--- stands in crates/runs/specs/Longest.antt, for any outcomes.
-use Prim.Native.Nat.{ℕ, zero, suc, _*_}
-use mathlib.Core.Path.{_≡_, refl, sym, ap₂, _∙_}
-use mathlib.Core.Bool.{Bool}
-use mathlib.Core.List.{List, [], _∷_, _++_, append-assoc}
-use Rattle.numbers.specs.Lists.{each}
-use Rattle.outcomes.specs.declared.Outcome.{Outcome}
+-- The records of a load or a store are those of its runs, each the longest even run from its first element, and of no other list of
+-- runs: the theorems stand in crates/runs/specs, Longest.antt and Unique.antt, for any outcomes.
+use Prim.Native.Nat.{ℕ, _*_}
+use mathlib.Core.Path.{_≡_, sym}
+use mathlib.Core.List.{List, map}
 use Rattle.registers.specs.declared.MatrixType.{MatrixType}
 use Rattle.addressing.specs.declared.Access.{Access}
 use Rattle.transfers.specs.Transfers.{outcomeOf}
-use Rattle.records.specs.declared.Record.{Record}
+use Rattle.records.specs.Records.{tapeNumbers}
 use Rattle.runs.specs.declared.Run.{Run}
-use Rattle.runs.specs.declared.Run.the-variants.{Idle, Bytes, Fills}
-use Rattle.runs.specs.Runs.{emit, held, ending, ended, runs, runRecords, endedRecords, runsRecords}
+use Rattle.runs.specs.Runs.{runs}
+use Rattle.runs.specs.Even.{Stretch, Given}
 use Rattle.runs.specs.Longest.{LongestRun, AllRuns, runs-longest}
+use Rattle.runs.specs.Unique.{runOf, stretches, runs-given}
+use Rattle.runs.specs.RunRecords.{recordsOf, runNumbers, of-runs, given-records, given-numbers}
 use Rattle.tape.specs.Tapes.{accessRecords}
-
-module _ (load : Bool) (register : ℕ) where
-  -- the records of runs, in order
-  abbrev pub recordsOf : List Run → List Record
-  recordsOf [] = []
-  recordsOf (r ∷ rs) = runRecords load register r ++ recordsOf rs
-
-  of-append : (rs qs : List Run) → recordsOf (rs ++ qs) ≡ recordsOf rs ++ recordsOf qs
-  of-append [] qs = refl
-  of-append (r ∷ rs) qs = rw (of-append rs qs) (sym (append-assoc (runRecords load register r) (recordsOf rs) (recordsOf qs)))
-
-  of-emit : (r : Run) → recordsOf (emit r) ≡ runRecords load register r
-  of-emit Idle = refl
-  of-emit (Bytes first count byte up down) = refl
-  of-emit (Fills first count value) = refl
-
-  module _ (f : ℕ → Outcome) where
-    of-ended : (n : ℕ) → recordsOf (ended f n) ≡ endedRecords load register f n
-    unfolding each
-    of-ended zero = refl
-    of-ended (suc n) = of-append (ended f n) (emit (ending f n)) ∙ ap₂ (λ (a b : List Record). a ++ b) (of-ended n) (of-emit (ending f n))
-
-    of-runs : (n : ℕ) → recordsOf (runs f n) ≡ runsRecords load register f n
-    unfolding runs runsRecords
-    of-runs n = of-append (ended f n) (emit (held f n)) ∙ ap₂ (λ (a b : List Record). a ++ b) (of-ended n) (of-emit (held f n))
 
 -- the runs of a load or a store of a matrix of a type
 abbrev pub accessRuns : Access → MatrixType → List Run
@@ -50,3 +24,19 @@ access-runs a register t = sym (of-runs (a .load) register (outcomeOf a (t .colu
 
 pub access-longest : (a : Access) (t : MatrixType) → AllRuns (LongestRun (outcomeOf a (t .columns)) (t .rows * t .columns)) (accessRuns a t)
 access-longest a t = runs-longest (outcomeOf a (t .columns)) (t .rows * t .columns)
+
+-- the list of runs that document 01 gives for a load or a store
+abbrev pub AccessGiven : Access → MatrixType → List Stretch → Type 0
+AccessGiven a t rs = Given (outcomeOf a (t .columns)) (t .rows * t .columns) rs
+
+-- there is one ..
+pub access-given : (a : Access) (t : MatrixType) → AccessGiven a t (stretches (accessRuns a t))
+access-given a t = runs-given (outcomeOf a (t .columns)) (t .rows * t .columns)
+
+-- .. and the records, and their numbers, are those of it
+module _ (a : Access) (register : ℕ) (t : MatrixType) (rs : List Stretch) (given : AccessGiven a t rs) where
+  pub access-records : accessRecords a register t ≡ recordsOf (a .load) register (map runOf rs)
+  access-records = given-records (a .load) register (outcomeOf a (t .columns)) (t .rows * t .columns) rs given
+
+  pub access-numbers : tapeNumbers (accessRecords a register t) ≡ runNumbers (a .load) register rs
+  access-numbers = given-numbers (a .load) register (outcomeOf a (t .columns)) (t .rows * t .columns) rs given

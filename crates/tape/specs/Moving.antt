@@ -1,5 +1,5 @@
 -- The records of a load's or a store's runs leave what its elements leave, on any machine.
-use Prim.Native.Nat.{ℕ, zero, suc, _+_}
+use Prim.Native.Nat.{ℕ, zero, suc, _+_, _*_, _-_}
 use mathlib.Core.Path.{_≡_, refl, sym, ap, _∙_}
 use mathlib.Core.Bool.{Bool, true, false, true≢false}
 use mathlib.Core.List.{List, [], _∷_}
@@ -18,7 +18,8 @@ use Rattle.records.specs.Records.{moved}
 use Rattle.runs.specs.Runs.{runsRecords}
 use Rattle.runs.specs.Acts.{Act, meet, give, one, spread, pour}
 use Rattle.runs.specs.States.{fold, elementwise, fold-append, same-records}
-use Rattle.tape.specs.Records.{byteAt, inOrder, onElements, ranRecord}
+use Rattle.tape.specs.Records.{inOrder, onElements, ranRecord}
+use Rattle.tape.specs.ByteLaws.{byte-natural}
 use Rattle.tape.specs.Passing.{ranAll}
 
 -- an element meets its byte: on a load it takes the bits there, on a store it is written there
@@ -48,19 +49,21 @@ module _ (sh : Sheet) (register : ℕ) where
   -- a take or a put crosses its elements
   moved-crosses : (load : Bool) (first count byte up down : ℕ) (m : Machine)
       → ranRecord sh (moved load register first count byte up down) m
-      ≡ onElements register (λ (size i : ℕ) (s : State). crossed load size register (first + i) (byteAt byte up down i) s) count m
+      ≡ onElements register (λ (size i : ℕ) (s : State). crossed load size register (first + i) (byte + i * up - i * down) s) count m
   unfolding ranRecord moved
-  moved-crosses true first count byte up down m = refl
-  moved-crosses false first count byte up down m = refl
+  moved-crosses true first count byte up down m =
+      λ j. onElements register (λ (size i : ℕ) (s : State). crossed true size register (first + i) (byte-natural byte up down i j) s) count m
+  moved-crosses false first count byte up down m =
+      λ j. onElements register (λ (size i : ℕ) (s : State). crossed false size register (first + i) (byte-natural byte up down i j) s) count m
 
   crosses : (load : Bool) (first count byte up down : ℕ) (m : Machine)
-      → onElements register (λ (size i : ℕ) (s : State). crossed load size register (first + i) (byteAt byte up down i) s) count m
+      → onElements register (λ (size i : ℕ) (s : State). crossed load size register (first + i) (byte + i * up - i * down) s) count m
       ≡ fold (acted load register) m (spread first count byte up down)
   unfolding inOrder spread each fold
   crosses load first zero byte up down m = refl
   crosses load first (suc n) byte up down m =
-      ap (λ (x : Machine). acted load register x (meet (first + n) (byteAt byte up down n))) (crosses load first n byte up down m)
-      ∙ sym (fold-append (acted load register) m (spread first n byte up down) (meet (first + n) (byteAt byte up down n) ∷ []))
+      ap (λ (x : Machine). acted load register x (meet (first + n) (byte + n * up - n * down))) (crosses load first n byte up down m)
+      ∙ sym (fold-append (acted load register) m (spread first n byte up down) (meet (first + n) (byte + n * up - n * down) ∷ []))
 
   pours : (load : Bool) (first count value : ℕ) (m : Machine)
       → ranRecord sh (Fill register first count value) m ≡ fold (acted load register) m (pour first count value)

@@ -4,15 +4,16 @@ use mathlib.Core.Path.{_≡_, refl, sym, ap, _∙_}
 use mathlib.Core.Bool.{true, true≢false}
 use mathlib.Core.List.{List, [], _∷_, _++_}
 use native.Mathlib.Omega.{arith}
+use borrow.Author.Tests.{eqb-true, ltb-true}
 use lib.ListN.{length, getD}
 use Rattle.numbers.specs.Choice.{pick, both-left, both-right}
 use Rattle.sheet.specs.Steps.{theStep}
 use Rattle.sheet.specs.declared.Sheet.{Sheet}
 use Rattle.sheet.specs.declared.Step.{Step}
 use Rattle.sheet.specs.declared.Step.the-variants as step
+use Rattle.sheet.specs.declared.WholeStep.{WholeStep}
 use Rattle.registers.specs.declared.MatrixType.{MatrixType}
-use Rattle.whole_steps.specs.Refusals.{isWhole}
-use Rattle.whole_steps.specs.Whole.{wholeTypes}
+use Rattle.whole_steps.specs.Refusals.{wholeRefusal}
 use Rattle.carrying.specs.Steps.{Machine, performedStep}
 use Rattle.carrying.specs.Carrying.{refusalAt}
 use Rattle.records.specs.declared.Record.{Record}
@@ -20,7 +21,7 @@ use Rattle.records.specs.declared.Record.the-variants.{Copy, Take, Put, Fill, W
 use Rattle.records.specs.declared.Decoded.{Decoded}
 use Rattle.records.specs.declared.Decoded.the-variants.{Good}
 use Rattle.runs.specs.States.{performAll}
-use Rattle.tape.specs.Records.{wholeRecordOk, recordOk, recordTypes, ranRecord}
+use Rattle.tape.specs.Records.{wholeClear, wholeRecordOk, recordOk, recordTypes, ranRecord}
 use Rattle.tape.specs.Running.{rangeFrom, ranDecoded, ranFrom}
 
 -- record k + i of a tape is record i of a list
@@ -29,35 +30,32 @@ Says the k rs = (i : ℕ) → i < length rs → the (k + i) ≡ Good (getD rs i 
 
 -- ---- one record
 
--- a whole step leaves memory as it was, and the types that the check gives
-pub record WholeKeeps (sh : Sheet) (st : Step) (m : Machine) : Type 0 where
-  pub types : performedStep sh st m .registers .types ≡ wholeTypes (m .registers .types) st
-  pub memory : performedStep sh st m .memory ≡ m .memory
+-- the whole step that op 4 names where it is not out of range
+pub record Named (sh : Sheet) (ts : List MatrixType) (len k : ℕ) : Type 0 where
+  pub given : k < sh .steps
+  pub whole : WholeStep
+  pub is : theStep (sh .step) k ≡ step.Whole whole
+  pub clear : wholeRefusal (sh .edition) ts len whole .number ≡ 0
 
-pub whole-keeps : (sh : Sheet) (st : Step) (m : Machine) → isWhole st ≡ true → WholeKeeps sh st m
-unfolding performedStep
-whole-keeps sh step.Nothing m e = absurd (true≢false (sym e))
-whole-keeps sh (step.Fill register rows columns kind value) m e = record { types = refl; memory = refl }
-whole-keeps sh (step.Load register object layout view base) m e = absurd (true≢false (sym e))
-whole-keeps sh (step.Store register layout view base) m e = absurd (true≢false (sym e))
-whole-keeps sh (step.Reduce result source rows columns mode combine) m e = record { types = refl; memory = refl }
-whole-keeps sh (step.Transpose result source) m e = record { types = refl; memory = refl }
-whole-keeps sh (step.MultiplyAdd result a b c) m e = record { types = refl; memory = refl }
+named : (sh : Sheet) (ts : List MatrixType) (len k : ℕ) (st : Step) → k < sh .steps → theStep (sh .step) k ≡ st → wholeClear (sh .edition) ts len st ≡ true → Named sh ts len k
+named sh ts len k step.Nothing g i e = absurd (true≢false (sym e))
+named sh ts len k (step.Load register object layout view base) g i e = absurd (true≢false (sym e))
+named sh ts len k (step.Store register layout view base) g i e = absurd (true≢false (sym e))
+named sh ts len k (step.Whole whole) g i e = record { given = g; whole = whole; is = i; clear = eqb-true _ _ e }
 
--- op 4 that is not out of range names such a step
-pub whole-named : (sh : Sheet) (ts : List MatrixType) (k : ℕ) → wholeRecordOk sh ts k ≡ true → isWhole (theStep (sh .step) k) ≡ true
+pub whole-named : (sh : Sheet) (ts : List MatrixType) (len k : ℕ) → wholeRecordOk sh ts len k ≡ true → Named sh ts len k
 unfolding wholeRecordOk
-whole-named sh ts k e = both-left _ _ (both-right _ _ e)
+whole-named sh ts len k e = named sh ts len k (theStep (sh .step) k) (ltb-true _ _ (both-left _ _ e)) refl (both-right _ _ e)
 
 module _ (sh : Sheet) where
   pub record-types : (r : Record) (m : Machine) (len : ℕ) → recordOk sh (m .registers .types) len r ≡ true
       → ranRecord sh r m .registers .types ≡ recordTypes sh (m .registers .types) r
-  unfolding ranRecord
+  unfolding ranRecord performedStep
   record-types (Copy register object) m len e = refl
   record-types (Take register first count byte up down) m len e = refl
   record-types (Put register first count byte up down) m len e = refl
   record-types (Fill register first count value) m len e = refl
-  record-types (Whole k) m len e = whole-keeps sh (theStep (sh .step) k) m (whole-named sh (m .registers .types) k e) .types
+  record-types (Whole k) m len e = rw (whole-named sh (m .registers .types) len k e .is)
 
   -- ---- all records
 

@@ -16,7 +16,7 @@ use Rattle.sheet.specs.Sizes.{optionOk}
 use Rattle.sheet.specs.Steps.{theStep, loadOk, storeOk, stepOk}
 use Rattle.sheet.specs.declared.Sheet.{Sheet}
 use Rattle.sheet.specs.declared.Step.{Step}
-use Rattle.sheet.specs.declared.Step.the-variants.{Nothing, Fill, Load, Store, Reduce, Transpose, MultiplyAdd}
+use Rattle.sheet.specs.declared.Step.the-variants.{Nothing, Load, Store, Whole}
 use Rattle.round_trip.specs.Sheets.{Within}
 use Rattle.registers.specs.Types.{theType}
 use Rattle.registers.specs.Registers.{emptyRegisters}
@@ -64,7 +64,6 @@ module _ (len : ℕ) (most : len ≤ memoryLimit) where
         → AllWithin (stepRecords sh ts len k st)
     unfolding stepRecords loadOk storeOk
     step-within ts k Nothing edition layouts views l ok s = tt
-    step-within ts k (Fill register rows columns kind value) edition layouts views l ok s = (omega arith, tt)
     step-within ts k (Load register object layout view base) edition layouts views l ok s =
         let few : register < 4 = ltb-true register 4 (both-left _ _ ok) in
         let t = theType ts (objectOf register object) in
@@ -73,9 +72,7 @@ module _ (len : ℕ) (most : len ≤ memoryLimit) where
         (access-within true register layout view base t few (s .each (objectOf register object)))
     step-within ts k (Store register layout view base) edition layouts views l ok s =
         access-within false register layout view base (theType ts register) (ltb-true register 4 (both-left _ _ ok)) (s .each register)
-    step-within ts k (Reduce result source rows columns mode combine) edition layouts views l ok s = (omega arith, tt)
-    step-within ts k (Transpose result source) edition layouts views l ok s = (omega arith, tt)
-    step-within ts k (MultiplyAdd result a b c) edition layouts views l ok s = (omega arith, tt)
+    step-within ts k (Whole whole) edition layouts views l ok s = (omega arith, tt)
 
     module _ (w : Within sh) where
       from-within : (n k : ℕ) (ts : List MatrixType) → k + n ≤ sh .steps → Sized ts → AllWithin (tapeFrom n sh len k ts)

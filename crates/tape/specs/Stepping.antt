@@ -17,19 +17,20 @@ use Rattle.sheet.specs.Steps.{theStep, loadOk, stepOk}
 use Rattle.sheet.specs.declared.Sheet.{Sheet}
 use Rattle.sheet.specs.declared.Step.{Step}
 use Rattle.sheet.specs.declared.Step.the-variants as step
+use Rattle.sheet.specs.declared.WholeStep.{WholeStep}
 use Rattle.registers.specs.Types.{noType, theType, isEmpty, withType}
 use Rattle.registers.specs.Registers.{copied}
 use Rattle.registers.specs.declared.MatrixType.{MatrixType}
 use Rattle.addressing.specs.declared.Access.{Access}
 use Rattle.addressing.specs.Sound.{Sound, low-bits-fit}
 use Rattle.accesses.specs.Accepted.{element-sound}
-use Rattle.whole_steps.specs.Refusals.{wholeRefusal, isWhole}
+use Rattle.whole_steps.specs.Refusals.{wholeRefusal}
 use Rattle.whole_steps.specs.Whole.{wholeTypes}
 use Rattle.transfers.specs.Transfers.{outcomeOf, transferred}
-use Rattle.carrying.specs.Steps.{Machine, machine, stateOf, machineOf, accessOf, objectOf, checkedStep, loadDone, storeDone, objectDone, performedStep}
+use Rattle.carrying.specs.Steps.{Machine, machine, stateOf, machineOf, accessOf, objectOf, checkedStep, loadDone, storeDone, objectDone, stepTypes, performedStep}
 use Rattle.carrying.specs.Types.{checkOn, Accepted, load-some, load-access, store-some, store-access, object-type, object-memory}
 use Rattle.records.specs.declared.Record.{Record}
-use Rattle.records.specs.declared.Record.the-variants.{Copy, Fill, Whole}
+use Rattle.records.specs.declared.Record.the-variants.{Copy, Whole}
 use Rattle.runs.specs.States.{performAll, performAll-append}
 use Rattle.tape.specs.Tapes.{copyRecords, accessRecords, stepRecords}
 use Rattle.tape.specs.Records.{wholeRecordOk, ranRecord}
@@ -110,12 +111,13 @@ module _ (sh : Sheet) (m : Machine) (k : ℕ) where
   abbrev len : ℕ
   len = length (m .memory)
 
-  whole-passes : (st : Step) → k < sh .steps → theStep (sh .step) k ≡ st → isWhole st ≡ true → wholeRefusal ts st ≡ 0
-      → Passes sh len (Whole k ∷ []) ts (wholeTypes ts st)
+  whole-passes : (w : WholeStep) → k < sh .steps → theStep (sh .step) k ≡ step.Whole w → wholeRefusal (sh .edition) ts len w .number ≡ 0
+      → Passes sh len (Whole k ∷ []) ts (wholeTypes ts w)
   unfolding wholeRecordOk
-  whole-passes st h e w z =
-      let p : wholeRecordOk sh ts k ≡ true = both-true _ _ (lt-ltb k (sh .steps) h) (rw e (both-true _ _ w (eq-eqb (wholeRefusal ts st) 0 z))) in
-      rw (← e) (more p none)
+  whole-passes w h e z =
+      let p : wholeRecordOk sh ts len k ≡ true = both-true _ _ (lt-ltb k (sh .steps) h) (rw e (eq-eqb _ 0 z)) in
+      let types : stepTypes ts (theStep (sh .step) k) ≡ wholeTypes ts w = rw e in
+      rw (← types) (more p none)
 
   -- None of a step's records is out of range, and they leave the types that its check tracks.
   pub step-passes : (st : Step) → k < sh .steps → theStep (sh .step) k ≡ st → Accepted sh st m → (length ts ≡ 4)
@@ -123,7 +125,6 @@ module _ (sh : Sheet) (m : Machine) (k : ℕ) where
       → Passes sh len (stepRecords sh ts len k st) ts (checkOn sh st m .types)
   unfolding stepRecords checkedStep loadOk
   step-passes step.Nothing h e a four ok = none
-  step-passes (step.Fill register rows columns kind value) h e a four ok = whole-passes _ h e refl a
   step-passes (step.Load register object layout view base) h e a four ok =
       let t = theType ts (objectOf register object) in
       let some = load-some sh ts len register t layout view base a in
@@ -136,9 +137,7 @@ module _ (sh : Sheet) (m : Machine) (k : ℕ) where
       let t = theType ts register in
       let some = store-some sh ts len t layout view base a in
       rw (store-access sh ts len t layout view base some) (access-passes sh false register layout view base len ts t refl some)
-  step-passes (step.Reduce result source rows columns mode combine) h e a four ok = whole-passes _ h e refl a
-  step-passes (step.Transpose result source) h e a four ok = whole-passes _ h e refl a
-  step-passes (step.MultiplyAdd result x y z) h e a four ok = whole-passes _ h e refl a
+  step-passes (step.Whole whole) h e a four ok = whole-passes whole h e a
 
   whole-done : (st : Step) → theStep (sh .step) k ≡ st → ranAll sh (Whole k ∷ []) m ≡ performedStep sh st m
   unfolding performAll ranRecord
@@ -162,10 +161,7 @@ module _ (sh : Sheet) (m : Machine) (k : ℕ) where
       → ranAll sh (stepRecords sh ts len k st) m ≡ performedStep sh st m
   unfolding stepRecords performedStep storeDone performAll loadOk
   step-done step.Nothing e four ok = refl
-  step-done (step.Fill register rows columns kind value) e four ok = whole-done _ e
   step-done (step.Load register object layout view base) e four ok =
       let few : register < 4 = ltb-true register 4 (both-left _ _ ok) in load-done register object layout view base (omega arith)
   step-done (step.Store register layout view base) e four ok = access-done sh false register layout view base m
-  step-done (step.Reduce result source rows columns mode combine) e four ok = whole-done _ e
-  step-done (step.Transpose result source) e four ok = whole-done _ e
-  step-done (step.MultiplyAdd result x y z) e four ok = whole-done _ e
+  step-done (step.Whole whole) e four ok = whole-done _ e

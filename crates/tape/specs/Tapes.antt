@@ -1,13 +1,14 @@
 -- The tape of a sheet for a memory of a length: the list of records that document 01 gives.
 use Prim.Native.Nat.{ℕ, zero, suc, _+_, _*_}
 use mathlib.Core.List.{List, [], _∷_, _++_}
-use mathlib.Core.Bool.{Bool, true, false}
+use mathlib.Core.Bool.{true, false}
 use lib.Dec.{eqb}
 use Rattle.numbers.specs.Choice.{pick}
 use Rattle.sheet.specs.Steps.{theStep}
 use Rattle.sheet.specs.declared.Sheet.{Sheet}
 use Rattle.sheet.specs.declared.Step.{Step}
-use Rattle.sheet.specs.declared.Step.the-variants.{Nothing, Fill, Load, Store, Reduce, Transpose, MultiplyAdd}
+use Rattle.sheet.specs.declared.Step.the-variants as step
+use Rattle.sheet.specs.declared.Step.the-variants.{Nothing, Load, Store}
 use Rattle.registers.specs.Types.{theType}
 use Rattle.registers.specs.Registers.{emptyRegisters}
 use Rattle.registers.specs.declared.MatrixType.{MatrixType}
@@ -26,19 +27,16 @@ copyRecords register object = pick (eqb object 255) [] (Copy register object ∷
 abbrev pub accessRecords : Access → ℕ → MatrixType → List Record
 accessRecords a register t = runsRecords (a .load) register (outcomeOf a (t .columns)) (t .rows * t .columns)
 
--- step k of a sheet, at the types that the steps before left; fill, reduce, transpose and multiply-add become one op 4
+-- step k of a sheet, at the types that the steps before left; a whole step becomes one op 4
 unfoldable pub stepRecords : Sheet → List MatrixType → ℕ → ℕ → Step → List Record
 stepRecords sh ts len k Nothing = []
-stepRecords sh ts len k (Fill register rows columns kind value) = Whole k ∷ []
 stepRecords sh ts len k (Load register object layout view base) =
     let t = theType ts (objectOf register object) in
     copyRecords register object ++ accessRecords (accessOf sh true layout view base t len) register t
 stepRecords sh ts len k (Store register layout view base) =
     let t = theType ts register in
     accessRecords (accessOf sh false layout view base t len) register t
-stepRecords sh ts len k (Reduce result source rows columns mode combine) = Whole k ∷ []
-stepRecords sh ts len k (Transpose result source) = Whole k ∷ []
-stepRecords sh ts len k (MultiplyAdd result a b c) = Whole k ∷ []
+stepRecords sh ts len k (step.Whole whole) = Whole k ∷ []
 
 -- n steps more, the next of which is number k
 unfoldable pub tapeFrom : ℕ → Sheet → ℕ → ℕ → List MatrixType → List Record

@@ -1,12 +1,12 @@
 -- The elements that a record works on, one by one, and the turns of the loops over the records of a tape.
 use Prim.Native.Nat.{ℕ, zero, suc, _+_, _-_, _*_, _<_, _≤_}
 use mathlib.Core.Path.{_≡_, refl, sym, ap, _∙_}
-use mathlib.Core.Bool.{Bool, true, false, not, true≢false}
+use mathlib.Core.Bool.{Bool, true, false, not}
 use mathlib.Core.List.{List, [], _∷_}
 use native.Mathlib.Numerals.{add-one}
 use native.Mathlib.Nat.{mul-le-mul, add-zero, sub-zero}
 use native.Mathlib.Omega.{arith}
-use borrow.Author.Tests.{leb-true, ltb-true, eqb-true, le-leb, lt-leb, eq-eqb, ne-eqb}
+use borrow.Author.Tests.{leb-true, le-leb, lt-leb, eq-eqb, ne-eqb}
 use lib.IntN.{ℤ}
 use lib.ListN.{length, length-set, replicate}
 use Rattle.numbers.specs.Choice.{pick, pick-case, both-left, both-right}
@@ -16,7 +16,6 @@ use Rattle.kinds.specs.Widths.{bytesOf}
 use Rattle.sheet.specs.Steps.{theStep}
 use Rattle.sheet.specs.declared.Sheet.{Sheet}
 use Rattle.sheet.specs.declared.Refusal.{Refusal}
-use Rattle.sheet.specs.declared.Step.{Step}
 use Rattle.sheet.specs.declared.Step.the-variants as step
 use Rattle.round_trip.specs.Sheets.{Within}
 use Rattle.memory.specs.Elements.{elementAt, withElement}
@@ -27,11 +26,9 @@ use Rattle.registers.specs.Registers.{placeOf, elementOf, withElementOf, room, 
 use Rattle.registers.specs.Sized.{SizedType, Sized, sized-with}
 use Rattle.registers.specs.declared.MatrixType.{MatrixType}
 use Rattle.registers.specs.declared.Registers.{Registers}
-use Rattle.whole_steps.specs.Refusals.{wholeRefusal, isWhole}
-use Rattle.whole_steps.specs.Whole.{wholeTypes}
 use Rattle.whole_steps.specs.Within.{WholeOk, whole-ok, sized-whole}
 use Rattle.transfers.specs.Acts.{State, state, took, gave, put}
-use Rattle.carrying.specs.Steps.{Machine, machine, stateOf, machineOf, performedStep, wholeStepDone}
+use Rattle.carrying.specs.Steps.{Machine, machine, stateOf, machineOf, performedStep}
 use Rattle.carrying.specs.Carrying.{refusalAt, memoryLimit, started, carryAnswer}
 use Rattle.carrying.specs.Types.{Formed, started-formed, step-places, within-step}
 use Rattle.carrying.specs.Loops.{one-less}
@@ -39,10 +36,11 @@ use Rattle.records.specs.declared.Record.{Record}
 use Rattle.records.specs.declared.Record.the-variants.{Copy, Take, Put, Fill, Whole}
 use Rattle.records.specs.declared.Decoded.{Decoded}
 use Rattle.records.specs.declared.Decoded.the-variants.{Good, Bad}
-use Rattle.tape.specs.Records.{elementsOk, byteAt, byteInside, bytesInside, bytesRecordOk, fillRecordOk, wholeRecordOk, recordOk, recordTypes, inOrder, ranRecord}
+use Rattle.tape.specs.ByteLaws.{byte-natural, inside-natural}
+use Rattle.tape.specs.Records.{elementsOk, byteAt, byteInside, bytesInside, bytesRecordOk, fillRecordOk, recordOk, recordTypes, inOrder, ranRecord}
 use Rattle.tape.specs.Translating.{recordLimit, recordsFit}
 use Rattle.tape.specs.Running.{tapeRecord, decodedOk, decodedTypes, rangeFrom, rangeRefusal, ranDecoded, ranFrom, ran, tapeRefusal, runRefusal, runTape, ranMemory}
-use Rattle.tape.specs.Passing.{whole-keeps, whole-named, record-types}
+use Rattle.tape.specs.Passing.{Named, whole-named, record-types}
 
 -- ---- elements
 
@@ -120,10 +118,9 @@ pub record Lies (size len byte up down i : ℕ) : Type 0 where
   pub below : byteAt byte up down i + size ≤ len
 
 pub inside-lies : (size len count byte up down : ℕ) → bytesInside size len count byte up down ≡ true → (i : ℕ) → i < count → Lies size len byte up down i
-unfolding byteInside
 inside-lies size len count byte up down e i h =
-    let f = all-at count (byteInside size len byte up down) e i h in
-    record { above = leb-true _ _ (both-left _ _ f); below = leb-true _ _ (both-right _ _ f) }
+    let f = sym (inside-natural byte up down i size len) ∙ all-at count (byteInside size len byte up down) e i h in
+    record { above = leb-true _ _ (both-left _ _ f); below = rw (byte-natural byte up down i) (leb-true _ _ (both-right _ _ f)) }
 
 -- elements of a matrix are elements of a register
 pub sized-room : (t : MatrixType) → SizedType t → t .rows * t .columns ≤ 256
@@ -151,39 +148,8 @@ pub stride-small : (i step : ℕ) → i < 256 → step ≤ 65535 → i * step �
 stride-small i step h l = let k : i ≤ 256 = omega arith in mul-le-mul {n₂ = 256} {m₂ = 65536} k (omega arith)
 
 -- op 4
-pub step-whole : (sh : Sheet) → Within sh → (k : ℕ) → k < sh .steps → WholeOk (theStep (sh .step) k)
-step-whole sh w k h = whole-ok (sh .edition) (sh .layouts) (sh .views) (theStep (sh .step) k) (within-step sh w k h)
-
-module _ (sh : Sheet) (ts : List MatrixType) (k : ℕ) (e : wholeRecordOk sh ts k ≡ true) where
-  pub whole-given : k < sh .steps
-  unfolding wholeRecordOk
-  whole-given = ltb-true _ _ (both-left _ _ e)
-
-  pub whole-clear : wholeRefusal ts (theStep (sh .step) k) ≡ 0
-  unfolding wholeRecordOk
-  whole-clear = eqb-true _ _ (both-right _ _ (both-right _ _ e))
-
-  pub whole-within : Within sh → WholeOk (theStep (sh .step) k)
-  whole-within w = step-whole sh w k whole-given
-
-pub whole-does : (sh : Sheet) (st : Step) (m : Machine) → isWhole st ≡ true → performedStep sh st m ≡ wholeStepDone st m
-unfolding performedStep
-whole-does sh step.Nothing m e = absurd (true≢false (sym e))
-whole-does sh (step.Fill register rows columns kind value) m e = refl
-whole-does sh (step.Load register object layout view base) m e = absurd (true≢false (sym e))
-whole-does sh (step.Store register layout view base) m e = absurd (true≢false (sym e))
-whole-does sh (step.Reduce result source rows columns mode combine) m e = refl
-whole-does sh (step.Transpose result source) m e = refl
-whole-does sh (step.MultiplyAdd result a b c) m e = refl
-
-whole-registers : (ts : List MatrixType) (st : Step) → length (wholeTypes ts st) ≡ length ts
-whole-registers ts step.Nothing = refl
-whole-registers ts (step.Fill register rows columns kind value) = length-set ts register _
-whole-registers ts (step.Load register object layout view base) = refl
-whole-registers ts (step.Store register layout view base) = refl
-whole-registers ts (step.Reduce result source rows columns mode combine) = length-set ts result _
-whole-registers ts (step.Transpose result source) = length-set ts result _
-whole-registers ts (step.MultiplyAdd result a b c) = length-set ts result _
+pub whole-within : (sh : Sheet) → Within sh → (ts : List MatrixType) (len k : ℕ) (n : Named sh ts len k) → WholeOk (n .whole)
+whole-within sh w ts len k n = whole-ok (sh .edition) (n .whole) (rw (n .is) at (within-step sh w k (n .given)))
 
 -- ---- what a record keeps
 
@@ -194,23 +160,24 @@ module _ (sh : Sheet) (w : Within sh) (ts : List MatrixType) (len : ℕ) where
   record-sized (Take register first count byte up down) e s = s
   record-sized (Put register first count byte up down) e s = s
   record-sized (Fill register first count value) e s = s
-  record-sized (Whole k) e s = sized-whole ts (theStep (sh .step) k) s (whole-within sh ts k e w)
+  record-sized (Whole k) e s =
+      let n = whole-named sh ts len k e in rw (n .is) (sized-whole ts (n .whole) s (whole-within sh w ts len k n))
 
   pub decoded-sized : (d : Decoded) → decodedOk sh ts len d ≡ true → Sized ts → Sized (decodedTypes sh ts d)
   decoded-sized (Good r) e s = record-sized r e s
   decoded-sized Bad e s = s
 
-record-registers : (sh : Sheet) (ts : List MatrixType) (r : Record) → length (recordTypes sh ts r) ≡ length ts
-record-registers sh ts (Copy register object) = length-set ts register _
-record-registers sh ts (Take register first count byte up down) = refl
-record-registers sh ts (Put register first count byte up down) = refl
-record-registers sh ts (Fill register first count value) = refl
-record-registers sh ts (Whole k) = whole-registers ts (theStep (sh .step) k)
+record-registers : (sh : Sheet) (ts : List MatrixType) (len : ℕ) (r : Record) → recordOk sh ts len r ≡ true → length (recordTypes sh ts r) ≡ length ts
+record-registers sh ts len (Copy register object) e = length-set ts register _
+record-registers sh ts len (Take register first count byte up down) e = refl
+record-registers sh ts len (Put register first count byte up down) e = refl
+record-registers sh ts len (Fill register first count value) e = refl
+record-registers sh ts len (Whole k) e = rw (whole-named sh ts len k e .is) (length-set ts _ _)
 
 -- a record in range on a machine
 module _ (sh : Sheet) (m : Machine) (len : ℕ) where
   record-length : (r : Record) → recordOk sh (m .registers .types) len r ≡ true → length (ranRecord sh r m .memory) ≡ length (m .memory)
-  unfolding ranRecord
+  unfolding ranRecord performedStep
   record-length (Copy register object) e = refl
   record-length (Take register first count byte up down) e =
       order-keeps _ (λ (s : State). length (s .memory)) (λ i s. refl) count (stateOf m)
@@ -218,8 +185,7 @@ module _ (sh : Sheet) (m : Machine) (len : ℕ) where
       order-keeps _ (λ (s : State). length (s .memory)) (λ i s. length-with (s .memory) _ _ _) count (stateOf m)
   record-length (Fill register first count value) e =
       order-keeps _ (λ (s : State). length (s .memory)) (λ i s. refl) count (stateOf m)
-  record-length (Whole k) e =
-      ap length (whole-keeps sh (theStep (sh .step) k) m (whole-named sh (m .registers .types) k e) .memory)
+  record-length (Whole k) e = rw (whole-named sh (m .registers .types) len k e .is)
 
   record-places : (r : Record) → length (ranRecord sh r m .registers .elements) ≡ length (m .registers .elements)
   unfolding ranRecord
@@ -236,7 +202,7 @@ module _ (sh : Sheet) (m : Machine) (len : ℕ) where
   few register first count s e = omega (arith, elements-fit _ first count (s .each register) e)
 
   record-count : (r : Record) → recordOk sh (m .registers .types) len r ≡ true → Sized (m .registers .types) → ranRecord sh r m .count ≤ m .count + 256
-  unfolding ranRecord
+  unfolding ranRecord performedStep
   record-count (Copy register object) e s = omega arith
   record-count (Take register first count byte up down) e s =
       let f = few register first count s (bytes-elements _ first count len byte up down e) in
@@ -250,15 +216,13 @@ module _ (sh : Sheet) (m : Machine) (len : ℕ) where
       let f = few register first count s (fill-elements _ first count value e) in
       let n = order-counts (filling register first value) (λ i s. omega arith) count (stateOf m) in
       omega (arith, f, n)
-  record-count (Whole k) e s =
-      let q = ap (λ (x : Machine). x .count) (whole-does sh (theStep (sh .step) k) m (whole-named sh (m .registers .types) k e)) in
-      omega (arith, q)
+  record-count (Whole k) e s = rw (whole-named sh (m .registers .types) len k e .is) (omega arith)
 
   record-formed : Within sh → (r : Record) → recordOk sh (m .registers .types) len r ≡ true → Formed m → Formed (ranRecord sh r m)
   record-formed w r e f =
       let types = record-types sh r m len e in
       record {
-        registers = ap length types ∙ record-registers sh (m .registers .types) r ∙ f .registers;
+        registers = ap length types ∙ record-registers sh (m .registers .types) len r e ∙ f .registers;
         sized = rw types (record-sized sh w (m .registers .types) len r e (f .sized));
         places = record-places r ∙ f .places;
       }

@@ -1,6 +1,6 @@
 -- Nothing else changes: a byte outside the puts of a tape is as before, whatever tape it is that is not refused.
 use Prim.Native.Nat.{ℕ, zero, suc, _+_, _<_}
-use mathlib.Core.Path.{_≡_, refl, ap, _∙_}
+use mathlib.Core.Path.{_≡_, refl, _∙_}
 use mathlib.Core.Logic.{_≢_}
 use mathlib.Core.Bool.{true}
 use mathlib.Core.List.{List}
@@ -9,21 +9,20 @@ use lib.ListN.{getD}
 use Rattle.numbers.specs.Choice.{pick-case}
 use Rattle.kinds.specs.Widths.{bytesOf}
 use Rattle.memory.specs.Laws.{with-outside}
-use Rattle.sheet.specs.Steps.{theStep}
 use Rattle.sheet.specs.declared.Sheet.{Sheet}
 use Rattle.sheet.specs.declared.Refusal.{Refusal}
 use Rattle.registers.specs.Types.{theType}
 use Rattle.registers.specs.Registers.{emptyRegisters, elementOf}
 use Rattle.registers.specs.declared.MatrixType.{MatrixType}
 use Rattle.transfers.specs.Acts.{State}
-use Rattle.carrying.specs.Steps.{Machine, stateOf}
+use Rattle.carrying.specs.Steps.{Machine, stateOf, performedStep}
 use Rattle.carrying.specs.Carrying.{started}
 use Rattle.records.specs.declared.Record.the-variants.{Copy, Take, Put, Fill, Whole}
 use Rattle.records.specs.declared.Decoded.{Decoded}
 use Rattle.records.specs.declared.Decoded.the-variants.{Good, Bad}
 use Rattle.tape.specs.Records.{byteAt, inOrder, ranRecord}
 use Rattle.tape.specs.Running.{decodedOk, decodedTypes, rangeFrom, rangeRefusal, ranDecoded, ranFrom, ran}
-use Rattle.tape.specs.Passing.{whole-keeps, whole-named, record-types}
+use Rattle.tape.specs.Passing.{whole-named, record-types}
 
 -- byte p is none that a record puts, by the types of the registers when it runs
 abbrev pub OutsideRecord : List MatrixType → ℕ → Decoded → Type 0
@@ -52,7 +51,7 @@ module _ (sh : Sheet) (len p : ℕ) where
   Kept before after = getD (after .memory) p 0 ≡ getD (before .memory) p 0
 
   record-kept : (d : Decoded) (m : Machine) → decodedOk sh (m .registers .types) len d ≡ true → OutsideRecord (m .registers .types) p d → Kept m (ranDecoded sh d m)
-  unfolding ranRecord
+  unfolding ranRecord performedStep
   record-kept (Good (Copy register object)) m e o = refl
   record-kept (Good (Take register first count byte up down)) m e o =
       in-order-keeps (λ (s : State). getD (s .memory) p 0 ≡ getD (m .memory) p 0) _ count (λ i l s q. q) (stateOf m) refl
@@ -63,8 +62,7 @@ module _ (sh : Sheet) (len p : ℕ) where
       (stateOf m) refl
   record-kept (Good (Fill register first count value)) m e o =
       in-order-keeps (λ (s : State). getD (s .memory) p 0 ≡ getD (m .memory) p 0) _ count (λ i l s q. q) (stateOf m) refl
-  record-kept (Good (Whole k)) m e o =
-      ap (λ (memory : List ℕ). getD memory p 0) (whole-keeps sh (theStep (sh .step) k) m (whole-named sh (m .registers .types) k e) .memory)
+  record-kept (Good (Whole k)) m e o = rw (whole-named sh (m .registers .types) len k e .is)
   record-kept Bad m e o = refl
 
   decoded-types : (d : Decoded) (m : Machine) → decodedOk sh (m .registers .types) len d ≡ true

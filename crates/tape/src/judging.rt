@@ -1,14 +1,15 @@
 // Which records of a tape are out of range, over the registers' types and the memory's length: refusal 17.
 ghost use mathlib.Core.Path.{_≡_};
 ghost use mathlib.Core.Bool.{true};
-ghost use Prim.Native.Nat.{_+_, _*_, _<_, _≤_, _^_};
+ghost use Prim.Native.Nat.{ℕ, _+_, _*_, _<_, _≤_, _^_};
 ghost use lib.ListN.{length};
+ghost use Rattle.sheet.specs.Steps.{stepOk};
 ghost use Rattle.registers.specs.Sized.{Sized, SizedType};
 ghost use Rattle.round_trip.specs.Sheets.{Within};
 ghost use Rattle.records.specs.Ranges.{Bytes, Sound};
 ghost use Rattle.records.specs.declared.Decoded.the-variants.{Good};
 ghost use Rattle.records.specs.declared.Record.the-variants.{Whole};
-ghost use Rattle.tape.specs.Records.{elementsOk, byteInside, bytesInside, bytesRecordOk, fillRecordOk, wholeRecordOk, recordOk, recordTypes};
+ghost use Rattle.tape.specs.Records.{elementsOk, byteInside, bytesInside, bytesRecordOk, fillRecordOk, wholeClear, wholeRecordOk, recordOk, recordTypes};
 ghost use Rattle.tape.specs.Running.{tapeRecord, decodedOk, decodedTypes, rangeRefusal};
 use carrying::checks;
 use records::Decoded;
@@ -16,6 +17,7 @@ use records::Record;
 use registers::MatrixType;
 use sheet::Refusal;
 use sheet::Sheet;
+use sheet::Step;
 
 // A record out of range, or a record count that does not fit.
 pub const OUT_OF_RANGE: u8 = 17;
@@ -88,20 +90,44 @@ fn fill_record_ok(t: MatrixType, first: usize, count: usize, value: u32) -> bool
     kinds::fits(t.kind, value)
 }
 
+// A whole step that would not be refused.
+fn whole_clear(edition: u8, types: [MatrixType; 4], len: usize, step: Step) -> bool
+    requires { ⌜ ((layouts views : ℕ) × (stepOk edition layouts views step ≡ true)) ⌝ }
+    ensures { λ r. ⌜ r ≡ wholeClear edition types len step ⌝ }
+{
+    match step {
+        Step::Nothing => false,
+        Step::Load {
+            register: _,
+            object: _,
+            layout: _,
+            view: _,
+            base: _,
+        } => false,
+        Step::Store {
+            register: _,
+            layout: _,
+            view: _,
+            base: _,
+        } => false,
+        Step::Whole(whole) => {
+            let stop = whole_steps::refusals::whole_refusal(edition, types, len, whole);
+            stop.number == 0
+        }
+    }
+}
+
 // Op 4.
-fn whole_record_ok(sheet: Sheet, types: [MatrixType; 4], step: usize) -> bool
+fn whole_record_ok(sheet: Sheet, types: [MatrixType; 4], len: usize, step: usize) -> bool
     requires { ⌜ Within sheet ⌝ }
-    ensures { λ r. ⌜ r ≡ wholeRecordOk sheet types step ⌝ }
+    ensures { λ r. ⌜ r ≡ wholeRecordOk sheet types len step ⌝ }
 {
     if sheet.steps <= step {
         return false;
     }
     let c = sheet.step[step];
     let s = c.step;
-    if !whole_steps::refusals::is_whole(s) {
-        return false;
-    }
-    whole_steps::refusals::whole_refusal(types, s) == 0
+    whole_clear(sheet.edition, types, len, s)
 }
 
 fn record_ok(sheet: Sheet, types: [MatrixType; 4], len: usize, r: Record) -> bool
@@ -144,17 +170,17 @@ fn record_ok(sheet: Sheet, types: [MatrixType; 4], len: usize, r: Record) -> boo
             let t = registers::the_type(types, register);
             fill_record_ok(t, first, count, value)
         }
-        Record::Whole { step } => whole_record_ok(sheet, types, step),
+        Record::Whole { step } => whole_record_ok(sheet, types, len, step),
     }
 }
 
 fn whole_record_types(sheet: Sheet, types: [MatrixType; 4], step: usize) -> [MatrixType; 4]
-    requires { ⌜ Within sheet × (wholeRecordOk sheet types step ≡ true) ⌝ }
+    requires { ⌜ Within sheet × (step < sheet .steps) ⌝ }
     ensures { λ r. ⌜ r ≡ recordTypes sheet types (Whole step) ⌝ }
 {
     let c = sheet.step[step];
     let s = c.step;
-    whole_steps::types::whole_types(types, s)
+    checks::step_types(types, s)
 }
 
 // The types that a record in range leaves.
@@ -167,8 +193,29 @@ fn record_types(sheet: Sheet, types: [MatrixType; 4], len: usize, r: Record) -> 
             let t = registers::the_type(types, object);
             registers::with_type(types, register, t)
         }
+        Record::Take {
+            register: _,
+            first: _,
+            count: _,
+            byte: _,
+            up: _,
+            down: _,
+        } => types,
+        Record::Put {
+            register: _,
+            first: _,
+            count: _,
+            byte: _,
+            up: _,
+            down: _,
+        } => types,
+        Record::Fill {
+            register: _,
+            first: _,
+            count: _,
+            value: _,
+        } => types,
         Record::Whole { step } => whole_record_types(sheet, types, step),
-        _ => types,
     }
 }
 

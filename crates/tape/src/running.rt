@@ -1,18 +1,18 @@
 // A tape run with its sheet: every record's range first, then the records, which cannot fail.
 ghost use mathlib.Core.Path.{_≡_};
 ghost use mathlib.Core.Bool.{true};
-ghost use mathlib.Core.List.{List};
 ghost use Prim.Native.Nat.{ℕ, _+_, _*_, _<_, _≤_, _^_};
 ghost use lib.ListN.{length};
-ghost use Rattle.sheet.specs.Steps.{theStep};
+ghost use Rattle.sheet.specs.Steps.{theStep, stepOk};
+ghost use Rattle.sheet.specs.declared.Sheet.{Sheet};
 ghost use Rattle.registers.specs.Sized.{Sized};
 ghost use Rattle.round_trip.specs.Sheets.{Within};
 ghost use Rattle.transfers.specs.Acts.{state};
-ghost use Rattle.carrying.specs.Steps.{machine, machineOf, wholeStepDone};
+ghost use Rattle.carrying.specs.Steps.{machine, machineOf, performedStep};
 ghost use Rattle.carrying.specs.Carrying.{started};
 ghost use Rattle.records.specs.Ranges.{Sound};
 ghost use Rattle.records.specs.declared.Decoded.the-variants.{Good};
-ghost use Rattle.tape.specs.Records.{wholeRecordOk, recordOk, ranRecord};
+ghost use Rattle.tape.specs.Records.{wholeClear, wholeRecordOk, recordOk, ranRecord};
 ghost use Rattle.tape.specs.Running.{tapeRecord, decodedOk, rangeRefusal, ranDecoded, ran, tapeRefusal, runTape, ranMemory};
 use super::judging;
 use super::moving;
@@ -21,27 +21,57 @@ use carrying::CarryAnswer;
 use carrying::Performed;
 use carrying::Stepped;
 use carrying::checks;
-use carrying::performing;
 use records::Decoded;
 use records::Record;
 use registers::MatrixType;
 use registers::Registers;
 use sheet::Refusal;
 use sheet::Sheet;
+use sheet::Step;
 
-// Op 4. The registers' elements go through a copy here, and only here.
+// A whole step. The answer is the types.
+fn perform_named(
+    types: [MatrixType; 4],
+    elements: &mut [u32; 1024],
+    memory: &[u8],
+    step: Step,
+) -> [MatrixType; 4]
+    requires { ⌜ Sized types × ((edition layouts views : ℕ) × (stepOk edition layouts views step ≡ true) × (wholeClear edition types (length (now memory)) step ≡ true)) ⌝ }
+    ensures { λ r. ⌜ ((sheet : Sheet) (n : ℕ) → machineOf r (state (now (elements .exit)) (now (memory .entry)) n) ≡ performedStep sheet step (machineOf types (state (now (elements .entry)) (now (memory .entry)) n))) ⌝ }
+{
+    match step {
+        Step::Nothing => types,
+        Step::Load {
+            register: _,
+            object: _,
+            layout: _,
+            view: _,
+            base: _,
+        } => types,
+        Step::Store {
+            register: _,
+            layout: _,
+            view: _,
+            base: _,
+        } => types,
+        Step::Whole(whole) => whole_steps::perform_whole(types, elements, memory, whole),
+    }
+}
+
+// Op 4.
 fn run_whole(
     sheet: Sheet,
     types: [MatrixType; 4],
     elements: &mut [u32; 1024],
+    memory: &[u8],
     step: usize,
 ) -> [MatrixType; 4]
-    requires { ⌜ Within sheet × Sized types × (wholeRecordOk sheet types step ≡ true) ⌝ }
-    ensures { λ r. ⌜ ((memory : List ℕ) (n : ℕ) → machineOf r (state (now (elements .exit)) memory n) ≡ wholeStepDone (theStep (sheet .step) step) (machineOf types (state (now (elements .entry)) memory n))) ⌝ }
+    requires { ⌜ Within sheet × Sized types × (wholeRecordOk sheet types (length (now memory)) step ≡ true) ⌝ }
+    ensures { λ r. ⌜ ((n : ℕ) → machineOf r (state (now (elements .exit)) (now (memory .entry)) n) ≡ performedStep sheet (theStep (sheet .step) step) (machineOf types (state (now (elements .entry)) (now (memory .entry)) n))) ⌝ }
 {
     let c = sheet.step[step];
     let s = c.step;
-    performing::perform_whole(types, elements, s)
+    perform_named(types, elements, memory, s)
 }
 
 fn run_record(
@@ -126,7 +156,7 @@ fn run_record(
             }
         }
         Record::Whole { step } => {
-            let after = run_whole(sheet, types, elements, step);
+            let after = run_whole(sheet, types, elements, memory, step);
             Stepped {
                 types: after,
                 count: counted,

@@ -258,7 +258,7 @@ fn count_step(sheet: Sheet, types: [MatrixType; 4], memory: usize, step: Step) -
             let t = registers::the_type(types, register);
             count_access(sheet, false, layout, view, base, t, memory)
         }
-        _ => 1,
+        Step::Whole(_) => 1,
     }
 }
 
@@ -326,7 +326,7 @@ fn write_step(
                 memory,
             )
         }
-        _ => write_whole(tape, at, k),
+        Step::Whole(_) => write_whole(tape, at, k),
     }
 }
 

@@ -1,5 +1,5 @@
--- What a step that is not refused may rely on, and what it leaves.
-use mathlib.Core.Path.{_≡_, sym, subst}
+-- What a whole step that is not refused may rely on.
+use mathlib.Core.Path.{_≡_}
 use mathlib.Core.Bool.{Bool, true, false}
 use mathlib.Core.Logic.{⊎-elim}
 use Prim.Native.Nat.{ℕ, _<_}
@@ -7,15 +7,9 @@ use native.Mathlib.Omega.{arith}
 use borrow.Author.Tests.{eqb-false}
 use Rattle.numbers.specs.Choice.{pick, pick-inv}
 use Rattle.registers.specs.Types.{isEmpty}
-use Rattle.registers.specs.Sized.{Sized}
 use Rattle.registers.specs.declared.MatrixType.{MatrixType}
-use Rattle.registers.specs.declared.Registers.{Registers}
 use Rattle.sheet.specs.declared.ReduceMode.{ReduceMode}
-use Rattle.sheet.specs.declared.Step.{Step}
 use Rattle.whole_steps.specs.Refusals.{multiplyAgrees, reduceRefusal, multiplyRefusal}
-use Rattle.whole_steps.specs.Whole.{wholeDone}
-use Rattle.whole_steps.specs.Within.{WholeOk, sized-whole}
-use Rattle.whole_steps.specs.Theorems.{whole-types}
 
 -- where a choice refuses at once it did not come out as 0
 past : (t : Bool) (n x : ℕ) → 0 < n → pick t n x ≡ 0 → (t ≡ false) × (x ≡ 0)
@@ -32,8 +26,3 @@ agreed a b c e =
     let g = past (isEmpty b) 7 _ (omega arith) f .1 in
     let h = past (isEmpty c) 7 _ (omega arith) g .1 in
     ⊎-elim (λ w. w .0) (λ w. absurd (omega (arith, w .1))) (pick-inv (multiplyAgrees a b c) 0 8 h)
-
--- what a step leaves is within Sizes
-pub left-sized : (g : Registers) (step : Step) {r : Registers} → WholeOk step → Sized (g .types) → r ≡ wholeDone g step → (r ≡ wholeDone g step) × Sized (r .types)
-left-sized g step w s e =
-    (e, subst (λ (q : Registers). Sized (q .types)) (sym e) (subst Sized (sym (whole-types g step)) (sized-whole (g .types) step s w)))

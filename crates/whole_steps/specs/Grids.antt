@@ -23,10 +23,6 @@ blank = replicate room 0
 unfoldable pub block : ℕ → ℕ → (ℕ → ℕ → ℕ) → List ℕ
 block rows columns f = line blank 0 (numbered columns f) (rows * columns)
 
--- register r made a matrix of type t with the places of a block
-abbrev pub stored : Registers → ℕ → MatrixType → List ℕ → Registers
-stored g r t b = record { types = withType (g .types) r t; elements = withBlock (g .elements) r b }
-
 -- register r made a matrix of type t whose elements f gives
 abbrev pub made : Registers → ℕ → MatrixType → (ℕ → ℕ → ℕ) → Registers
-made g r t f = stored g r t (block (t .rows) (t .columns) f)
+made g r t f = record { types = withType (g .types) r t; elements = withBlock (g .elements) r (block (t .rows) (t .columns) f) }

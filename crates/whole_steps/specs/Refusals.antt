@@ -1,6 +1,7 @@
--- When a whole step is refused: 7 or 8, by the registers' types alone.
+-- When a whole step is refused, in a sheet of an edition, by the registers' types and the memory's length: a number, and the element that it
+-- names.
 use mathlib.Core.List.{List}
-use mathlib.Core.Bool.{Bool, true, false}
+use mathlib.Core.Bool.{Bool, true}
 use Prim.Native.Nat.{ℕ, _*_}
 use lib.Dec.{eqb}
 use Rattle.numbers.specs.Choice.{pick, both, between}
@@ -8,8 +9,10 @@ use Rattle.registers.specs.Types.{theType, isEmpty}
 use Rattle.registers.specs.declared.MatrixType.{MatrixType}
 use Rattle.sheet.specs.declared.ReduceMode.{ReduceMode}
 use Rattle.sheet.specs.declared.ReduceMode.the-variants.{Row, Column, Both, TwoByTwo}
-use Rattle.sheet.specs.declared.Step.{Step}
-use Rattle.sheet.specs.declared.Step.the-variants.{Nothing, Fill, Load, Store, Reduce, Transpose, MultiplyAdd}
+use Rattle.sheet.specs.declared.WholeStep.{WholeStep}
+use Rattle.sheet.specs.declared.WholeStep.the-variants.{Fill, Reduce, Transpose, MultiplyAdd}
+use Rattle.stops.specs.Stops.{stopAt}
+use Rattle.stops.specs.declared.Stop.{Stop}
 
 -- mode 1 rows, mode 2 columns are the source's; mode 4 has no odd side, and a result of half the sides
 abbrev pub reduceAgrees : MatrixType → ℕ → ℕ → ReduceMode → Bool
@@ -36,21 +39,9 @@ unfoldable pub multiplyRefusal : MatrixType → MatrixType → MatrixType → �
 multiplyRefusal a b c =
     pick (isEmpty a) 7 (pick (isEmpty b) 7 (pick (isEmpty c) 7 (pick (multiplyAgrees a b c) 0 8)))
 
--- 7 (a register read is empty), then 8 (shapes disagree), else 0; loads and stores are no whole steps
-abbrev pub wholeRefusal : List MatrixType → Step → ℕ
-wholeRefusal ts Nothing = 0
-wholeRefusal ts (Fill register rows columns kind value) = 0
-wholeRefusal ts (Load register object layout view base) = 0
-wholeRefusal ts (Store register layout view base) = 0
-wholeRefusal ts (Reduce result source rows columns mode combine) = reduceRefusal (theType ts source) rows columns mode
-wholeRefusal ts (Transpose result source) = transposeRefusal (theType ts source)
-wholeRefusal ts (MultiplyAdd result a b c) = multiplyRefusal (theType ts a) (theType ts b) (theType ts c)
-
-abbrev pub isWhole : Step → Bool
-isWhole Nothing = false
-isWhole (Fill register rows columns kind value) = true
-isWhole (Load register object layout view base) = false
-isWhole (Store register layout view base) = false
-isWhole (Reduce result source rows columns mode combine) = true
-isWhole (Transpose result source) = true
-isWhole (MultiplyAdd result a b c) = true
+-- 7 (a register read is empty), then 8 (shapes disagree), else 0; neither names an element
+abbrev pub wholeRefusal : ℕ → List MatrixType → ℕ → WholeStep → Stop
+wholeRefusal edition ts len (Fill register rows columns kind value) = stopAt 0 0
+wholeRefusal edition ts len (Reduce result source rows columns mode combine) = stopAt (reduceRefusal (theType ts source) rows columns mode) 0
+wholeRefusal edition ts len (Transpose result source) = stopAt (transposeRefusal (theType ts source)) 0
+wholeRefusal edition ts len (MultiplyAdd result a b c) = stopAt (multiplyRefusal (theType ts a) (theType ts b) (theType ts c)) 0

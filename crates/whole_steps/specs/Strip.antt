@@ -10,7 +10,7 @@ use Rattle.registers.specs.Registers.{elementOf}
 use Rattle.registers.specs.declared.Registers.{Registers}
 use Rattle.sheet.specs.declared.ReduceMode.the-variants.{TwoByTwo}
 use Rattle.sheet.specs.declared.Combine.the-variants.{Add}
-use Rattle.sheet.specs.declared.Step.the-variants.{Reduce}
+use Rattle.sheet.specs.declared.WholeStep.the-variants.{Reduce}
 use Rattle.combines.specs.Combining.{folded}
 use Rattle.whole_steps.specs.Grids.{blank, block}
 use Rattle.whole_steps.specs.Reducing.{reduced}
@@ -24,6 +24,6 @@ stripStart =
       elements = (200 ∷ 100 ∷ 1 ∷ 2 ∷ []) ++ replicate 1020 0;
     }
 
-pub strip11 : elementOf (wholeDone stripStart (Reduce 1 0 1 1 TwoByTwo Add) .elements) 1 0 ≡ 47
+pub strip11 : elementOf (wholeDone stripStart [] (Reduce 1 0 1 1 TwoByTwo Add) .elements) 1 0 ≡ 47
 unfolding stripStart blank block line reduced folded width pick
 strip11 = refl

@@ -1,15 +1,14 @@
--- What whole steps do: the types that they leave, and the registers. A result may name a source: the old contents are read.
--- Loads and stores are no whole steps, and change nothing here.
+-- What a whole step makes: one matrix in one register, by its type and by its element in each row and column. A result may name a
+-- source: the old contents are read.
 use mathlib.Core.List.{List}
 use Prim.Native.Nat.{ℕ}
 use Rattle.registers.specs.Types.{theType, withType}
+use Rattle.registers.specs.Registers.{withBlock}
 use Rattle.registers.specs.declared.MatrixType.{MatrixType}
 use Rattle.registers.specs.declared.Registers.{Registers}
-use Rattle.sheet.specs.declared.Combine.{Combine}
-use Rattle.sheet.specs.declared.ReduceMode.{ReduceMode}
-use Rattle.sheet.specs.declared.Step.{Step}
-use Rattle.sheet.specs.declared.Step.the-variants.{Nothing, Fill, Load, Store, Reduce, Transpose, MultiplyAdd}
-use Rattle.whole_steps.specs.Grids.{matrixAt, made}
+use Rattle.sheet.specs.declared.WholeStep.{WholeStep}
+use Rattle.sheet.specs.declared.WholeStep.the-variants.{Fill, Reduce, Transpose, MultiplyAdd}
+use Rattle.whole_steps.specs.Grids.{matrixAt, block, made}
 use Rattle.whole_steps.specs.Reducing.{reduced}
 use Rattle.whole_steps.specs.Multiplying.{multiplied}
 
@@ -27,41 +26,36 @@ transposedType t = matrixType (t .kind) (t .columns) (t .rows)
 abbrev pub transposed : List ℕ → ℕ → MatrixType → ℕ → ℕ → ℕ
 transposed es s t i j = matrixAt es s t j i
 
-abbrev pub wholeTypes : List MatrixType → Step → List MatrixType
-wholeTypes ts Nothing = ts
-wholeTypes ts (Fill register rows columns kind value) = withType ts register (matrixType kind rows columns)
-wholeTypes ts (Load register object layout view base) = ts
-wholeTypes ts (Store register layout view base) = ts
-wholeTypes ts (Reduce result source rows columns mode combine) = withType ts result (reducedType (theType ts source) rows columns)
-wholeTypes ts (Transpose result source) = withType ts result (transposedType (theType ts source))
-wholeTypes ts (MultiplyAdd result a b c) = withType ts result (theType ts c)
+-- the register that is made
+abbrev pub wholeResult : WholeStep → ℕ
+wholeResult (Fill register rows columns kind value) = register
+wholeResult (Reduce result source rows columns mode combine) = result
+wholeResult (Transpose result source) = result
+wholeResult (MultiplyAdd result a b c) = result
 
-abbrev pub filled : Registers → ℕ → ℕ → ℕ → ℕ → ℕ → Registers
-filled g register rows columns kind value = made g register (matrixType kind rows columns) (λ (i j : ℕ). value)
+-- its matrix's type; of a multiply-add it is C's
+abbrev pub wholeType : List MatrixType → WholeStep → MatrixType
+wholeType ts (Fill register rows columns kind value) = matrixType kind rows columns
+wholeType ts (Reduce result source rows columns mode combine) = reducedType (theType ts source) rows columns
+wholeType ts (Transpose result source) = transposedType (theType ts source)
+wholeType ts (MultiplyAdd result a b c) = theType ts c
 
-abbrev pub reducedInto : Registers → ℕ → ℕ → ℕ → ℕ → ReduceMode → Combine → Registers
-reducedInto g result source rows columns mode combine =
-    let t : MatrixType = theType (g .types) source in
-    made g result (reducedType t rows columns) (reduced (g .elements) source t mode combine)
+-- its matrix's elements by row and column, from the registers' types and elements and from memory
+abbrev pub wholeElement : List MatrixType → List ℕ → List ℕ → WholeStep → ℕ → ℕ → ℕ
+wholeElement ts es memory (Fill register rows columns kind value) = λ (i j : ℕ). value
+wholeElement ts es memory (Reduce result source rows columns mode combine) = reduced es source (theType ts source) mode combine
+wholeElement ts es memory (Transpose result source) = transposed es source (theType ts source)
+wholeElement ts es memory (MultiplyAdd result a b c) = multiplied es a (theType ts a) b (theType ts b) c (theType ts c)
 
-abbrev pub transposedInto : Registers → ℕ → ℕ → Registers
-transposedInto g result source =
-    let t : MatrixType = theType (g .types) source in
-    made g result (transposedType t) (transposed (g .elements) source t)
+-- the types, the places of the register, and the registers after a whole step
+abbrev pub wholeTypes : List MatrixType → WholeStep → List MatrixType
+wholeTypes ts w = withType ts (wholeResult w) (wholeType ts w)
 
--- the result's kind is C's
-abbrev pub multipliedInto : Registers → ℕ → ℕ → ℕ → ℕ → Registers
-multipliedInto g result a b c =
-    let ta : MatrixType = theType (g .types) a in
-    let tb : MatrixType = theType (g .types) b in
-    let tc : MatrixType = theType (g .types) c in
-    made g result tc (multiplied (g .elements) a ta b tb c tc)
+abbrev pub wholeBlock : List MatrixType → List ℕ → List ℕ → WholeStep → List ℕ
+wholeBlock ts es memory w = block (wholeType ts w .rows) (wholeType ts w .columns) (wholeElement ts es memory w)
 
-abbrev pub wholeDone : Registers → Step → Registers
-wholeDone g Nothing = g
-wholeDone g (Fill register rows columns kind value) = filled g register rows columns kind value
-wholeDone g (Load register object layout view base) = g
-wholeDone g (Store register layout view base) = g
-wholeDone g (Reduce result source rows columns mode combine) = reducedInto g result source rows columns mode combine
-wholeDone g (Transpose result source) = transposedInto g result source
-wholeDone g (MultiplyAdd result a b c) = multipliedInto g result a b c
+abbrev pub wholeElements : List MatrixType → List ℕ → List ℕ → WholeStep → List ℕ
+wholeElements ts es memory w = withBlock es (wholeResult w) (wholeBlock ts es memory w)
+
+abbrev pub wholeDone : Registers → List ℕ → WholeStep → Registers
+wholeDone g memory w = made g (wholeResult w) (wholeType (g .types) w) (wholeElement (g .types) (g .elements) memory w)

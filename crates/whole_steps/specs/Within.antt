@@ -1,4 +1,5 @@
--- Whole steps whose registers and sides are within Sizes: what a sheet's step keeps to, and that its result's type does.
+-- Whole steps whose registers and sides are within Sizes: what a sheet's whole step keeps to, that its result's type does, and that the element
+-- of its refusal is.
 use mathlib.Core.Path.{_≡_, ap}
 use mathlib.Core.Bool.{true}
 use mathlib.Core.List.{List}
@@ -11,49 +12,48 @@ use Rattle.registers.specs.Types.{theType}
 use Rattle.registers.specs.Sized.{SizedType, Sized, sized-with}
 use Rattle.registers.specs.declared.MatrixType.{MatrixType}
 use Rattle.sheet.specs.Sizes.{sideLimit, sideOk}
-use Rattle.sheet.specs.Steps.{fillOk, reduceOk, transposeOk, multiplyOk, stepOk}
-use Rattle.sheet.specs.declared.Step.{Step}
-use Rattle.sheet.specs.declared.Step.the-variants.{Nothing, Fill, Load, Store, Reduce, Transpose, MultiplyAdd}
-use Rattle.whole_steps.specs.Whole.{matrixType, transposedType, wholeTypes}
+use Rattle.sheet.specs.Steps.{fillOk, reduceOk, transposeOk, multiplyOk, wholeOk}
+use Rattle.sheet.specs.declared.WholeStep.{WholeStep}
+use Rattle.sheet.specs.declared.WholeStep.the-variants.{Fill, Reduce, Transpose, MultiplyAdd}
+use Rattle.whole_steps.specs.Refusals.{wholeRefusal}
+use Rattle.whole_steps.specs.Whole.{matrixType, transposedType, wholeResult, wholeType, wholeTypes}
 
 pub record Side (x : ℕ) : Type 0 where
   pub low : 1 ≤ x
   pub high : x ≤ 16
 
--- the steps of other sorts have nothing to keep to here
-abbrev pub WholeOk : Step → Type 0
-WholeOk Nothing = Unit {0}
-WholeOk (Fill register rows columns kind value) = (register < 4) × Side rows × Side columns × (kind ≤ 5)
-WholeOk (Load register object layout view base) = Unit {0}
-WholeOk (Store register layout view base) = Unit {0}
-WholeOk (Reduce result source rows columns mode combine) = (result < 4) × (source < 4) × Side rows × Side columns
-WholeOk (Transpose result source) = (result < 4) × (source < 4)
-WholeOk (MultiplyAdd result a b c) = (result < 4) × (a < 4) × (b < 4) × (c < 4)
+-- beside its result: the registers that it reads, its sides and its kind
+abbrev pub WholeParts : WholeStep → Type 0
+WholeParts (Fill register rows columns kind value) = Side rows × Side columns × (kind ≤ 5)
+WholeParts (Reduce result source rows columns mode combine) = (source < 4) × Side rows × Side columns
+WholeParts (Transpose result source) = source < 4
+WholeParts (MultiplyAdd result a b c) = (a < 4) × (b < 4) × (c < 4)
+
+pub record WholeOk (w : WholeStep) : Type 0 where
+  pub result : wholeResult w < 4
+  pub parts : WholeParts w
 
 side : (edition x : ℕ) → sideOk edition x ≡ true → Side x
 unfolding sideLimit
 side edition x e = record { low = between-low 1 16 x e; high = between-high 1 16 x e }
 
--- a step that a sheet may hold
-pub whole-ok : (edition layouts views : ℕ) (step : Step) → stepOk edition layouts views step ≡ true → WholeOk step
+-- a whole step that a sheet may hold
+pub whole-ok : (edition : ℕ) (w : WholeStep) → wholeOk edition w ≡ true → WholeOk w
 unfolding fillOk reduceOk transposeOk multiplyOk
-whole-ok edition layouts views Nothing e = tt
-whole-ok edition layouts views (Fill register rows columns kind value) e =
+whole-ok edition (Fill register rows columns kind value) e =
     let f = both-right _ _ e in
     let g = both-right _ _ f in
     let h = both-right _ _ g in
-    (ltb-true _ _ (both-left _ _ e), side edition rows (both-left _ _ f), side edition columns (both-left _ _ g), leb-true _ _ (both-left _ _ h))
-whole-ok edition layouts views (Load register object layout view base) e = tt
-whole-ok edition layouts views (Store register layout view base) e = tt
-whole-ok edition layouts views (Reduce result source rows columns mode combine) e =
+    record { result = ltb-true _ _ (both-left _ _ e); parts = (side edition rows (both-left _ _ f), side edition columns (both-left _ _ g), leb-true _ _ (both-left _ _ h)) }
+whole-ok edition (Reduce result source rows columns mode combine) e =
     let f = both-right _ _ e in
     let g = both-right _ _ f in
-    (ltb-true _ _ (both-left _ _ e), ltb-true _ _ (both-left _ _ f), side edition rows (both-left _ _ g), side edition columns (both-right _ _ g))
-whole-ok edition layouts views (Transpose result source) e = (ltb-true _ _ (both-left _ _ e), ltb-true _ _ (both-right _ _ e))
-whole-ok edition layouts views (MultiplyAdd result a b c) e =
+    record { result = ltb-true _ _ (both-left _ _ e); parts = (ltb-true _ _ (both-left _ _ f), side edition rows (both-left _ _ g), side edition columns (both-right _ _ g)) }
+whole-ok edition (Transpose result source) e = record { result = ltb-true _ _ (both-left _ _ e); parts = ltb-true _ _ (both-right _ _ e) }
+whole-ok edition (MultiplyAdd result a b c) e =
     let f = both-right _ _ e in
     let g = both-right _ _ f in
-    (ltb-true _ _ (both-left _ _ e), ltb-true _ _ (both-left _ _ f), ltb-true _ _ (both-left _ _ g), ltb-true _ _ (both-right _ _ g))
+    record { result = ltb-true _ _ (both-left _ _ e); parts = (ltb-true _ _ (both-left _ _ f), ltb-true _ _ (both-left _ _ g), ltb-true _ _ (both-right _ _ g)) }
 
 sized-sides : (kind rows columns : ℕ) → kind ≤ 5 → Side rows → Side columns → SizedType (matrixType kind rows columns)
 sized-sides kind rows columns k m n =
@@ -77,13 +77,20 @@ sized-transposed t s =
     empty (yes e) z = e
     empty (no d) z = let h : 0 < t .columns = s .some (omega arith) in absurd (omega arith)
 
--- the types that a whole step leaves are within Sizes
-pub sized-whole : (ts : List MatrixType) (step : Step) → Sized ts → WholeOk step → Sized (wholeTypes ts step)
-sized-whole ts Nothing s w = s
-sized-whole ts (Fill register rows columns kind value) s w = sized-with ts register _ s (sized-sides kind rows columns (w .3) (w .1) (w .2))
-sized-whole ts (Load register object layout view base) s w = s
-sized-whole ts (Store register layout view base) s w = s
-sized-whole ts (Reduce result source rows columns mode combine) s w =
-    sized-with ts result _ s (sized-sides _ rows columns (s .each source .kind) (w .2) (w .3))
-sized-whole ts (Transpose result source) s w = sized-with ts result _ s (sized-transposed (theType ts source) (s .each source))
-sized-whole ts (MultiplyAdd result a b c) s w = sized-with ts result _ s (s .each c)
+-- the type that a whole step makes is within Sizes
+sized-type : (ts : List MatrixType) (w : WholeStep) → Sized ts → WholeParts w → SizedType (wholeType ts w)
+sized-type ts (Fill register rows columns kind value) s p = sized-sides kind rows columns (p .2) (p .0) (p .1)
+sized-type ts (Reduce result source rows columns mode combine) s p = sized-sides _ rows columns (s .each source .kind) (p .1) (p .2)
+sized-type ts (Transpose result source) s p = sized-transposed (theType ts source) (s .each source)
+sized-type ts (MultiplyAdd result a b c) s p = s .each c
+
+-- so the types that it leaves are
+pub sized-whole : (ts : List MatrixType) (w : WholeStep) → Sized ts → WholeOk w → Sized (wholeTypes ts w)
+sized-whole ts w s ok = sized-with ts (wholeResult w) (wholeType ts w) s (sized-type ts w s (ok .parts))
+
+-- the element that a refusal names is one of a matrix
+pub refusal-element : (edition : ℕ) (ts : List MatrixType) (len : ℕ) (w : WholeStep) → wholeRefusal edition ts len w .element ≤ 256
+refusal-element edition ts len (Fill register rows columns kind value) = omega arith
+refusal-element edition ts len (Reduce result source rows columns mode combine) = omega arith
+refusal-element edition ts len (Transpose result source) = omega arith
+refusal-element edition ts len (MultiplyAdd result a b c) = omega arith

@@ -5,10 +5,9 @@ ghost use lib.ListN.{getD};
 ghost use Rattle.numbers.specs.Lists.{line};
 ghost use Rattle.registers.specs.Registers.{placeOf};
 ghost use Rattle.registers.specs.Sized.{SizedType};
-ghost use Rattle.whole_steps.specs.Grids.{block, stored};
+ghost use Rattle.whole_steps.specs.Grids.{block};
 ghost use Rattle.whole_steps.specs.Whole.{transposed};
 use registers::MatrixType;
-use registers::Registers;
 
 // A row of a block: elements of a list from a place on, a step apart.
 fn spread_row(
@@ -80,18 +79,4 @@ pub fn transpose_block(elements: &[u32], source: u8, t: MatrixType) -> [u32; 256
         columns,
         rows,
     )
-}
-
-// A register made a matrix of a type with the places of a block.
-pub fn store(registers: Registers, register: u8, t: MatrixType, block: &[u32; 256]) -> Registers
-    requires { ⌜ register < 4 ⌝ }
-    ensures { λ r. ⌜ r ≡ stored registers register t (now (block .entry)) ⌝ }
-{
-    let types = registers.types;
-    let mut elements = registers.elements;
-    registers::put_block(&mut elements, register, block);
-    Registers {
-        types: registers::with_type(types, register, t),
-        elements,
-    }
 }

@@ -1,19 +1,17 @@
-// When a whole step is refused: 7 or 8, by the registers' types alone.
+// When a whole step is refused.
 ghost use mathlib.Core.Path.{_≡_};
 ghost use Prim.Native.Nat.{_*_};
 ghost use lib.Dec.{eqb};
 ghost use Rattle.sheet.specs.declared.ReduceMode.the-variants.{TwoByTwo};
-ghost use Rattle.whole_steps.specs.Refusals.{reduceAgrees, multiplyAgrees, reduceRefusal, transposeRefusal, multiplyRefusal, wholeRefusal, isWhole};
+ghost use Rattle.whole_steps.specs.Refusals.{reduceAgrees, multiplyAgrees, reduceRefusal, transposeRefusal, multiplyRefusal, wholeRefusal};
 ghost use Rattle.whole_steps.specs.Within.{WholeOk};
 use registers::MatrixType;
 use sheet::ReduceMode;
-use sheet::Step;
-
-// A register read is empty.
-const EMPTY: u8 = 7;
-
-// Shapes disagree.
-const SHAPES: u8 = 8;
+use sheet::WholeStep;
+use stops::EMPTY;
+use stops::SHAPES;
+use stops::Stop;
+use stops::stop_at;
 
 // A source side is even, and twice the result's.
 fn twice(side: u8, half: u8) -> bool
@@ -96,96 +94,39 @@ fn multiply_refusal(a: MatrixType, b: MatrixType, c: MatrixType) -> u8
     SHAPES
 }
 
-// 7, 8, or 0 for none. Loads and stores are no whole steps, and get 0 here.
-pub fn whole_refusal(types: [MatrixType; 4], step: Step) -> u8
+// By the edition, the registers' types and the memory's length.
+pub fn whole_refusal(edition: u8, types: [MatrixType; 4], memory: usize, step: WholeStep) -> Stop
     requires { ⌜ WholeOk step ⌝ }
-    ensures { λ r. ⌜ r ≡ wholeRefusal types step ⌝ }
+    ensures { λ r. ⌜ r ≡ wholeRefusal edition types memory step ⌝ }
 {
     match step {
-        Step::Nothing => 0,
-        Step::Fill {
+        WholeStep::Fill {
             register: _,
             rows: _,
             columns: _,
             kind: _,
             value: _,
-        } => 0,
-        Step::Load {
-            register: _,
-            object: _,
-            layout: _,
-            view: _,
-            base: _,
-        } => 0,
-        Step::Store {
-            register: _,
-            layout: _,
-            view: _,
-            base: _,
-        } => 0,
-        Step::Reduce {
+        } => stop_at(0, 0),
+        WholeStep::Reduce {
             result: _,
             source,
             rows,
             columns,
             mode,
             combine: _,
-        } => reduce_refusal(registers::the_type(types, source), rows, columns, mode),
-        Step::Transpose { result: _, source } => transpose_refusal(registers::the_type(
-            types,
-            source,
-        )),
-        Step::MultiplyAdd { result: _, a, b, c } => multiply_refusal(
-            registers::the_type(types, a),
-            registers::the_type(types, b),
-            registers::the_type(types, c),
-        ),
-    }
-}
-
-// Fill, reduce, transpose and multiply-add are whole steps.
-pub fn is_whole(step: Step) -> bool
-    ensures { λ r. ⌜ r ≡ isWhole step ⌝ }
-{
-    match step {
-        Step::Nothing => false,
-        Step::Fill {
-            register: _,
-            rows: _,
-            columns: _,
-            kind: _,
-            value: _,
-        } => true,
-        Step::Load {
-            register: _,
-            object: _,
-            layout: _,
-            view: _,
-            base: _,
-        } => false,
-        Step::Store {
-            register: _,
-            layout: _,
-            view: _,
-            base: _,
-        } => false,
-        Step::Reduce {
-            result: _,
-            source: _,
-            rows: _,
-            columns: _,
-            mode: _,
-            combine: _,
-        } => true,
-        Step::Transpose {
-            result: _,
-            source: _,
-        } => true,
-        Step::MultiplyAdd {
-            result: _,
-            a: _,
-            b: _,
-            c: _,
-        } => true,
+        } => {
+            let t = registers::the_type(types, source);
+            stop_at(reduce_refusal(t, rows, columns, mode), 0)
+        }
+        WholeStep::Transpose { result: _, source } => {
+            let t = registers::the_type(types, source);
+            stop_at(transpose_refusal(t), 0)
+        }
+        WholeStep::MultiplyAdd { result: _, a, b, c } => {
+            let ta = registers::the_type(types, a);
+            let tb = registers::the_type(types, b);
+            let tc = registers::the_type(types, c);
+            stop_at(multiply_refusal(ta, tb, tc), 0)
+        }
     }
 }

@@ -1,77 +1,92 @@
-// The types that whole steps leave.
+// What a whole step makes: in which register, and of which type.
 ghost use mathlib.Core.Path.{_≡_};
-ghost use Rattle.whole_steps.specs.Whole.{wholeTypes};
+ghost use Rattle.whole_steps.specs.Whole.{wholeResult, wholeType, wholeTypes};
 ghost use Rattle.whole_steps.specs.Within.{WholeOk};
 use registers::MatrixType;
-use sheet::Step;
+use sheet::WholeStep;
 
-// The types after a step; loads and stores leave them as they are here.
-pub fn whole_types(types: [MatrixType; 4], step: Step) -> [MatrixType; 4]
-    requires { ⌜ WholeOk step ⌝ }
-    ensures { λ r. ⌜ r ≡ wholeTypes types step ⌝ }
+pub fn whole_result(step: WholeStep) -> u8
+    ensures { λ r. ⌜ r ≡ wholeResult step ⌝ }
 {
     match step {
-        Step::Nothing => types,
-        Step::Fill {
+        WholeStep::Fill {
             register,
+            rows: _,
+            columns: _,
+            kind: _,
+            value: _,
+        } => register,
+        WholeStep::Reduce {
+            result,
+            source: _,
+            rows: _,
+            columns: _,
+            mode: _,
+            combine: _,
+        } => result,
+        WholeStep::Transpose { result, source: _ } => result,
+        WholeStep::MultiplyAdd {
+            result,
+            a: _,
+            b: _,
+            c: _,
+        } => result,
+    }
+}
+
+pub fn whole_type(types: [MatrixType; 4], step: WholeStep) -> MatrixType
+    requires { ⌜ WholeOk step ⌝ }
+    ensures { λ r. ⌜ r ≡ wholeType types step ⌝ }
+{
+    match step {
+        WholeStep::Fill {
+            register: _,
             rows,
             columns,
             kind,
             value: _,
-        } => {
-            let t = MatrixType {
-                kind,
-                rows,
-                columns,
-            };
-            registers::with_type(types, register, t)
-        }
-        Step::Load {
-            register: _,
-            object: _,
-            layout: _,
-            view: _,
-            base: _,
-        } => types,
-        Step::Store {
-            register: _,
-            layout: _,
-            view: _,
-            base: _,
-        } => types,
-        Step::Reduce {
-            result,
+        } => MatrixType {
+            kind,
+            rows,
+            columns,
+        },
+        WholeStep::Reduce {
+            result: _,
             source,
             rows,
             columns,
             mode: _,
             combine: _,
         } => {
-            let s = registers::the_type(types, source);
-            let t = MatrixType {
-                kind: s.kind,
+            let t = registers::the_type(types, source);
+            MatrixType {
+                kind: t.kind,
                 rows,
                 columns,
-            };
-            registers::with_type(types, result, t)
+            }
         }
-        Step::Transpose { result, source } => {
-            let s = registers::the_type(types, source);
-            let t = MatrixType {
-                kind: s.kind,
-                rows: s.columns,
-                columns: s.rows,
-            };
-            registers::with_type(types, result, t)
+        WholeStep::Transpose { result: _, source } => {
+            let t = registers::the_type(types, source);
+            MatrixType {
+                kind: t.kind,
+                rows: t.columns,
+                columns: t.rows,
+            }
         }
-        Step::MultiplyAdd {
-            result,
+        WholeStep::MultiplyAdd {
+            result: _,
             a: _,
             b: _,
             c,
-        } => {
-            let t = registers::the_type(types, c);
-            registers::with_type(types, result, t)
-        }
+        } => registers::the_type(types, c),
     }
+}
+
+// The types after a whole step.
+pub fn whole_types(types: [MatrixType; 4], step: WholeStep) -> [MatrixType; 4]
+    requires { ⌜ WholeOk step ⌝ }
+    ensures { λ r. ⌜ r ≡ wholeTypes types step ⌝ }
+{
+    let t = whole_type(types, step);
+    registers::with_type(types, whole_result(step), t)
 }

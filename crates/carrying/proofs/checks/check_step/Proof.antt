@@ -1,13 +1,16 @@
 use mathlib.Core.Path.{_∙_}
-use mathlib.Core.List.{[], _∷_}
-use types.Run.{miss}
 use Rattle.whole_steps.specs.Within.{whole-ok}
 use Rattle.carrying.specs.Steps.{checkedStep}
 use Rattle.carrying.specs.Names.{load-names, store-names, load-object}
-use Rattle.carrying.proofs.Laws.{rest-check}
 use borrow.Author.Needs.{needs}
 use Rattle.carrying.proofs.checks.check_step.Statement.{statement}
 use Rattle.carrying.proofs.checks.check_step.Tie as tie
+
+enum-told : tie.Need-enum-told
+enum-told c = search needs
+
+check-nothing-requires : tie.Need-check-nothing-requires
+check-nothing-requires c κs = search needs
 
 enum-known-step : tie.Need-enum-known-step
 enum-known-step c = search needs
@@ -34,26 +37,34 @@ check-store-requires c κs = let s = c .before .before .before .before in
     let n = store-names _ _ _ _ _ (rw (c .before .before .step2 .given .1) at (s .pre .3)) in
     ((s .pre .0, n .given, n .option, s .pre .1), (s .pre .2, rw (c .the-type2 .ensures) (s .pre .2 .each _)))
 
+enum-known-step-3 : tie.Need-enum-known-step-3
+enum-known-step-3 c = search needs
+
 check-whole-requires : tie.Need-check-whole-requires
-check-whole-requires c κs = let s = c .before in whole-ok _ _ _ (s .args .step) (s .pre .3)
+check-whole-requires c κs = whole-ok _ _ (rw (c .before .step3 .given .1) at (c .before .before .before .pre .3))
 
 returns : tie.Need-returns
 unfolding checkedStep
-returns c = c .check-load .ensures ∙ rw (c .before .before .before .before .step .given .1, c .before .the-type .ensures, c .before .before .object-of .ensures)
+returns c = c .check-nothing .ensures ∙ rw (c .before .enum-told .given .1)
 
 returns-2 : tie.Need-returns-2
 unfolding checkedStep
-returns-2 c = c .check-store .ensures ∙ rw (c .before .before .before .step2 .given .1, c .before .the-type2 .ensures)
+returns-2 c = c .check-load .ensures ∙ rw (c .before .before .before .before .step .given .1, c .before .the-type .ensures, c .before .before .object-of .ensures)
 
 returns-3 : tie.Need-returns-3
-returns-3 c = let s = c .before .before in
-    c .check-whole .ensures
-    ∙ rest-check (s .args .sheet) (s .args .types) (s .args .memory) (s .args .step) (λ register object layout view base e. miss (0 ∷ 1 ∷ 4 ∷ 5 ∷ 6 ∷ []) 2 tt (rw e at (c .before .match .keys3))) (λ register layout view base e. miss (0 ∷ 1 ∷ 4 ∷ 5 ∷ 6 ∷ []) 3 tt (rw e at (c .before .match .keys3)))
+unfolding checkedStep
+returns-3 c = c .check-store .ensures ∙ rw (c .before .before .before .step2 .given .1, c .before .the-type2 .ensures)
+
+returns-4 : tie.Need-returns-4
+unfolding checkedStep
+returns-4 c = rw (c .before .before .step3 .given .1) (c .check-whole .ensures)
 
 pub check-step-spec : {M : Type 1} → statement M
 check-step-spec =
     tie.close
     (tie.spec
+    enum-told
+    check-nothing-requires
     enum-known-step
     object-of-requires
     the-type-requires
@@ -61,7 +72,9 @@ check-step-spec =
     enum-known-step-2
     the-type-requires-2
     check-store-requires
+    enum-known-step-3
     check-whole-requires
     returns
     returns-2
-    returns-3)
+    returns-3
+    returns-4)

@@ -8,59 +8,32 @@ enum-told c = search needs
 enum-known-step : tie.Need-enum-known-step
 enum-known-step c = search needs
 
-fill-ok-requires : tie.Need-fill-ok-requires
-fill-ok-requires c κs = search needs
+load-ok-requires : tie.Need-load-ok-requires
+load-ok-requires c κs = search needs
 
 enum-known-step-2 : tie.Need-enum-known-step-2
 enum-known-step-2 c = search needs
 
-load-ok-requires : tie.Need-load-ok-requires
-load-ok-requires c κs = search needs
+store-ok-requires : tie.Need-store-ok-requires
+store-ok-requires c κs = search needs
 
 enum-known-step-3 : tie.Need-enum-known-step-3
 enum-known-step-3 c = search needs
 
-store-ok-requires : tie.Need-store-ok-requires
-store-ok-requires c κs = search needs
-
-enum-known-step-4 : tie.Need-enum-known-step-4
-enum-known-step-4 c = search needs
-
-reduce-ok-requires : tie.Need-reduce-ok-requires
-reduce-ok-requires c κs = search needs
-
-enum-known-step-5 : tie.Need-enum-known-step-5
-enum-known-step-5 c = search needs
-
-transpose-ok-requires : tie.Need-transpose-ok-requires
-transpose-ok-requires c κs = search needs
-
-enum-known-step-6 : tie.Need-enum-known-step-6
-enum-known-step-6 c = search needs
-
-multiply-ok-requires : tie.Need-multiply-ok-requires
-multiply-ok-requires c κs = search needs
+whole-ok-requires : tie.Need-whole-ok-requires
+whole-ok-requires c κs = search needs
 
 returns : tie.Need-returns
 returns c = search needs
 
 returns-2 : tie.Need-returns-2
-returns-2 c = rw (c .before .before .step .given .1) (c .fill-ok .ensures)
+returns-2 c = rw (c .before .before .step .given .1) (c .load-ok .ensures)
 
 returns-3 : tie.Need-returns-3
-returns-3 c = rw (c .before .before .step2 .given .1) (c .load-ok .ensures)
+returns-3 c = rw (c .before .before .step2 .given .1) (c .store-ok .ensures)
 
 returns-4 : tie.Need-returns-4
-returns-4 c = rw (c .before .before .step3 .given .1) (c .store-ok .ensures)
-
-returns-5 : tie.Need-returns-5
-returns-5 c = rw (c .before .before .step4 .given .1) (c .reduce-ok .ensures)
-
-returns-6 : tie.Need-returns-6
-returns-6 c = rw (c .before .before .step5 .given .1) (c .transpose-ok .ensures)
-
-returns-7 : tie.Need-returns-7
-returns-7 c = rw (c .before .before .step6 .given .1) (c .multiply-ok .ensures)
+returns-4 c = rw (c .before .before .step3 .given .1) (c .whole-ok .ensures)
 
 pub step-ok-spec : {M : Type 1} → statement M
 step-ok-spec =
@@ -68,21 +41,12 @@ step-ok-spec =
     (tie.spec
     enum-told
     enum-known-step
-    fill-ok-requires
-    enum-known-step-2
     load-ok-requires
-    enum-known-step-3
+    enum-known-step-2
     store-ok-requires
-    enum-known-step-4
-    reduce-ok-requires
-    enum-known-step-5
-    transpose-ok-requires
-    enum-known-step-6
-    multiply-ok-requires
+    enum-known-step-3
+    whole-ok-requires
     returns
     returns-2
     returns-3
-    returns-4
-    returns-5
-    returns-6
-    returns-7)
+    returns-4)

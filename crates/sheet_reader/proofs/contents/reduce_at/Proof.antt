@@ -40,26 +40,26 @@ reduce-mode-requires c κs = search needs
 combine-of-requires : tie.Need-combine-of-requires
 combine-of-requires c κs = search needs
 
-shared-slice-read-t9 : tie.Need-shared-slice-read-t9
-shared-slice-read-t9 c = search needs
+shared-slice-read-t10 : tie.Need-shared-slice-read-t10
+shared-slice-read-t10 c = search needs
 
-add-t7 : tie.Need-add-t7
-add-t7 c = search needs
+add-t8 : tie.Need-add-t8
+add-t8 c = search needs
 
-shared-slice-read-t16 : tie.Need-shared-slice-read-t16
-shared-slice-read-t16 c = search needs
+shared-slice-read-t17 : tie.Need-shared-slice-read-t17
+shared-slice-read-t17 c = search needs
 
-add-t17 : tie.Need-add-t17
-add-t17 c = search needs
+add-t18 : tie.Need-add-t18
+add-t18 c = search needs
 
-shared-slice-read-t19 : tie.Need-shared-slice-read-t19
-shared-slice-read-t19 c = search needs
+shared-slice-read-t20 : tie.Need-shared-slice-read-t20
+shared-slice-read-t20 c = search needs
 
-add-t20 : tie.Need-add-t20
-add-t20 c = search needs
+add-t21 : tie.Need-add-t21
+add-t21 c = search needs
 
-shared-slice-read-t22 : tie.Need-shared-slice-read-t22
-shared-slice-read-t22 c = search needs
+shared-slice-read-t23 : tie.Need-shared-slice-read-t23
+shared-slice-read-t23 c = search needs
 
 returns-3 : tie.Need-returns-3
 unfolding reduceAt
@@ -81,11 +81,11 @@ reduce-at-spec =
     returns-2
     reduce-mode-requires
     combine-of-requires
-    shared-slice-read-t9
-    add-t7
-    shared-slice-read-t16
-    add-t17
-    shared-slice-read-t19
-    add-t20
-    shared-slice-read-t22
+    shared-slice-read-t10
+    add-t8
+    shared-slice-read-t17
+    add-t18
+    shared-slice-read-t20
+    add-t21
+    shared-slice-read-t23
     returns-3)

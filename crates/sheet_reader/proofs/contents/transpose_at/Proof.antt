@@ -3,18 +3,18 @@ use borrow.Author.Needs.{needs}
 use Rattle.sheet_reader.proofs.contents.transpose_at.Statement.{statement}
 use Rattle.sheet_reader.proofs.contents.transpose_at.Tie as tie
 
-shared-slice-read-t4 : tie.Need-shared-slice-read-t4
-shared-slice-read-t4 c = search needs
+shared-slice-read-t5 : tie.Need-shared-slice-read-t5
+shared-slice-read-t5 c = search needs
 
-add-t5 : tie.Need-add-t5
-add-t5 c = search needs
+add-t6 : tie.Need-add-t6
+add-t6 c = search needs
 
-shared-slice-read-t7 : tie.Need-shared-slice-read-t7
-shared-slice-read-t7 c = search needs
+shared-slice-read-t8 : tie.Need-shared-slice-read-t8
+shared-slice-read-t8 c = search needs
 
 returns : tie.Need-returns
 unfolding transposeAt
 returns c = cc
 
 pub transpose-at-spec : {M : Type 1} → statement M
-transpose-at-spec = tie.close (tie.spec shared-slice-read-t4 add-t5 shared-slice-read-t7 returns)
+transpose-at-spec = tie.close (tie.spec shared-slice-read-t5 add-t6 shared-slice-read-t8 returns)

@@ -15,32 +15,14 @@ put-eight-requires c κs = let h = rw (c .before .before .s .given .1) at (c .be
 enum-known-s-2 : tie.Need-enum-known-s-2
 enum-known-s-2 c = search needs
 
-put-eight-requires-2 : tie.Need-put-eight-requires-2
-put-eight-requires-2 c κs = let h = rw (c .before .before .s2 .given .1) at (c .before .before .before .before .before .pre) in omega arith
+put-store-requires : tie.Need-put-store-requires
+put-store-requires c κs = let h = rw (c .before .before .s2 .given .1) at (c .before .before .before .before .before .pre) in omega arith
 
 enum-known-s-3 : tie.Need-enum-known-s-3
 enum-known-s-3 c = search needs
 
-put-store-requires : tie.Need-put-store-requires
-put-store-requires c κs = let h = rw (c .before .before .s3 .given .1) at (c .before .before .before .before .before .pre) in omega arith
-
-enum-known-s-4 : tie.Need-enum-known-s-4
-enum-known-s-4 c = search needs
-
-put-reduce-requires : tie.Need-put-reduce-requires
-put-reduce-requires c κs = let h = rw (c .before .before .s4 .given .1) at (c .before .before .before .before .before .pre) in omega arith
-
-enum-known-s-5 : tie.Need-enum-known-s-5
-enum-known-s-5 c = search needs
-
-put-pair-requires : tie.Need-put-pair-requires
-put-pair-requires c κs = let h = rw (c .before .before .s5 .given .1) at (c .before .before .before .before .before .pre) in omega arith
-
-enum-known-s-6 : tie.Need-enum-known-s-6
-enum-known-s-6 c = search needs
-
-put-four-requires : tie.Need-put-four-requires
-put-four-requires c κs = let h = rw (c .before .before .s6 .given .1) at (c .before .before .before .before .before .pre) in omega arith
+put-whole-content-requires : tie.Need-put-whole-content-requires
+put-whole-content-requires c κs = let h = rw (c .before .before .s3 .given .1) at (c .before .before .before .before .before .pre) in omega arith
 
 returns : tie.Need-returns
 returns c = search needs
@@ -55,31 +37,13 @@ same-length-2 : tie.Need-same-length-2
 same-length-2 c = search needs
 
 returns-3 : tie.Need-returns-3
-returns-3 c = rw (c .before .before .before .before .before .s2 .given .1) (c .before .before .put-eight2 .ensures)
+returns-3 c = rw (c .before .before .before .before .before .s2 .given .1) (c .before .before .put-store .ensures)
 
 same-length-3 : tie.Need-same-length-3
 same-length-3 c = search needs
 
 returns-4 : tie.Need-returns-4
-returns-4 c = rw (c .before .before .before .before .before .s3 .given .1) (c .before .before .put-store .ensures)
-
-same-length-4 : tie.Need-same-length-4
-same-length-4 c = search needs
-
-returns-5 : tie.Need-returns-5
-returns-5 c = rw (c .before .before .before .before .before .s4 .given .1) (c .before .before .put-reduce .ensures)
-
-same-length-5 : tie.Need-same-length-5
-same-length-5 c = search needs
-
-returns-6 : tie.Need-returns-6
-returns-6 c = rw (c .before .before .before .before .before .s5 .given .1) (c .before .before .put-pair .ensures)
-
-same-length-6 : tie.Need-same-length-6
-same-length-6 c = search needs
-
-returns-7 : tie.Need-returns-7
-returns-7 c = rw (c .before .before .before .before .before .s6 .given .1) (c .before .before .put-four .ensures)
+returns-4 c = rw (c .before .before .before .before .before .s3 .given .1) (c .before .before .put-whole-content .ensures)
 
 pub put-step-content-spec : {M : Type 1} → statement M
 put-step-content-spec =
@@ -89,25 +53,13 @@ put-step-content-spec =
     enum-known-s
     put-eight-requires
     enum-known-s-2
-    put-eight-requires-2
-    enum-known-s-3
     put-store-requires
-    enum-known-s-4
-    put-reduce-requires
-    enum-known-s-5
-    put-pair-requires
-    enum-known-s-6
-    put-four-requires
+    enum-known-s-3
+    put-whole-content-requires
     returns
     same-length
     returns-2
     same-length-2
     returns-3
     same-length-3
-    returns-4
-    same-length-4
-    returns-5
-    same-length-5
-    returns-6
-    same-length-6
-    returns-7)
+    returns-4)

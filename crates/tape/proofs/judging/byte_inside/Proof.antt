@@ -1,6 +1,6 @@
 use Rattle.tape.specs.Turns.{stride-small}
 use Rattle.numbers.specs.Choice.{tests, stop, pass}
-use Rattle.tape.specs.Records.{byteInside}
+use Rattle.tape.specs.ByteLaws.{inside-natural}
 use native.Mathlib.Omega.{arith}
 use Rattle.tape.proofs.judging.byte_inside.Statement.{statement}
 use Rattle.tape.proofs.judging.byte_inside.Tie as tie
@@ -15,15 +15,13 @@ mul-below : tie.Need-mul-below
 mul-below c = omega (arith, stride-small _ _ (c .pre .1) (c .pre .2 .down))
 
 returns : tie.Need-returns
-unfolding byteInside
-returns c = stop _ (search tests)
+returns c = rw inside-natural (stop _ (search tests))
 
 add-result : tie.Need-add-result
 add-result c = omega (arith, c .before .pre .0, c .before .pre .2 .byte, stride-small _ _ (c .before .pre .1) (c .before .pre .2 .up))
 
 returns-2 : tie.Need-returns-2
-unfolding byteInside
-returns-2 c = pass (search tests) (search tests)
+returns-2 c = rw inside-natural (pass (search tests) (search tests))
 
 pub byte-inside-spec : {M : Type 1} → statement M
 byte-inside-spec = tie.close (tie.spec mul-above add-above mul-below returns add-result returns-2)

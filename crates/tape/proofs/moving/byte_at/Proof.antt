@@ -1,4 +1,5 @@
 use Rattle.tape.specs.Turns.{stride-small}
+use Rattle.tape.specs.ByteLaws.{byte-natural}
 use native.Mathlib.Omega.{arith}
 use borrow.Author.Needs.{needs}
 use Rattle.tape.proofs.moving.byte_at.Statement.{statement}
@@ -17,7 +18,7 @@ sub-result : tie.Need-sub-result
 sub-result c = search needs
 
 returns : tie.Need-returns
-returns c = search needs
+returns c = rw byte-natural (search needs)
 
 pub byte-at-spec : {M : Type 1} → statement M
 byte-at-spec = tie.close (tie.spec mul-result add-result mul-result-2 sub-result returns)

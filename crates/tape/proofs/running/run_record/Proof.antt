@@ -1,11 +1,5 @@
 use denote.Ref.{now}
-use mathlib.Core.Path.{sym, _∙_}
-use Rattle.sheet.specs.Steps.{theStep}
-use Rattle.transfers.specs.Acts.{state}
-use Rattle.carrying.specs.Steps.{machineOf}
 use Rattle.tape.specs.Records.{ranRecord}
-use Rattle.tape.specs.Passing.{whole-named}
-use Rattle.tape.specs.Turns.{whole-does}
 use native.Mathlib.Omega.{arith}
 use borrow.Author.Needs.{needs}
 use Rattle.tape.proofs.running.run_record.Statement.{statement}
@@ -69,8 +63,8 @@ enum-known-r-5 c = search needs
 
 run-whole-requires : tie.Need-run-whole-requires
 run-whole-requires c κs =
-    let s = c .before .before .before .before .before in
-    (s .pre .0 .0, s .pre .0 .1, rw (c .before .before .r5 .given .1) at (s .pre .1))
+    let s = c .before .before .before .before .before .before in
+    (s .pre .0 .0, s .pre .0 .1, rw (c .before .before .before .r5 .given .1) at (s .pre .1))
 
 returns : tie.Need-returns
 unfolding ranRecord
@@ -96,14 +90,12 @@ returns-4 c =
     let a = c .before .before .before .before .before .before .args in
     rw (c .before .before .before .r4 .given .1) (c .fill .ensures (now (a .memory)) (a .counted))
 
+same-length-3 : tie.Need-same-length-3
+same-length-3 c = search needs
+
 returns-5 : tie.Need-returns-5
 unfolding ranRecord
-returns-5 c =
-    let s = c .before .before .before .before .before .before in
-    let a = s .args in
-    let g = c .before .before .before .r5 .given in
-    let m = machineOf (a .types) (state (now (a .elements)) (now (a .memory)) (a .counted)) in
-    rw (g .1) (c .run-whole .ensures (now (a .memory)) (a .counted) ∙ sym (whole-does (a .sheet) (theStep (a .sheet .step) (g .0 .0)) m (whole-named (a .sheet) (a .types) (g .0 .0) (rw (g .1) at (s .pre .1)))))
+returns-5 c = rw (c .before .before .before .before .r5 .given .1) (c .run-whole .ensures (c .before .before .before .before .before .before .before .args .counted))
 
 pub run-record-spec : {M : Type 1} → statement M
 run-record-spec =
@@ -129,4 +121,5 @@ run-record-spec =
     same-length-2
     returns-3
     returns-4
+    same-length-3
     returns-5)

@@ -1,24 +1,36 @@
-use mathlib.Core.Path.{ap}
-use Rattle.registers.specs.declared.Registers.{Registers}
-use Rattle.carrying.specs.Steps.{machine}
-use Rattle.tape.specs.Turns.{whole-given, whole-within, whole-clear}
+use Prim.Native.Nat.{_<_}
+use borrow.Author.Tests.{ltb-true}
+use Rattle.numbers.specs.Choice.{both-left, both-right}
+use Rattle.carrying.specs.Types.{within-step}
+use Rattle.tape.specs.Records.{wholeRecordOk}
 use native.Mathlib.Omega.{arith}
 use Rattle.tape.proofs.running.run_whole.Statement.{statement}
 use Rattle.tape.proofs.running.run_whole.Tie as tie
 
 mul-c : tie.Need-mul-c
-mul-c c = omega (arith, whole-given (c .args .t1) (c .args .types) (c .args .step) (c .pre .2), c .pre .0 .steps)
+unfolding wholeRecordOk
+mul-c c =
+    let s = c .before in
+    let given : s .args .step < s .args .t1 .steps = ltb-true _ _ (both-left _ _ (s .pre .2)) in
+    omega (arith, s .pre .0 .steps)
 
 element-copy-out-c : tie.Need-element-copy-out-c
-element-copy-out-c c = omega (arith, whole-given (c .args .t1) (c .args .types) (c .args .step) (c .pre .2), c .pre .0 .steps)
+unfolding wholeRecordOk
+element-copy-out-c c =
+    let s = c .before in
+    let given : s .args .step < s .args .t1 .steps = ltb-true _ _ (both-left _ _ (s .pre .2)) in
+    omega (arith, s .pre .0 .steps)
 
-perform-whole-requires : tie.Need-perform-whole-requires
-perform-whole-requires c κs =
-    let s = c .before .before in
-    (whole-within (s .args .t1) (s .args .types) (s .args .step) (s .pre .2) (s .pre .0), s .pre .1, whole-clear (s .args .t1) (s .args .types) (s .args .step) (s .pre .2))
+perform-named-requires : tie.Need-perform-named-requires
+unfolding wholeRecordOk
+perform-named-requires c κs =
+    let s = c .before .before .before in
+    let sh = s .args .t1 in
+    let ok = within-step sh (s .pre .0) (s .args .step) (ltb-true _ _ (both-left _ _ (s .pre .2))) in
+    (s .pre .1, (sh .edition, sh .layouts, sh .views, ok, both-right _ _ (s .pre .2)))
 
 returns : tie.Need-returns
-returns c = λ memory n. ap (λ (g : Registers). machine g memory n) (c .perform-whole .ensures)
+returns c = λ n. c .perform-named .ensures (c .before .before .before .before .args .t1) n
 
 pub run-whole-spec : {M : Type 1} → statement M
-run-whole-spec = tie.close (tie.spec mul-c element-copy-out-c perform-whole-requires returns)
+run-whole-spec = tie.close (tie.spec mul-c element-copy-out-c perform-named-requires returns)

@@ -1,15 +1,13 @@
 use mathlib.Core.Path.{refl, sym, ap, _∙_}
 use mathlib.Core.Bool.{false}
-use mathlib.Core.List.{[], _∷_}
 use Prim.Native.Nat.{_*_}
 use lib.ListN.{length}
-use types.Run.{miss}
 use Rattle.transfers.specs.Transfers.{outcomeOf}
 use Rattle.carrying.specs.Steps.{accessOf}
 use Rattle.runs.specs.Writing.{count-records}
 use Rattle.carrying.specs.Names.{store-names}
 use Rattle.tape.specs.Tapes.{stepRecords}
-use Rattle.tape.proofs.TranslateLaws.{store-records, store-clear, rest-records}
+use Rattle.tape.proofs.TranslateLaws.{store-records, store-clear}
 use borrow.Author.Needs.{needs}
 use Rattle.tape.proofs.translating.count_step.Statement.{statement}
 use Rattle.tape.proofs.translating.count_step.Tie as tie
@@ -46,6 +44,9 @@ count-access-requires c κs =
       ),
     )
 
+enum-told-2 : tie.Need-enum-told-2
+enum-told-2 c = search needs
+
 returns : tie.Need-returns
 unfolding stepRecords
 returns c = rw (c .enum-told .given .1) refl
@@ -66,10 +67,8 @@ returns-3 c =
     ∙ sym (ap length (store-records (a .sheet) (a .types) (a .memory) (g .0 .0) (g .0 .1 .0) (g .0 .1 .1 .0) (g .0 .1 .1 .1 .0) t (c .before .the-type .ensures) 0)))
 
 returns-4 : tie.Need-returns-4
-returns-4 c =
-    let a = c .before .args in
-    let rest = c .match .keys4 in
-    rw (rest-records (a .sheet) (a .types) (a .memory) 0 (a .step) (λ e. miss (1 ∷ 4 ∷ 5 ∷ 6 ∷ []) 0 tt (rw e at rest)) (λ register object layout view base e. miss (1 ∷ 4 ∷ 5 ∷ 6 ∷ []) 2 tt (rw e at rest)) (λ register layout view base e. miss (1 ∷ 4 ∷ 5 ∷ 6 ∷ []) 3 tt (rw e at rest))) refl
+unfolding stepRecords
+returns-4 c = rw (c .enum-told2 .given .1) refl
 
 pub count-step-spec : {M : Type 1} → statement M
 count-step-spec =
@@ -81,6 +80,7 @@ count-step-spec =
     enum-known-step-2
     the-type-requires
     count-access-requires
+    enum-told-2
     returns
     returns-2
     returns-3

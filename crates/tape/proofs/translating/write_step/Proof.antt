@@ -1,9 +1,7 @@
 use mathlib.Core.Path.{refl}
-use mathlib.Core.List.{[], _∷_}
-use types.Run.{miss}
 use Rattle.carrying.specs.Names.{store-names}
 use Rattle.tape.specs.Tapes.{stepRecords}
-use Rattle.tape.proofs.TranslateLaws.{store-records, store-clear, rest-records}
+use Rattle.tape.proofs.TranslateLaws.{store-records, store-clear}
 use native.Mathlib.Omega.{arith}
 use borrow.Author.Needs.{needs}
 use Rattle.tape.proofs.translating.write_step.Statement.{statement}
@@ -49,27 +47,27 @@ write-access-requires c κs =
       ),
     )
 
+enum-told-2 : tie.Need-enum-told-2
+enum-told-2 c = search needs
+
 write-whole-requires : tie.Need-write-whole-requires
+unfolding stepRecords
 write-whole-requires c κs =
-    let s = c .before .before in
-    let a = s .args in
-    let rest = c .before .match .keys4 in
-    let q = rw (rest-records (a .sheet) (a .types) (a .memory) (a .k) (a .step) (λ e. miss (1 ∷ 4 ∷ 5 ∷ 6 ∷ []) 0 tt (rw e at rest)) (λ register object layout view base e. miss (1 ∷ 4 ∷ 5 ∷ 6 ∷ []) 2 tt (rw e at rest)) (λ register layout view base e. miss (1 ∷ 4 ∷ 5 ∷ 6 ∷ []) 3 tt (rw e at rest))) at (s .pre .1 .1) in
-    (q, s .pre .1 .0 .1)
+    let s = c .before .before .before in (rw (c .before .enum-told2 .given .1) at (s .pre .1 .1), s .pre .1 .0 .1)
 
 returns : tie.Need-returns
 unfolding stepRecords
 returns c = rw (c .enum-told .given .1) (omega arith, refl)
 
 same-length : tie.Need-same-length
-same-length c = c .before .write-load .kept .0
+same-length c = search needs
 
 returns-2 : tie.Need-returns-2
 unfolding stepRecords
 returns-2 c = rw (c .before .before .before .before .step .given .1) (c .before .write-load .ensures)
 
 same-length-2 : tie.Need-same-length-2
-same-length-2 c = c .before .write-access .kept .0
+same-length-2 c = search needs
 
 returns-3 : tie.Need-returns-3
 returns-3 c =
@@ -81,14 +79,11 @@ returns-3 c =
     (c .before .write-access .ensures)
 
 same-length-3 : tie.Need-same-length-3
-same-length-3 c = c .before .write-whole .kept .0
+same-length-3 c = search needs
 
 returns-4 : tie.Need-returns-4
-returns-4 c =
-    let a = c .before .before .before .before .args in
-    let rest = c .before .before .before .match .keys4 in
-    rw (rest-records (a .sheet) (a .types) (a .memory) (a .k) (a .step) (λ e. miss (1 ∷ 4 ∷ 5 ∷ 6 ∷ []) 0 tt (rw e at rest)) (λ register object layout view base e. miss (1 ∷ 4 ∷ 5 ∷ 6 ∷ []) 2 tt (rw e at rest)) (λ register layout view base e. miss (1 ∷ 4 ∷ 5 ∷ 6 ∷ []) 3 tt (rw e at rest)))
-    (c .before .write-whole .ensures)
+unfolding stepRecords
+returns-4 c = rw (c .before .before .before .enum-told2 .given .1) (c .before .write-whole .ensures)
 
 pub write-step-spec : {M : Type 1} → statement M
 write-step-spec =
@@ -100,6 +95,7 @@ write-step-spec =
     enum-known-step-2
     the-type-requires
     write-access-requires
+    enum-told-2
     write-whole-requires
     returns
     same-length

@@ -1,0 +1,54 @@
+use mathlib.Core.Path.{subst}
+use Rattle.whole_steps.specs.Within.{WholeParts}
+use borrow.Author.Needs.{needs}
+use Rattle.whole_steps.proofs.types.whole_type.Statement.{statement}
+use Rattle.whole_steps.proofs.types.whole_type.Tie as tie
+
+enum-known-step : tie.Need-enum-known-step
+enum-known-step c = search needs
+
+enum-known-step-2 : tie.Need-enum-known-step-2
+enum-known-step-2 c = search needs
+
+the-type-requires : tie.Need-the-type-requires
+the-type-requires c κs = subst WholeParts (c .before .step2 .given .1) (c .before .before .before .pre .parts) .0
+
+enum-known-step-3 : tie.Need-enum-known-step-3
+enum-known-step-3 c = search needs
+
+the-type-requires-2 : tie.Need-the-type-requires-2
+the-type-requires-2 c κs = subst WholeParts (c .before .step3 .given .1) (c .before .before .before .pre .parts)
+
+enum-known-step-4 : tie.Need-enum-known-step-4
+enum-known-step-4 c = search needs
+
+the-type-requires-3 : tie.Need-the-type-requires-3
+the-type-requires-3 c κs = subst WholeParts (c .before .step4 .given .1) (c .before .before .before .pre .parts) .2
+
+returns : tie.Need-returns
+returns c = rw (c .before .step .given .1)
+
+returns-2 : tie.Need-returns-2
+returns-2 c = rw (c .before .before .step2 .given .1, ← c .the-type .ensures)
+
+returns-3 : tie.Need-returns-3
+returns-3 c = rw (c .before .before .step3 .given .1, ← c .the-type2 .ensures)
+
+returns-4 : tie.Need-returns-4
+returns-4 c = rw (c .before .before .step4 .given .1) (c .the-type3 .ensures)
+
+pub whole-type-spec : {M : Type 1} → statement M
+whole-type-spec =
+    tie.close
+    (tie.spec
+    enum-known-step
+    enum-known-step-2
+    the-type-requires
+    enum-known-step-3
+    the-type-requires-2
+    enum-known-step-4
+    the-type-requires-3
+    returns
+    returns-2
+    returns-3
+    returns-4)
