@@ -6,7 +6,7 @@ use lib.ListN.{getD, replicate}
 use lib.Dec.{ltb, eqb}
 use Rattle.numbers.specs.Choice.{pick, both}
 use Rattle.numbers.specs.All.{all}
-use Rattle.sheet.specs.Sizes.{rankOk, sizeOk, offsetOk}
+use Rattle.sheet.specs.Sizes.{rankPlaces, rankOk, sizeOk, offsetOk}
 use Rattle.sheet.specs.Codes.{undefined}
 use Rattle.sheet.specs.declared.ClampMode.the-variants.{Undefined}
 use Rattle.sheet.specs.declared.Dimension.{Dimension}
@@ -17,7 +17,7 @@ abbrev pub noDimension : Dimension
 noDimension = record { block = 0; size = 0; stride = 0; offset = 0; span = 0 }
 
 unfoldable pub noLayout : Layout
-noLayout = record { rank = 0; mode = Undefined; clamp = 0; dimensions = replicate 5 noDimension }
+noLayout = record { rank = 0; mode = Undefined; clamp = 0; dimensions = replicate rankPlaces noDimension }
 
 -- dimension k, and layout k of a list; what stands past a list's end is never asked for
 abbrev pub theDimension : List Dimension → ℕ → Dimension
@@ -34,12 +34,12 @@ unfoldable pub dimensionUnused : Dimension → Bool
 dimensionUnused d =
     both (eqb (d .block) 0) (both (eqb (d .size) 0) (both (eqb (d .stride) 0) (both (eqb (d .offset) 0) (eqb (d .span) 0))))
 
--- of five places the first rank hold a dimension, the others nothing
+-- of the places the first rank hold a dimension, the others nothing
 unfoldable pub dimensionAtOk : ℕ → List Dimension → ℕ → Bool
 dimensionAtOk rank ds k = pick (ltb k rank) (dimensionOk (theDimension ds k)) (dimensionUnused (theDimension ds k))
 
 abbrev pub dimensionsOk : ℕ → List Dimension → Bool
-dimensionsOk rank ds = all 5 (dimensionAtOk rank ds)
+dimensionsOk rank ds = all rankPlaces (dimensionAtOk rank ds)
 
 unfoldable pub layoutOk : Layout → Bool
 layoutOk l = both (rankOk (l .rank)) (dimensionsOk (l .rank) (l .dimensions))

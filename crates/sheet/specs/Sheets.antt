@@ -6,26 +6,22 @@ use lib.ListN.{replicate}
 use lib.Dec.{ltb, leb}
 use Rattle.numbers.specs.Choice.{pick, both}
 use Rattle.numbers.specs.All.{all}
-use Rattle.sheet.specs.Sizes.{editionOk, stepLimit}
+use Rattle.sheet.specs.Sizes.{layoutPlaces, viewPlaces, stepPlaces}
+use Rattle.sheet.specs.Editions.{editionOk, limits}
 use Rattle.sheet.specs.Layouts.{noLayout, theLayout, layoutOk, layoutUnused}
 use Rattle.sheet.specs.Views.{noView, theView, viewOk, viewUnused}
 use Rattle.sheet.specs.Steps.{noCell, theStep, stepOk, stepUnused}
 use Rattle.sheet.specs.declared.Layout.{Layout}
 use Rattle.sheet.specs.declared.View.{View}
 use Rattle.sheet.specs.declared.Cell.{Cell}
+use Rattle.sheet.specs.declared.Tensors.{Tensors}
 use Rattle.sheet.specs.declared.Sheet.{Sheet}
 
+unfoldable pub noTensors : Tensors
+noTensors = record { layouts = 0; layout = replicate layoutPlaces noLayout; views = 0; view = replicate viewPlaces noView }
+
 unfoldable pub emptySheet : Sheet
-emptySheet =
-    record {
-      edition = 0;
-      layouts = 0;
-      layout = replicate 4 noLayout;
-      views = 0;
-      view = replicate 4 noView;
-      steps = 0;
-      step = replicate 32 noCell;
-    }
+emptySheet = record { edition = 0; tensors = noTensors; steps = 0; step = replicate stepPlaces noCell }
 
 -- of the places for layouts, views and steps the first hold what is given, the others nothing
 unfoldable pub layoutAtOk : ℕ → List Layout → ℕ → Bool
@@ -38,15 +34,22 @@ unfoldable pub stepAtOk : ℕ → ℕ → ℕ → ℕ → List Cell → ℕ → 
 stepAtOk edition layouts views count cs k =
     pick (ltb k count) (stepOk edition layouts views (theStep cs k)) (stepUnused (theStep cs k))
 
--- the counts are within Sizes
-unfoldable pub countsOk : ℕ → ℕ → ℕ → ℕ → Bool
-countsOk edition layouts views steps =
-    both (editionOk edition) (both (leb layouts 4) (both (leb views 4) (leb steps (stepLimit edition))))
+-- layouts and views are within Sizes, and each unused place is zero
+unfoldable pub tensorsOk : Tensors → Bool
+tensorsOk t =
+    both (leb (t .layouts) layoutPlaces)
+    (both (leb (t .views) viewPlaces)
+    (both (all layoutPlaces (layoutAtOk (t .layouts) (t .layout)))
+    (all viewPlaces (viewAtOk (t .views) (t .view)))))
+
+-- so are steps, in a sheet of an edition with so many layouts and views
+unfoldable pub stepsOk : ℕ → ℕ → ℕ → ℕ → List Cell → Bool
+stepsOk edition layouts views steps cs =
+    both (leb steps (limits edition .steps)) (all stepPlaces (stepAtOk edition layouts views steps cs))
 
 -- a model that a sheet reads as: each number is within Sizes, and each unused place is zero
 unfoldable pub writable : Sheet → Bool
 writable sh =
-    both (countsOk (sh .edition) (sh .layouts) (sh .views) (sh .steps))
-    (both (all 4 (layoutAtOk (sh .layouts) (sh .layout)))
-    (both (all 4 (viewAtOk (sh .views) (sh .view)))
-    (all 32 (stepAtOk (sh .edition) (sh .layouts) (sh .views) (sh .steps) (sh .step)))))
+    both (editionOk (sh .edition))
+    (both (tensorsOk (sh .tensors))
+    (stepsOk (sh .edition) (sh .tensors .layouts) (sh .tensors .views) (sh .steps) (sh .step)))

@@ -6,7 +6,13 @@ use mathlib.Core.Bool.{Bool, true, false}
 use lib.Dec.{ltb}
 use Rattle.numbers.specs.Choice.{both}
 use Rattle.kinds.specs.Widths.{kindOk, fits}
-use Rattle.sheet.specs.Sizes.{sideOk, registerOk, optionOk}
+use Rattle.sheet.specs.Sizes.{registerOk}
+use Rattle.sheet.specs.Editions.{sideOk}
+use Rattle.sheet.specs.declared.Object.{Object}
+use Rattle.sheet.specs.declared.Object.the-variants.{Kept, Register}
+use Rattle.sheet.specs.declared.Viewing.{Viewing}
+use Rattle.sheet.specs.declared.Viewing.the-variants.{Plain, Through}
+use Rattle.sheet.specs.declared.Window.{Window}
 use Rattle.sheet.specs.declared.Step.{Step}
 use Rattle.sheet.specs.declared.Step.the-variants.{Nothing, Load, Store, Whole}
 use Rattle.sheet.specs.declared.WholeStep.{WholeStep}
@@ -29,13 +35,24 @@ fillOk edition register rows columns kind value =
     (both (kindOk kind)
     (fits kind value))))
 
-unfoldable pub loadOk : ℕ → ℕ → ℕ → ℕ → ℕ → ℕ → Bool
-loadOk layouts views register object layout view =
-    both (registerOk register) (both (optionOk 4 object) (both (ltb layout layouts) (optionOk views view)))
+abbrev pub objectOk : Object → Bool
+objectOk Kept = true
+objectOk (Register register) = registerOk register
 
-unfoldable pub storeOk : ℕ → ℕ → ℕ → ℕ → ℕ → Bool
-storeOk layouts views register layout view =
-    both (registerOk register) (both (ltb layout layouts) (optionOk views view))
+abbrev pub viewingOk : ℕ → Viewing → Bool
+viewingOk views Plain = true
+viewingOk views (Through view) = ltb view views
+
+-- a layout and a view that are given; any base of 32 bits is within Sizes
+unfoldable pub windowOk : ℕ → ℕ → Window → Bool
+windowOk layouts views w = both (ltb (w .layout) layouts) (viewingOk views (w .view))
+
+unfoldable pub loadOk : ℕ → ℕ → ℕ → Object → Window → Bool
+loadOk layouts views register object window =
+    both (registerOk register) (both (objectOk object) (windowOk layouts views window))
+
+unfoldable pub storeOk : ℕ → ℕ → ℕ → Window → Bool
+storeOk layouts views register window = both (registerOk register) (windowOk layouts views window)
 
 unfoldable pub reduceOk : ℕ → ℕ → ℕ → ℕ → ℕ → Bool
 reduceOk edition result source rows columns =
@@ -53,15 +70,14 @@ wholeOk edition (Reduce result source rows columns mode combine) = reduceOk edit
 wholeOk edition (Transpose result source) = transposeOk result source
 wholeOk edition (MultiplyAdd result a b c) = multiplyOk result a b c
 
--- any base of 32 bits is within Sizes
 abbrev pub stepOk : ℕ → ℕ → ℕ → Step → Bool
 stepOk edition layouts views Nothing = false
-stepOk edition layouts views (Load register object layout view base) = loadOk layouts views register object layout view
-stepOk edition layouts views (Store register layout view base) = storeOk layouts views register layout view
+stepOk edition layouts views (Load register object window) = loadOk layouts views register object window
+stepOk edition layouts views (Store register window) = storeOk layouts views register window
 stepOk edition layouts views (Whole whole) = wholeOk edition whole
 
 abbrev pub stepUnused : Step → Bool
 stepUnused Nothing = true
-stepUnused (Load register object layout view base) = false
-stepUnused (Store register layout view base) = false
+stepUnused (Load register object window) = false
+stepUnused (Store register window) = false
 stepUnused (Whole whole) = false

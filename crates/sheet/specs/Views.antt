@@ -6,7 +6,7 @@ use lib.ListN.{getD, replicate}
 use lib.Dec.{ltb, eqb}
 use Rattle.numbers.specs.Choice.{pick, both}
 use Rattle.numbers.specs.All.{all}
-use Rattle.sheet.specs.Sizes.{rankOk, sizeOk}
+use Rattle.sheet.specs.Sizes.{rankPlaces, rankOk, sizeOk}
 use Rattle.sheet.specs.declared.ViewDimension.{ViewDimension}
 use Rattle.sheet.specs.declared.Clip.{Clip}
 use Rattle.sheet.specs.declared.View.{View}
@@ -23,8 +23,8 @@ noView =
     record {
       rank = 0;
       sized = false;
-      permutation = replicate 5 0;
-      dimensions = replicate 5 noViewDimension;
+      permutation = replicate rankPlaces 0;
+      dimensions = replicate rankPlaces noViewDimension;
       rows = noClip;
       columns = noClip;
     }
@@ -40,23 +40,23 @@ theView vs k = getD vs k (record { rank = 0; sized = false; permutation = []; di
 unfoldable pub fresh : List ℕ → ℕ → Bool
 fresh p k = all k (λ (j : ℕ). not (eqb (getD p j 0) (getD p k 0)))
 
--- of five places the first rank hold each number below rank once, the others 0
+-- of the places the first rank hold each number below rank once, the others 0
 unfoldable pub entryOk : ℕ → List ℕ → ℕ → Bool
 entryOk rank p k = pick (ltb k rank) (both (ltb (getD p k 0) rank) (fresh p k)) (eqb (getD p k 0) 0)
 
 abbrev pub permutationOk : ℕ → List ℕ → Bool
-permutationOk rank p = all 5 (entryOk rank p)
+permutationOk rank p = all rankPlaces (entryOk rank p)
 
 unfoldable pub viewDimensionUnused : ViewDimension → Bool
 viewDimensionUnused d = both (eqb (d .size) 0) (eqb (d .stride) 0)
 
--- of five places the first count hold a view dimension, the others nothing; any stride of 16 bits is within Sizes
+-- of the places the first count hold a view dimension, the others nothing; any stride of 16 bits is within Sizes
 unfoldable pub viewDimensionAtOk : ℕ → List ViewDimension → ℕ → Bool
 viewDimensionAtOk count ds k =
     pick (ltb k count) (sizeOk (theViewDimension ds k .size)) (viewDimensionUnused (theViewDimension ds k))
 
 abbrev pub viewDimensionsOk : ℕ → List ViewDimension → Bool
-viewDimensionsOk count ds = all 5 (viewDimensionAtOk count ds)
+viewDimensionsOk count ds = all rankPlaces (viewDimensionAtOk count ds)
 
 -- how many dimensions and strides of its own a view has: one for each dimension, or none
 unfoldable pub sizedRank : Bool → ℕ → ℕ

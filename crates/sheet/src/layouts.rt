@@ -1,12 +1,14 @@
 // Layouts: the unused one, and what a layout must keep to.
 ghost use mathlib.Core.Path.{_≡_};
 ghost use Prim.Native.Nat.{_≤_, _<_};
+ghost use Rattle.sheet.specs.Sizes.{rankPlaces};
 ghost use Rattle.sheet.specs.Layouts.{noDimension, noLayout, dimensionOk, dimensionUnused, dimensionAtOk, dimensionsOk, layoutOk, layoutUnused};
 use super::ClampMode;
 use super::Dimension;
 use super::Layout;
 use super::codes;
 use super::sizes;
+use super::sizes::RANK;
 
 pub fn no_dimension() -> Dimension
     ensures { λ r. ⌜ r ≡ noDimension ⌝ }
@@ -28,7 +30,7 @@ pub fn no_layout() -> Layout
         rank: 0,
         mode: ClampMode::Undefined,
         clamp: 0,
-        dimensions: [d; 5],
+        dimensions: [d; RANK],
     }
 }
 
@@ -66,8 +68,8 @@ fn dimension_unused(d: Dimension) -> bool
     d.span == 0
 }
 
-fn dimension_at_ok(rank: u8, ds: [Dimension; 5], k: usize) -> bool
-    requires { ⌜ k < 5 ⌝ }
+fn dimension_at_ok(rank: u8, ds: [Dimension; RANK], k: usize) -> bool
+    requires { ⌜ k < rankPlaces ⌝ }
     ensures { λ r. ⌜ r ≡ dimensionAtOk rank ds k ⌝ }
 {
     let d = ds[k];
@@ -78,12 +80,12 @@ fn dimension_at_ok(rank: u8, ds: [Dimension; 5], k: usize) -> bool
     }
 }
 
-// Of five places the first `rank` hold a dimension, the others nothing.
-fn dimensions_ok(rank: u8, ds: [Dimension; 5]) -> bool
+// Of the places the first `rank` hold a dimension, the others nothing.
+fn dimensions_ok(rank: u8, ds: [Dimension; RANK]) -> bool
     ensures { λ r. ⌜ r ≡ dimensionsOk rank ds ⌝ }
 {
     let mut k = 0;
-    while k < 5 {
+    while k < RANK {
         if !dimension_at_ok(rank, ds, k) {
             return false;
         }

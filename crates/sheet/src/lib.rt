@@ -1,10 +1,16 @@
 // The model of a sheet: what reading gives and writing takes.
 pub mod codes;
+pub mod editions;
 pub mod layouts;
 pub mod sheets;
 pub mod sizes;
 pub mod steps;
 pub mod views;
+
+use sizes::LAYOUTS;
+use sizes::RANK;
+use sizes::STEPS;
+use sizes::VIEWS;
 
 // What becomes of a coordinate outside the tensor.
 pub enum ClampMode {
@@ -47,7 +53,7 @@ pub struct Layout {
     pub rank: u8,
     pub mode: ClampMode,
     pub clamp: u32,
-    pub dimensions: [Dimension; 5],
+    pub dimensions: [Dimension; RANK],
 }
 
 pub struct ViewDimension {
@@ -65,8 +71,8 @@ pub struct Clip {
 pub struct View {
     pub rank: u8,
     pub sized: bool,
-    pub permutation: [u8; 5],
-    pub dimensions: [ViewDimension; 5],
+    pub permutation: [u8; RANK],
+    pub dimensions: [ViewDimension; RANK],
     pub rows: Clip,
     pub columns: Clip,
 }
@@ -100,21 +106,36 @@ pub enum WholeStep {
     },
 }
 
-// A step: a load or a store, which go element by element, or a whole step. An object or a view of 255 is none.
+// What a load starts from: its register as it stands, or a register that is copied to it.
+pub enum Object {
+    Kept,
+    Register(u8),
+}
+
+// Whether a load or a store goes through a view, and which.
+pub enum Viewing {
+    Plain,
+    Through(u8),
+}
+
+// Where in memory a load or a store goes: by a layout, perhaps through a view, from a base.
+pub struct Window {
+    pub layout: u8,
+    pub view: Viewing,
+    pub base: u32,
+}
+
+// A step: a load or a store, which go element by element, or a whole step.
 pub enum Step {
     Nothing,
     Load {
         register: u8,
-        object: u8,
-        layout: u8,
-        view: u8,
-        base: u32,
+        object: Object,
+        window: Window,
     },
     Store {
         register: u8,
-        layout: u8,
-        view: u8,
-        base: u32,
+        window: Window,
     },
     Whole(WholeStep),
 }
@@ -124,20 +145,18 @@ pub struct Cell {
     pub step: Step,
 }
 
-// A sheet: `layouts` counts the layouts given, which stand first in `layout`; so with views and steps. Unused places are zero.
-pub struct Sheet {
-    pub edition: u8,
+// What loads and stores name: `layouts` counts the layouts given, which stand first in `layout`; so with views. Unused places are zero.
+pub struct Tensors {
     pub layouts: usize,
-    pub layout: [Layout; 4],
+    pub layout: [Layout; LAYOUTS],
     pub views: usize,
-    pub view: [View; 4],
-    pub steps: usize,
-    pub step: [Cell; 32],
+    pub view: [View; VIEWS],
 }
 
-// A refusal's number and place, 01's two numbers: the byte, step or record, and the element. All zero: not refused.
-pub struct Refusal {
-    pub number: u8,
-    pub place: usize,
-    pub element: usize,
+// A sheet: the first `steps` of `step` are given, the others are unused.
+pub struct Sheet {
+    pub edition: u8,
+    pub tensors: Tensors,
+    pub steps: usize,
+    pub step: [Cell; STEPS],
 }

@@ -2,35 +2,49 @@
 ghost use mathlib.Core.Path.{_≡_};
 ghost use Prim.Native.Nat.{_≤_, _<_};
 ghost use Rattle.numbers.specs.All.{all};
-ghost use Rattle.sheet.specs.Sheets.{emptySheet, layoutAtOk, viewAtOk, stepAtOk, countsOk, writable};
+ghost use Rattle.sheet.specs.Sizes.{layoutPlaces, viewPlaces, stepPlaces};
+ghost use Rattle.sheet.specs.Sheets.{noTensors, emptySheet, layoutAtOk, viewAtOk, stepAtOk, tensorsOk, stepsOk, writable};
 use super::Cell;
 use super::Layout;
 use super::Sheet;
+use super::Tensors;
 use super::View;
+use super::editions;
 use super::layouts;
-use super::sizes;
+use super::sizes::LAYOUTS;
+use super::sizes::STEPS;
+use super::sizes::VIEWS;
 use super::steps;
 use super::views;
+
+pub fn no_tensors() -> Tensors
+    ensures { λ r. ⌜ r ≡ noTensors ⌝ }
+{
+    let l = layouts::no_layout();
+    let v = views::no_view();
+    Tensors {
+        layouts: 0,
+        layout: [l; LAYOUTS],
+        views: 0,
+        view: [v; VIEWS],
+    }
+}
 
 pub fn empty_sheet() -> Sheet
     ensures { λ r. ⌜ r ≡ emptySheet ⌝ }
 {
-    let l = layouts::no_layout();
-    let v = views::no_view();
+    let tensors = no_tensors();
     let c = steps::no_cell();
     Sheet {
         edition: 0,
-        layouts: 0,
-        layout: [l; 4],
-        views: 0,
-        view: [v; 4],
+        tensors,
         steps: 0,
-        step: [c; 32],
+        step: [c; STEPS],
     }
 }
 
-fn layout_at_ok(count: usize, ls: [Layout; 4], k: usize) -> bool
-    requires { ⌜ k < 4 ⌝ }
+fn layout_at_ok(count: usize, ls: [Layout; LAYOUTS], k: usize) -> bool
+    requires { ⌜ k < layoutPlaces ⌝ }
     ensures { λ r. ⌜ r ≡ layoutAtOk count ls k ⌝ }
 {
     let l = ls[k];
@@ -41,11 +55,11 @@ fn layout_at_ok(count: usize, ls: [Layout; 4], k: usize) -> bool
     }
 }
 
-fn layouts_ok(count: usize, ls: [Layout; 4]) -> bool
-    ensures { λ r. ⌜ r ≡ all 4 (layoutAtOk count ls) ⌝ }
+fn layouts_ok(count: usize, ls: [Layout; LAYOUTS]) -> bool
+    ensures { λ r. ⌜ r ≡ all layoutPlaces (layoutAtOk count ls) ⌝ }
 {
     let mut k = 0;
-    while k < 4 {
+    while k < LAYOUTS {
         if !layout_at_ok(count, ls, k) {
             return false;
         }
@@ -54,8 +68,8 @@ fn layouts_ok(count: usize, ls: [Layout; 4]) -> bool
     true
 }
 
-fn view_at_ok(count: usize, vs: [View; 4], k: usize) -> bool
-    requires { ⌜ k < 4 ⌝ }
+fn view_at_ok(count: usize, vs: [View; VIEWS], k: usize) -> bool
+    requires { ⌜ k < viewPlaces ⌝ }
     ensures { λ r. ⌜ r ≡ viewAtOk count vs k ⌝ }
 {
     let v = vs[k];
@@ -66,11 +80,11 @@ fn view_at_ok(count: usize, vs: [View; 4], k: usize) -> bool
     }
 }
 
-fn views_ok(count: usize, vs: [View; 4]) -> bool
-    ensures { λ r. ⌜ r ≡ all 4 (viewAtOk count vs) ⌝ }
+fn views_ok(count: usize, vs: [View; VIEWS]) -> bool
+    ensures { λ r. ⌜ r ≡ all viewPlaces (viewAtOk count vs) ⌝ }
 {
     let mut k = 0;
-    while k < 4 {
+    while k < VIEWS {
         if !view_at_ok(count, vs, k) {
             return false;
         }
@@ -79,15 +93,32 @@ fn views_ok(count: usize, vs: [View; 4]) -> bool
     true
 }
 
+fn tensors_ok(t: Tensors) -> bool
+    ensures { λ r. ⌜ r ≡ tensorsOk t ⌝ }
+{
+    if LAYOUTS < t.layouts {
+        return false;
+    }
+    if VIEWS < t.views {
+        return false;
+    }
+    let ls = t.layout;
+    if !layouts_ok(t.layouts, ls) {
+        return false;
+    }
+    let vs = t.view;
+    views_ok(t.views, vs)
+}
+
 fn step_at_ok(
     edition: u8,
     layouts: usize,
     views: usize,
     count: usize,
-    cs: [Cell; 32],
+    cs: [Cell; STEPS],
     k: usize,
 ) -> bool
-    requires { ⌜ k < 32 ⌝ }
+    requires { ⌜ k < stepPlaces ⌝ }
     ensures { λ r. ⌜ r ≡ stepAtOk edition layouts views count cs k ⌝ }
 {
     let c = cs[k];
@@ -99,11 +130,11 @@ fn step_at_ok(
     }
 }
 
-fn steps_ok(edition: u8, layouts: usize, views: usize, count: usize, cs: [Cell; 32]) -> bool
-    ensures { λ r. ⌜ r ≡ all 32 (stepAtOk edition layouts views count cs) ⌝ }
+fn cells_ok(edition: u8, layouts: usize, views: usize, count: usize, cs: [Cell; STEPS]) -> bool
+    ensures { λ r. ⌜ r ≡ all stepPlaces (stepAtOk edition layouts views count cs) ⌝ }
 {
     let mut k = 0;
-    while k < 32 {
+    while k < STEPS {
         if !step_at_ok(edition, layouts, views, count, cs, k) {
             return false;
         }
@@ -112,19 +143,14 @@ fn steps_ok(edition: u8, layouts: usize, views: usize, count: usize, cs: [Cell; 
     true
 }
 
-fn counts_ok(edition: u8, layouts: usize, views: usize, steps: usize) -> bool
-    ensures { λ r. ⌜ r ≡ countsOk edition layouts views steps ⌝ }
+fn steps_ok(edition: u8, layouts: usize, views: usize, count: usize, cs: [Cell; STEPS]) -> bool
+    ensures { λ r. ⌜ r ≡ stepsOk edition layouts views count cs ⌝ }
 {
-    if !sizes::edition_ok(edition) {
+    let most = editions::limits(edition);
+    if most.steps < count {
         return false;
     }
-    if sizes::LAYOUTS < layouts {
-        return false;
-    }
-    if sizes::VIEWS < views {
-        return false;
-    }
-    steps <= sizes::step_limit(edition)
+    cells_ok(edition, layouts, views, count, cs)
 }
 
 // A model that a sheet reads as: each number is within Sizes, and each unused place is zero.
@@ -132,20 +158,13 @@ pub fn writable(sheet: Sheet) -> bool
     ensures { λ r. ⌜ r ≡ writable sheet ⌝ }
 {
     let edition = sheet.edition;
-    let layouts = sheet.layouts;
-    let views = sheet.views;
-    let steps = sheet.steps;
-    if !counts_ok(edition, layouts, views, steps) {
+    if !editions::edition_ok(edition) {
         return false;
     }
-    let ls = sheet.layout;
-    if !layouts_ok(layouts, ls) {
-        return false;
-    }
-    let vs = sheet.view;
-    if !views_ok(views, vs) {
+    let tensors = sheet.tensors;
+    if !tensors_ok(tensors) {
         return false;
     }
     let cs = sheet.step;
-    steps_ok(edition, layouts, views, steps, cs)
+    steps_ok(edition, tensors.layouts, tensors.views, sheet.steps, cs)
 }

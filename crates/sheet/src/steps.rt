@@ -1,10 +1,14 @@
 // Steps: what a step must keep to, in a sheet of an edition with so many layouts and views.
 ghost use mathlib.Core.Path.{_≡_};
 ghost use Prim.Native.Nat.{_≤_, _<_};
-ghost use Rattle.sheet.specs.Steps.{noCell, fillOk, loadOk, storeOk, reduceOk, transposeOk, multiplyOk, wholeOk, stepOk, stepUnused};
+ghost use Rattle.sheet.specs.Steps.{noCell, fillOk, objectOk, viewingOk, windowOk, loadOk, storeOk, reduceOk, transposeOk, multiplyOk, wholeOk, stepOk, stepUnused};
 use super::Cell;
+use super::Object;
 use super::Step;
+use super::Viewing;
 use super::WholeStep;
+use super::Window;
+use super::editions;
 use super::sizes;
 
 pub fn no_cell() -> Cell
@@ -21,10 +25,10 @@ fn fill_ok(edition: u8, register: u8, rows: u8, columns: u8, kind: u8, value: u3
     if !sizes::register_ok(register) {
         return false;
     }
-    if !sizes::side_ok(edition, rows) {
+    if !editions::side_ok(edition, rows) {
         return false;
     }
-    if !sizes::side_ok(edition, columns) {
+    if !editions::side_ok(edition, columns) {
         return false;
     }
     if !kinds::kind_ok(kind) {
@@ -33,31 +37,54 @@ fn fill_ok(edition: u8, register: u8, rows: u8, columns: u8, kind: u8, value: u3
     kinds::fits(kind, value)
 }
 
-fn load_ok(layouts: usize, views: usize, register: u8, object: u8, layout: u8, view: u8) -> bool
-    ensures { λ r. ⌜ r ≡ loadOk layouts views register object layout view ⌝ }
+fn object_ok(object: Object) -> bool
+    ensures { λ r. ⌜ r ≡ objectOk object ⌝ }
 {
-    if !sizes::register_ok(register) {
-        return false;
+    match object {
+        Object::Kept => true,
+        Object::Register(register) => sizes::register_ok(register),
     }
-    if !sizes::option_ok(sizes::REGISTERS, object) {
-        return false;
-    }
-    if layouts <= layout as usize {
-        return false;
-    }
-    sizes::option_ok(views, view)
 }
 
-fn store_ok(layouts: usize, views: usize, register: u8, layout: u8, view: u8) -> bool
-    ensures { λ r. ⌜ r ≡ storeOk layouts views register layout view ⌝ }
+fn viewing_ok(views: usize, view: Viewing) -> bool
+    ensures { λ r. ⌜ r ≡ viewingOk views view ⌝ }
+{
+    match view {
+        Viewing::Plain => true,
+        Viewing::Through(v) => (v as usize) < views,
+    }
+}
+
+// Any base of 32 bits is within Sizes.
+fn window_ok(layouts: usize, views: usize, window: Window) -> bool
+    ensures { λ r. ⌜ r ≡ windowOk layouts views window ⌝ }
+{
+    if layouts <= window.layout as usize {
+        return false;
+    }
+    let view = window.view;
+    viewing_ok(views, view)
+}
+
+fn load_ok(layouts: usize, views: usize, register: u8, object: Object, window: Window) -> bool
+    ensures { λ r. ⌜ r ≡ loadOk layouts views register object window ⌝ }
 {
     if !sizes::register_ok(register) {
         return false;
     }
-    if layouts <= layout as usize {
+    if !object_ok(object) {
         return false;
     }
-    sizes::option_ok(views, view)
+    window_ok(layouts, views, window)
+}
+
+fn store_ok(layouts: usize, views: usize, register: u8, window: Window) -> bool
+    ensures { λ r. ⌜ r ≡ storeOk layouts views register window ⌝ }
+{
+    if !sizes::register_ok(register) {
+        return false;
+    }
+    window_ok(layouts, views, window)
 }
 
 fn reduce_ok(edition: u8, result: u8, source: u8, rows: u8, columns: u8) -> bool
@@ -69,10 +96,10 @@ fn reduce_ok(edition: u8, result: u8, source: u8, rows: u8, columns: u8) -> bool
     if !sizes::register_ok(source) {
         return false;
     }
-    if !sizes::side_ok(edition, rows) {
+    if !editions::side_ok(edition, rows) {
         return false;
     }
-    sizes::side_ok(edition, columns)
+    editions::side_ok(edition, columns)
 }
 
 fn transpose_ok(result: u8, source: u8) -> bool
@@ -123,7 +150,6 @@ fn whole_ok(edition: u8, step: WholeStep) -> bool
     }
 }
 
-// Any base of 32 bits is within Sizes.
 pub fn step_ok(edition: u8, layouts: usize, views: usize, step: Step) -> bool
     ensures { λ r. ⌜ r ≡ stepOk edition layouts views step ⌝ }
 {
@@ -132,16 +158,9 @@ pub fn step_ok(edition: u8, layouts: usize, views: usize, step: Step) -> bool
         Step::Load {
             register,
             object,
-            layout,
-            view,
-            base: _,
-        } => load_ok(layouts, views, register, object, layout, view),
-        Step::Store {
-            register,
-            layout,
-            view,
-            base: _,
-        } => store_ok(layouts, views, register, layout, view),
+            window,
+        } => load_ok(layouts, views, register, object, window),
+        Step::Store { register, window } => store_ok(layouts, views, register, window),
         Step::Whole(whole) => whole_ok(edition, whole),
     }
 }
@@ -154,15 +173,11 @@ pub fn step_unused(step: Step) -> bool
         Step::Load {
             register: _,
             object: _,
-            layout: _,
-            view: _,
-            base: _,
+            window: _,
         } => false,
         Step::Store {
             register: _,
-            layout: _,
-            view: _,
-            base: _,
+            window: _,
         } => false,
         Step::Whole(_) => false,
     }

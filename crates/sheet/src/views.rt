@@ -1,11 +1,13 @@
 // Views: the unused one, and what a view must keep to.
 ghost use mathlib.Core.Path.{_≡_};
 ghost use Prim.Native.Nat.{_≤_, _<_};
+ghost use Rattle.sheet.specs.Sizes.{rankPlaces};
 ghost use Rattle.sheet.specs.Views.{noViewDimension, noClip, noView, fresh, entryOk, permutationOk, viewDimensionUnused, viewDimensionAtOk, viewDimensionsOk, sizedRank, viewOk, clipUnused, viewUnused};
 use super::Clip;
 use super::View;
 use super::ViewDimension;
 use super::sizes;
+use super::sizes::RANK;
 
 pub fn no_view_dimension() -> ViewDimension
     ensures { λ r. ⌜ r ≡ noViewDimension ⌝ }
@@ -27,16 +29,16 @@ pub fn no_view() -> View
     View {
         rank: 0,
         sized: false,
-        permutation: [0u8; 5],
-        dimensions: [d; 5],
+        permutation: [0u8; RANK],
+        dimensions: [d; RANK],
         rows: clip,
         columns: clip,
     }
 }
 
 // Entry k differs from each one before it.
-fn fresh(p: [u8; 5], k: usize) -> bool
-    requires { ⌜ k < 5 ⌝ }
+fn fresh(p: [u8; RANK], k: usize) -> bool
+    requires { ⌜ k < rankPlaces ⌝ }
     ensures { λ r. ⌜ r ≡ fresh p k ⌝ }
 {
     let mut j = 0;
@@ -49,8 +51,8 @@ fn fresh(p: [u8; 5], k: usize) -> bool
     true
 }
 
-fn entry_ok(rank: u8, p: [u8; 5], k: usize) -> bool
-    requires { ⌜ k < 5 ⌝ }
+fn entry_ok(rank: u8, p: [u8; RANK], k: usize) -> bool
+    requires { ⌜ k < rankPlaces ⌝ }
     ensures { λ r. ⌜ r ≡ entryOk rank p k ⌝ }
 {
     let e = p[k];
@@ -63,12 +65,12 @@ fn entry_ok(rank: u8, p: [u8; 5], k: usize) -> bool
     e == 0
 }
 
-// Of five places the first `rank` hold each number below it once, the others 0.
-fn permutation_ok(rank: u8, p: [u8; 5]) -> bool
+// Of the places the first `rank` hold each number below it once, the others 0.
+fn permutation_ok(rank: u8, p: [u8; RANK]) -> bool
     ensures { λ r. ⌜ r ≡ permutationOk rank p ⌝ }
 {
     let mut k = 0;
-    while k < 5 {
+    while k < RANK {
         if !entry_ok(rank, p, k) {
             return false;
         }
@@ -87,8 +89,8 @@ fn view_dimension_unused(d: ViewDimension) -> bool
 }
 
 // Any stride of 16 bits is within Sizes.
-fn view_dimension_at_ok(count: u8, ds: [ViewDimension; 5], k: usize) -> bool
-    requires { ⌜ k < 5 ⌝ }
+fn view_dimension_at_ok(count: u8, ds: [ViewDimension; RANK], k: usize) -> bool
+    requires { ⌜ k < rankPlaces ⌝ }
     ensures { λ r. ⌜ r ≡ viewDimensionAtOk count ds k ⌝ }
 {
     let d = ds[k];
@@ -99,12 +101,12 @@ fn view_dimension_at_ok(count: u8, ds: [ViewDimension; 5], k: usize) -> bool
     }
 }
 
-// Of five places the first `count` hold a view dimension, the others nothing.
-fn view_dimensions_ok(count: u8, ds: [ViewDimension; 5]) -> bool
+// Of the places the first `count` hold a view dimension, the others nothing.
+fn view_dimensions_ok(count: u8, ds: [ViewDimension; RANK]) -> bool
     ensures { λ r. ⌜ r ≡ viewDimensionsOk count ds ⌝ }
 {
     let mut k = 0;
-    while k < 5 {
+    while k < RANK {
         if !view_dimension_at_ok(count, ds, k) {
             return false;
         }

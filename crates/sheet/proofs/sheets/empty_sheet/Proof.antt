@@ -3,11 +3,8 @@ use borrow.Author.Needs.{needs}
 use Rattle.sheet.proofs.sheets.empty_sheet.Statement.{statement}
 use Rattle.sheet.proofs.sheets.empty_sheet.Tie as tie
 
-no-layout-requires : tie.Need-no-layout-requires
-no-layout-requires c κs = search needs
-
-no-view-requires : tie.Need-no-view-requires
-no-view-requires c κs = search needs
+no-tensors-requires : tie.Need-no-tensors-requires
+no-tensors-requires c κs = search needs
 
 no-cell-requires : tie.Need-no-cell-requires
 no-cell-requires c κs = search needs
@@ -17,5 +14,4 @@ unfolding emptySheet
 returns c = cc
 
 pub empty-sheet-spec : {M : Type 1} → statement M
-empty-sheet-spec =
-    tie.close (tie.spec no-layout-requires no-view-requires no-cell-requires returns)
+empty-sheet-spec = tie.close (tie.spec no-tensors-requires no-cell-requires returns)

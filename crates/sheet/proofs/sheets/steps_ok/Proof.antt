@@ -1,56 +1,22 @@
-use mathlib.Core.Path.{_≡_, sym}
-use mathlib.Core.Bool.{true}
-use Prim.Native.Nat.{_-_, _≤_}
-use Rattle.numbers.specs.Choice.{went-not, went-past}
-use Rattle.numbers.specs.All.{all, all-none, all-more, all-false}
-use Rattle.sheet.specs.Sheets.{stepAtOk}
+use Rattle.numbers.specs.Choice.{tests, stop, pass}
+use Rattle.sheet.specs.Sheets.{stepsOk}
 use borrow.Author.Needs.{needs}
-use native.Mathlib.Omega.{arith}
 use Rattle.sheet.proofs.sheets.steps_ok.Statement.{statement}
 use Rattle.sheet.proofs.sheets.steps_ok.Tie as tie
 
-abbrev Inv-loop : tie.InvT-loop
-Inv-loop edition layouts views count cs k₀ k = (k ≤ 32) × (all k (stepAtOk edition layouts views count cs) ≡ true)
+limits-requires : tie.Need-limits-requires
+limits-requires c κs = search needs
 
-abbrev μ-loop : tie.MeasureT-loop
-μ-loop edition layouts views count cs k₀ k = 32 - k
+returns : tie.Need-returns
+unfolding stepsOk
+returns c = stop _ (rw (← c .before .before .limits .ensures) (search tests))
 
-loop-holds : tie.Need-loop-holds Inv-loop μ-loop
-loop-holds c = (search needs, all-none _)
+cells-ok-requires : tie.Need-cells-ok-requires
+cells-ok-requires c κs = search needs
 
-step-at-ok-requires : tie.Need-step-at-ok-requires Inv-loop μ-loop
-step-at-ok-requires c κs = search needs
-
-returns : tie.Need-returns Inv-loop μ-loop
-returns c =
-    sym (all-false 32 _ (c .before .before .before .loop .k) (c .before .before .loop-test .taken) (went-not (c .before .step-at-ok .ensures) (c .if1 .taken)))
-
-add-k : tie.Need-add-k Inv-loop μ-loop
-add-k c = search needs
-
-loop-less : tie.Need-loop-less Inv-loop μ-loop
-loop-less c = search needs
-
-loop-again : tie.Need-loop-again Inv-loop μ-loop
-loop-again c =
-    (search needs, all-more _ _ (c .before .before .before .loop .inv .1) (went-past (c .before .step-at-ok .ensures) (c .if1 .left)))
-
-returns-2 : tie.Need-returns-2 Inv-loop μ-loop
-returns-2 c =
-    let i = c .before .loop in
-    let e : i .k ≡ 32 = omega arith in
-    sym (rw e at (i .inv .1))
+returns-2 : tie.Need-returns-2
+unfolding stepsOk
+returns-2 c = pass (rw (← c .before .before .before .limits .ensures) (search tests)) (search tests)
 
 pub steps-ok-spec : {M : Type 1} → statement M
-steps-ok-spec =
-    tie.close
-    (tie.spec
-    Inv-loop
-    μ-loop
-    loop-holds
-    step-at-ok-requires
-    returns
-    add-k
-    loop-less
-    loop-again
-    returns-2)
+steps-ok-spec = tie.close (tie.spec limits-requires returns cells-ok-requires returns-2)

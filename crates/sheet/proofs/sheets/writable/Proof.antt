@@ -4,43 +4,34 @@ use borrow.Author.Needs.{needs}
 use Rattle.sheet.proofs.sheets.writable.Statement.{statement}
 use Rattle.sheet.proofs.sheets.writable.Tie as tie
 
-counts-ok-requires : tie.Need-counts-ok-requires
-counts-ok-requires c κs = search needs
+edition-ok-requires : tie.Need-edition-ok-requires
+edition-ok-requires c κs = search needs
 
 returns : tie.Need-returns
 unfolding writable
 returns c = stop _ (search tests)
 
-layouts-ok-requires : tie.Need-layouts-ok-requires
-layouts-ok-requires c κs = search needs
+tensors-ok-requires : tie.Need-tensors-ok-requires
+tensors-ok-requires c κs = search needs
 
 returns-2 : tie.Need-returns-2
 unfolding writable
 returns-2 c = pass (search tests) (stop _ (search tests))
 
-views-ok-requires : tie.Need-views-ok-requires
-views-ok-requires c κs = search needs
-
-returns-3 : tie.Need-returns-3
-unfolding writable
-returns-3 c = pass (search tests) (pass (search tests) (stop _ (search tests)))
-
 steps-ok-requires : tie.Need-steps-ok-requires
 steps-ok-requires c κs = search needs
 
-returns-4 : tie.Need-returns-4
+returns-3 : tie.Need-returns-3
 unfolding writable
-returns-4 c = pass (search tests) (pass (search tests) (pass (search tests) (search tests)))
+returns-3 c = pass (search tests) (pass (search tests) (search tests))
 
 pub writable-spec : {M : Type 1} → statement M
 writable-spec =
     tie.close
     (tie.spec
-    counts-ok-requires
+    edition-ok-requires
     returns
-    layouts-ok-requires
+    tensors-ok-requires
     returns-2
-    views-ok-requires
-    returns-3
     steps-ok-requires
-    returns-4)
+    returns-3)

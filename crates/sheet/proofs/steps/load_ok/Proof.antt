@@ -11,23 +11,19 @@ returns : tie.Need-returns
 unfolding loadOk
 returns c = stop _ (search tests)
 
-option-ok-requires : tie.Need-option-ok-requires
-option-ok-requires c κs = search needs
+object-ok-requires : tie.Need-object-ok-requires
+object-ok-requires c κs = search needs
 
 returns-2 : tie.Need-returns-2
 unfolding loadOk
 returns-2 c = pass (search tests) (stop _ (search tests))
 
+window-ok-requires : tie.Need-window-ok-requires
+window-ok-requires c κs = search needs
+
 returns-3 : tie.Need-returns-3
 unfolding loadOk
-returns-3 c = pass (search tests) (pass (search tests) (stop _ (search tests)))
-
-option-ok-requires-2 : tie.Need-option-ok-requires-2
-option-ok-requires-2 c κs = search needs
-
-returns-4 : tie.Need-returns-4
-unfolding loadOk
-returns-4 c = pass (search tests) (pass (search tests) (pass (search tests) (search tests)))
+returns-3 c = pass (search tests) (pass (search tests) (search tests))
 
 pub load-ok-spec : {M : Type 1} → statement M
 load-ok-spec =
@@ -35,8 +31,7 @@ load-ok-spec =
     (tie.spec
     register-ok-requires
     returns
-    option-ok-requires
+    object-ok-requires
     returns-2
-    returns-3
-    option-ok-requires-2
-    returns-4)
+    window-ok-requires
+    returns-3)

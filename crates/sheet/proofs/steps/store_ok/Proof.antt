@@ -11,17 +11,12 @@ returns : tie.Need-returns
 unfolding storeOk
 returns c = stop _ (search tests)
 
+window-ok-requires : tie.Need-window-ok-requires
+window-ok-requires c κs = search needs
+
 returns-2 : tie.Need-returns-2
 unfolding storeOk
-returns-2 c = pass (search tests) (stop _ (search tests))
-
-option-ok-requires : tie.Need-option-ok-requires
-option-ok-requires c κs = search needs
-
-returns-3 : tie.Need-returns-3
-unfolding storeOk
-returns-3 c = pass (search tests) (pass (search tests) (search tests))
+returns-2 c = pass (search tests) (search tests)
 
 pub store-ok-spec : {M : Type 1} → statement M
-store-ok-spec =
-    tie.close (tie.spec register-ok-requires returns returns-2 option-ok-requires returns-3)
+store-ok-spec = tie.close (tie.spec register-ok-requires returns window-ok-requires returns-2)

@@ -1,0 +1,4 @@
+-- What is proved of the definitions.
+pub mod Facts
+pub mod Editions
+pub mod Within

@@ -1,0 +1,16 @@
+-- The limits of each edition are within the places that arrays have, and an edition that is taken is above 0.
+use Prim.Native.Nat.{ℕ, _<_, _≤_}
+use mathlib.Core.Path.{_≡_}
+use mathlib.Core.Bool.{true}
+use native.Mathlib.Nat.{le-refl}
+use native.Mathlib.Omega.{arith}
+use borrow.Author.Tests.{eqb-true}
+use Rattle.sheet.specs.Sizes.{stepPlaces}
+use Rattle.sheet.specs.Editions.{editionOk, limits}
+
+pub edition-some : (edition : ℕ) → editionOk edition ≡ true → 0 < edition
+edition-some edition e = let q = eqb-true edition 1 e in omega arith
+
+pub limits-steps : (edition : ℕ) → limits edition .steps ≤ stepPlaces
+unfolding limits
+limits-steps edition = le-refl stepPlaces
