@@ -1,15 +1,47 @@
--- The numbers by which a sheet names a clamp mode, a reduce mode and a combine. A number past the table stands for the last entry here;
--- the reader tests it before.
+-- The numbers by which a sheet names its fields, a clamp mode, a reduce mode, a combine, an object and a view. A number past a table
+-- stands for the last entry here; the reader tests it before.
 use Prim.Native.Nat.{ℕ}
 use mathlib.Core.Bool.{Bool, true, false}
 use lib.Dec.{eqb}
 use Rattle.numbers.specs.Choice.{pick}
+use Rattle.sheet.specs.declared.Object.{Object}
+use Rattle.sheet.specs.declared.Object.the-variants.{Kept, Register}
+use Rattle.sheet.specs.declared.Viewing.{Viewing}
+use Rattle.sheet.specs.declared.Viewing.the-variants.{Plain, Through}
 use Rattle.sheet.specs.declared.ClampMode.{ClampMode}
 use Rattle.sheet.specs.declared.ClampMode.the-variants.{Undefined, Constant, ClampToEdge, Repeat, MirrorRepeat}
 use Rattle.sheet.specs.declared.ReduceMode.{ReduceMode}
 use Rattle.sheet.specs.declared.ReduceMode.the-variants.{Row, Column, Both, TwoByTwo}
 use Rattle.sheet.specs.declared.Combine.{Combine}
 use Rattle.sheet.specs.declared.Combine.the-variants.{Add, Min, Max, And, Or, Xor}
+
+-- the tags of fields
+abbrev pub editionTag : ℕ
+editionTag = 0x01
+
+abbrev pub layoutTag : ℕ
+layoutTag = 0x10
+
+abbrev pub viewTag : ℕ
+viewTag = 0x11
+
+abbrev pub fillTag : ℕ
+fillTag = 0x20
+
+abbrev pub loadTag : ℕ
+loadTag = 0x21
+
+abbrev pub storeTag : ℕ
+storeTag = 0x22
+
+abbrev pub reduceTag : ℕ
+reduceTag = 0x23
+
+abbrev pub transposeTag : ℕ
+transposeTag = 0x24
+
+abbrev pub multiplyTag : ℕ
+multiplyTag = 0x25
 
 abbrev pub undefined : ClampMode → Bool
 undefined Undefined = true
@@ -62,3 +94,21 @@ combineOf code =
     (pick (eqb code 3) And
     (pick (eqb code 4) Or
     Xor))))
+
+-- no object, no view
+abbrev pub none : ℕ
+none = 255
+
+abbrev pub objectCode : Object → ℕ
+objectCode Kept = none
+objectCode (Register register) = register
+
+unfoldable pub objectOf : ℕ → Object
+objectOf code = pick (eqb code none) Kept (Register code)
+
+abbrev pub viewingCode : Viewing → ℕ
+viewingCode Plain = none
+viewingCode (Through view) = view
+
+unfoldable pub viewingOf : ℕ → Viewing
+viewingOf code = pick (eqb code none) Plain (Through code)

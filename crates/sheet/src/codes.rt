@@ -1,9 +1,34 @@
-// The numbers by which a sheet names a clamp mode, a reduce mode and a combine. A number past the table gives the last entry.
+// The numbers by which a sheet names its fields, a clamp mode, a reduce mode, a combine, an object and a view. A number past a table
+// gives the last entry.
 ghost use mathlib.Core.Path.{_≡_};
-ghost use Rattle.sheet.specs.Codes.{undefined, clampCode, clampMode, reduceCode, reduceMode, combineCode, combineOf};
+ghost use Rattle.sheet.specs.Codes.{undefined, clampCode, clampMode, reduceCode, reduceMode, combineCode, combineOf, objectCode, objectOf, viewingCode, viewingOf};
 use super::ClampMode;
 use super::Combine;
+use super::Object;
 use super::ReduceMode;
+use super::Viewing;
+
+// The tags of fields.
+pub const EDITION_TAG: u8 = 0x01;
+
+pub const LAYOUT_TAG: u8 = 0x10;
+
+pub const VIEW_TAG: u8 = 0x11;
+
+pub const FILL_TAG: u8 = 0x20;
+
+pub const LOAD_TAG: u8 = 0x21;
+
+pub const STORE_TAG: u8 = 0x22;
+
+pub const REDUCE_TAG: u8 = 0x23;
+
+pub const TRANSPOSE_TAG: u8 = 0x24;
+
+pub const MULTIPLY_TAG: u8 = 0x25;
+
+// No object, no view.
+const NONE: u8 = 255;
 
 pub fn undefined(mode: ClampMode) -> bool
     ensures { λ r. ⌜ r ≡ undefined mode ⌝ }
@@ -87,4 +112,40 @@ pub fn combine_of(code: u8) -> Combine
         4 => Combine::Or,
         _ => Combine::Xor,
     }
+}
+
+pub fn object_code(object: Object) -> u8
+    ensures { λ r. ⌜ r ≡ objectCode object ⌝ }
+{
+    match object {
+        Object::Kept => NONE,
+        Object::Register(register) => register,
+    }
+}
+
+pub fn object_of(code: u8) -> Object
+    ensures { λ r. ⌜ r ≡ objectOf code ⌝ }
+{
+    if code == NONE {
+        return Object::Kept;
+    }
+    Object::Register(code)
+}
+
+pub fn viewing_code(view: Viewing) -> u8
+    ensures { λ r. ⌜ r ≡ viewingCode view ⌝ }
+{
+    match view {
+        Viewing::Plain => NONE,
+        Viewing::Through(v) => v,
+    }
+}
+
+pub fn viewing_of(code: u8) -> Viewing
+    ensures { λ r. ⌜ r ≡ viewingOf code ⌝ }
+{
+    if code == NONE {
+        return Viewing::Plain;
+    }
+    Viewing::Through(code)
 }
