@@ -1,0 +1,20 @@
+use Rattle.contents.specs.Contents.{viewDimensionAt}
+use borrow.Author.Needs.{needs}
+use Rattle.contents.proofs.view_dimension_at.Statement.{statement}
+use Rattle.contents.proofs.view_dimension_at.Tie as tie
+
+u16-at-requires : tie.Need-u16-at-requires
+u16-at-requires c κs = search needs
+
+add-u16-at : tie.Need-add-u16-at
+add-u16-at c = search needs
+
+u16-at-requires-2 : tie.Need-u16-at-requires-2
+u16-at-requires-2 c κs = search needs
+
+returns : tie.Need-returns
+unfolding viewDimensionAt
+returns c = cc
+
+pub view-dimension-at-spec : {M : Type 1} → statement M
+view-dimension-at-spec = tie.close (tie.spec u16-at-requires add-u16-at u16-at-requires-2 returns)
