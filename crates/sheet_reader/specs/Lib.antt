@@ -1,3 +1,2 @@
-pub mod Fields
-pub mod Contents
 pub mod Reading
+pub mod Laws

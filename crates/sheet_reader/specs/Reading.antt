@@ -5,7 +5,10 @@ use mathlib.Core.Bool.{Bool}
 use lib.ListN.{length, getD, set}
 use lib.Dec.{ltb, eqb}
 use Rattle.numbers.specs.Choice.{pick, both}
-use Rattle.sheet.specs.Sizes.{editionOk, stepLimit}
+use Rattle.refusals.specs.Refusals.{cutShort, unknownTag, outOfOrder, wrongLength, beyondSizes, unknownEdition, refusalAt, notRefused}
+use Rattle.sheet.specs.Sizes.{layoutPlaces, viewPlaces}
+use Rattle.sheet.specs.Editions.{editionOk, limits}
+use Rattle.sheet.specs.Codes.{editionTag, layoutTag, viewTag, fillTag, multiplyTag}
 use Rattle.sheet.specs.Layouts.{layoutOk}
 use Rattle.sheet.specs.Views.{viewOk}
 use Rattle.sheet.specs.Steps.{stepOk}
@@ -13,160 +16,122 @@ use Rattle.sheet.specs.Sheets.{emptySheet}
 use Rattle.sheet.specs.declared.Layout.{Layout}
 use Rattle.sheet.specs.declared.View.{View}
 use Rattle.sheet.specs.declared.Step.{Step}
+use Rattle.sheet.specs.declared.Tensors.{Tensors}
 use Rattle.sheet.specs.declared.Sheet.{Sheet}
-use Rattle.sheet_reader.specs.Fields.{fieldAt}
-use Rattle.sheet_reader.specs.Contents.{layoutAt, layoutLengthOk, layoutHeadOk, viewAt, viewLengthOk, viewHeadOk, stepAt, stepLength}
-use Rattle.sheet_reader.specs.declared.Taken.{Taken}
+use Rattle.fields.specs.Fields.{fieldAt}
+use Rattle.fields.specs.declared.Field.{Field}
+use Rattle.fields.specs.declared.Field.the-variants.{Whole, Short}
+use Rattle.contents.specs.Contents.{layoutAt, layoutLengthOk, layoutHeadOk, viewAt, viewLengthOk, viewHeadOk, stepAt, stepLength}
+use Rattle.sheet_reader.specs.declared.Given.{Given}
 use Rattle.sheet_reader.specs.declared.ReadAnswer.{ReadAnswer}
-use Rattle.sheet_reader.specs.declared.fields.Field.{Field}
-use Rattle.sheet_reader.specs.declared.fields.Field.the-variants.{Whole, Short}
 
-abbrev pub refuse : ℕ → Sheet → Taken
-refuse n sh = record { number = n; sheet = sh }
-
--- the sheet with one part more
-abbrev pub withEdition : Sheet → ℕ → Taken
-withEdition sh e =
-    record {
-      number = 0;
-      sheet =
-          record {
-            edition = e;
-            layouts = sh .layouts;
-            layout = sh .layout;
-            views = sh .views;
-            view = sh .view;
-            steps = sh .steps;
-            step = sh .step;
-          };
-    }
-
-abbrev pub withLayout : Sheet → Layout → Taken
-withLayout sh l =
-    record {
-      number = 0;
-      sheet =
-          record {
-            edition = sh .edition;
-            layouts = sh .layouts + 1;
-            layout = set (sh .layout) (sh .layouts) l;
-            views = sh .views;
-            view = sh .view;
-            steps = sh .steps;
-            step = sh .step;
-          };
-    }
-
-abbrev pub withView : Sheet → View → Taken
-withView sh v =
-    record {
-      number = 0;
-      sheet =
-          record {
-            edition = sh .edition;
-            layouts = sh .layouts;
-            layout = sh .layout;
-            views = sh .views + 1;
-            view = set (sh .view) (sh .views) v;
-            steps = sh .steps;
-            step = sh .step;
-          };
-    }
-
-abbrev pub withStep : Sheet → Step → Taken
-withStep sh p =
-    record {
-      number = 0;
-      sheet =
-          record {
-            edition = sh .edition;
-            layouts = sh .layouts;
-            layout = sh .layout;
-            views = sh .views;
-            view = sh .view;
-            steps = sh .steps + 1;
-            step = set (sh .step) (sh .steps) (record { step = p });
-          };
-    }
+-- what a sheet has so far
+abbrev pub givenOf : Sheet → Given
+givenOf sh = record { edition = sh .edition; layouts = sh .tensors .layouts; views = sh .tensors .views; steps = sh .steps }
 
 -- refusal 3: each part stands in its order, and there are not too many
-unfoldable pub layoutMayCome : ℕ → ℕ → ℕ → ℕ → Bool
-layoutMayCome edition layouts views steps =
-    both (ltb 0 edition) (both (eqb views 0) (both (eqb steps 0) (ltb layouts 4)))
+unfoldable pub layoutMayCome : Given → Bool
+layoutMayCome g = both (ltb 0 (g .edition)) (both (eqb (g .views) 0) (both (eqb (g .steps) 0) (ltb (g .layouts) layoutPlaces)))
 
-unfoldable pub viewMayCome : ℕ → ℕ → ℕ → Bool
-viewMayCome edition views steps = both (ltb 0 edition) (both (eqb steps 0) (ltb views 4))
+unfoldable pub viewMayCome : Given → Bool
+viewMayCome g = both (ltb 0 (g .edition)) (both (eqb (g .steps) 0) (ltb (g .views) viewPlaces))
 
-unfoldable pub stepMayCome : ℕ → ℕ → Bool
-stepMayCome edition steps = both (ltb 0 edition) (ltb steps (stepLimit edition))
+unfoldable pub stepMayCome : Given → Bool
+stepMayCome g = both (ltb 0 (g .edition)) (ltb (g .steps) (limits (g .edition) .steps))
 
-unfoldable pub takeEdition : List ℕ → ℕ → ℕ → Sheet → Taken
-takeEdition s p len sh =
-    pick (ltb 0 (sh .edition)) (refuse 3 sh)
+-- refusals 3, 4, 6 and 5 of a field whose content is the len bytes from p; 0 where it is taken
+unfoldable pub editionRefusal : List ℕ → ℕ → ℕ → Given → ℕ
+editionRefusal s p len g =
+    pick (ltb 0 (g .edition)) outOfOrder
     (pick (eqb len 1)
-    (pick (editionOk (getD s p 0)) (withEdition sh (getD s p 0)) (refuse 6 sh))
-    (refuse 4 sh))
+    (pick (editionOk (getD s p 0)) 0 unknownEdition)
+    wrongLength)
 
-unfoldable pub takeLayout : List ℕ → ℕ → ℕ → Sheet → Taken
-takeLayout s p len sh =
-    pick (layoutMayCome (sh .edition) (sh .layouts) (sh .views) (sh .steps))
+unfoldable pub layoutRefusal : List ℕ → ℕ → ℕ → Given → ℕ
+layoutRefusal s p len g =
+    pick (layoutMayCome g)
     (pick (layoutLengthOk len)
     (pick (layoutHeadOk s p len)
-    (pick (layoutOk (layoutAt s p)) (withLayout sh (layoutAt s p)) (refuse 5 sh))
-    (refuse 5 sh))
-    (refuse 4 sh))
-    (refuse 3 sh)
+    (pick (layoutOk (layoutAt s p)) 0 beyondSizes)
+    beyondSizes)
+    wrongLength)
+    outOfOrder
 
-unfoldable pub takeView : List ℕ → ℕ → ℕ → Sheet → Taken
-takeView s p len sh =
-    pick (viewMayCome (sh .edition) (sh .views) (sh .steps))
+unfoldable pub viewRefusal : List ℕ → ℕ → ℕ → Given → ℕ
+viewRefusal s p len g =
+    pick (viewMayCome g)
     (pick (viewLengthOk len)
     (pick (viewHeadOk s p len)
-    (pick (viewOk (viewAt s p)) (withView sh (viewAt s p)) (refuse 5 sh))
-    (refuse 5 sh))
-    (refuse 4 sh))
-    (refuse 3 sh)
+    (pick (viewOk (viewAt s p)) 0 beyondSizes)
+    beyondSizes)
+    wrongLength)
+    outOfOrder
 
-unfoldable pub takeStep : List ℕ → ℕ → ℕ → ℕ → Sheet → Taken
-takeStep s tag p len sh =
-    pick (stepMayCome (sh .edition) (sh .steps))
-    (pick (eqb len (stepLength (sh .edition) tag))
-    (pick (stepOk (sh .edition) (sh .layouts) (sh .views) (stepAt s tag p)) (withStep sh (stepAt s tag p)) (refuse 5 sh))
-    (refuse 4 sh))
-    (refuse 3 sh)
+unfoldable pub stepRefusal : List ℕ → ℕ → ℕ → ℕ → Given → ℕ
+stepRefusal s tag p len g =
+    pick (stepMayCome g)
+    (pick (eqb len (stepLength (g .edition) tag))
+    (pick (stepOk (g .edition) (g .layouts) (g .views) (stepAt s tag p)) 0 beyondSizes)
+    wrongLength)
+    outOfOrder
 
 -- the tag chooses: edition, layout, view, six steps, or refusal 2
-unfoldable pub takeField : List ℕ → ℕ → ℕ → ℕ → Sheet → Taken
-takeField s tag p len sh =
-    pick (eqb tag 0x01) (takeEdition s p len sh)
-    (pick (eqb tag 0x10) (takeLayout s p len sh)
-    (pick (eqb tag 0x11) (takeView s p len sh)
-    (pick (ltb tag 0x20) (refuse 2 sh)
-    (pick (ltb tag 0x26) (takeStep s tag p len sh)
-    (refuse 2 sh)))))
+unfoldable pub fieldRefusal : List ℕ → ℕ → ℕ → ℕ → Given → ℕ
+fieldRefusal s tag p len g =
+    pick (eqb tag editionTag) (editionRefusal s p len g)
+    (pick (eqb tag layoutTag) (layoutRefusal s p len g)
+    (pick (eqb tag viewTag) (viewRefusal s p len g)
+    (pick (ltb tag fillTag) unknownTag
+    (pick (ltb tag (suc multiplyTag)) (stepRefusal s tag p len g)
+    unknownTag))))
+
+-- the sheet with one part more
+abbrev pub withEdition : Sheet → ℕ → Sheet
+withEdition sh edition = record { edition = edition; tensors = sh .tensors; steps = sh .steps; step = sh .step }
+
+abbrev pub moreLayout : Tensors → Layout → Tensors
+moreLayout t l = record { layouts = t .layouts + 1; layout = set (t .layout) (t .layouts) l; views = t .views; view = t .view }
+
+abbrev pub moreView : Tensors → View → Tensors
+moreView t v = record { layouts = t .layouts; layout = t .layout; views = t .views + 1; view = set (t .view) (t .views) v }
+
+abbrev pub withTensors : Sheet → Tensors → Sheet
+withTensors sh t = record { edition = sh .edition; tensors = t; steps = sh .steps; step = sh .step }
+
+abbrev pub withStep : Sheet → Step → Sheet
+withStep sh p =
+    record { edition = sh .edition; tensors = sh .tensors; steps = sh .steps + 1; step = set (sh .step) (sh .steps) (record { step = p }) }
+
+-- the part that a field adds where it is not refused
+unfoldable pub withField : List ℕ → ℕ → ℕ → Sheet → Sheet
+withField s tag p sh =
+    pick (eqb tag editionTag) (withEdition sh (getD s p 0))
+    (pick (eqb tag layoutTag) (withTensors sh (moreLayout (sh .tensors) (layoutAt s p)))
+    (pick (eqb tag viewTag) (withTensors sh (moreView (sh .tensors) (viewAt s p)))
+    (withStep sh (stepAt s tag p))))
 
 -- refused: an empty sheet beside the number and the place, which is a byte
 unfoldable pub refusedRead : ℕ → ℕ → ReadAnswer
-refusedRead n place = record { refusal = record { number = n; place = place; element = 0 }; sheet = emptySheet }
+refusedRead n place = record { refusal = refusalAt n place 0; sheet = emptySheet }
 
 unfoldable pub acceptedRead : Sheet → ReadAnswer
-acceptedRead sh = record { refusal = record { number = 0; place = 0; element = 0 }; sheet = sh }
+acceptedRead sh = record { refusal = notRefused; sheet = sh }
 
 -- at the end: 3 where there is no edition
 unfoldable pub endRead : Sheet → ℕ → ReadAnswer
-endRead sh place = pick (ltb (sh .edition) 1) (refusedRead 3 place) (acceptedRead sh)
+endRead sh place = pick (ltb (sh .edition) 1) (refusedRead outOfOrder place) (acceptedRead sh)
 
 -- one field: reading is over, or goes on at a byte with a sheet
 pub data Turn : Type 0 where
   over : ReadAnswer → Turn
   on : ℕ → Sheet → Turn
 
-unfoldable pub turnTaken : ℕ → ℕ → Taken → Turn
-turnTaken at next got = pick (ltb 0 (got .number)) (over (refusedRead (got .number) at)) (on next (got .sheet))
-
 unfoldable pub turnField : List ℕ → ℕ → Sheet → Field → Turn
-turnField s at sh (Whole tag start len next) = turnTaken at (next .at) (takeField s tag start len sh)
-turnField s at sh Short = over (refusedRead 1 at)
+turnField s at sh (Whole tag start len next) =
+    pick (eqb (fieldRefusal s tag start len (givenOf sh)) 0)
+    (on (next .at) (withField s tag start sh))
+    (over (refusedRead (fieldRefusal s tag start len (givenOf sh)) at))
+turnField s at sh Short = over (refusedRead cutShort at)
 
 unfoldable pub turn : List ℕ → ℕ → Sheet → Turn
 turn s at sh = pick (ltb at (length s)) (turnField s at sh (fieldAt s at)) (over (endRead sh (length s)))
@@ -177,7 +142,7 @@ afterTurn f (on at sh) = f at sh
 
 -- at most n turns more, from a byte on; the last clause is never reached from readSheet
 unfoldable pub readFrom : ℕ → List ℕ → ℕ → Sheet → ReadAnswer
-readFrom zero s at sh = refusedRead 1 at
+readFrom zero s at sh = refusedRead cutShort at
 readFrom (suc n) s at sh = afterTurn (readFrom n s) (turn s at sh)
 
 -- each field has three bytes at least, so one turn more than there are bytes is enough

@@ -1,29 +1,37 @@
 // Reads a sheet: fields of a tag, a length and content.
-pub mod contents;
-pub mod fields;
-
 ghost use mathlib.Core.Path.{_≡_};
 ghost use Prim.Native.Nat.{_+_, _≤_, _<_};
 ghost use lib.ListN.{length};
-ghost use Rattle.sheet_reader.specs.Reading.{refuse, withEdition, withLayout, withView, withStep, layoutMayCome, viewMayCome, stepMayCome, takeEdition, takeLayout, takeView, takeStep, takeField, refusedRead, endRead, readSheet};
+ghost use Rattle.sheet.specs.Sizes.{layoutPlaces, viewPlaces};
+ghost use Rattle.sheet_reader.specs.Reading.{layoutMayCome, viewMayCome, stepMayCome, editionRefusal, layoutRefusal, viewRefusal, stepRefusal, fieldRefusal, moreLayout, moreView, refusedRead, endRead, readSheet};
 use fields::Cursor;
 use fields::Field;
+use refusals::BEYOND_SIZES;
+use refusals::CUT_SHORT;
+use refusals::OUT_OF_ORDER;
+use refusals::Refusal;
+use refusals::UNKNOWN_EDITION;
+use refusals::UNKNOWN_TAG;
+use refusals::WRONG_LENGTH;
 use sheet::Cell;
 use sheet::Layout;
-use sheet::Refusal;
 use sheet::Sheet;
-use sheet::Step;
+use sheet::Tensors;
 use sheet::View;
+use sheet::codes;
+use sheet::editions;
 use sheet::layouts;
 use sheet::sheets;
 use sheet::sizes;
 use sheet::steps;
 use sheet::views;
 
-// A sheet after one field more, or the number of the field's refusal with the sheet before it.
-pub struct Taken {
-    pub number: u8,
-    pub sheet: Sheet,
+// What a sheet has so far: its edition, 0 for none, and how many layouts, views and steps.
+pub struct Given {
+    pub edition: u8,
+    pub layouts: usize,
+    pub views: usize,
+    pub steps: usize,
 }
 
 // What reading gives: the sheet, or a refusal with an empty sheet.
@@ -32,187 +40,158 @@ pub struct ReadAnswer {
     pub sheet: Sheet,
 }
 
-fn refuse(number: u8, sheet: Sheet) -> Taken
-    ensures { λ r. ⌜ r ≡ refuse number sheet ⌝ }
-{
-    Taken { number, sheet }
-}
-
-fn with_edition(mut sheet: Sheet, edition: u8) -> Taken
-    ensures { λ r. ⌜ r ≡ withEdition sheet edition ⌝ }
-{
-    sheet.edition = edition;
-    Taken { number: 0, sheet }
-}
-
-fn with_layout(mut sheet: Sheet, l: Layout) -> Taken
-    requires { ⌜ sheet .layouts < 4 ⌝ }
-    ensures { λ r. ⌜ r ≡ withLayout sheet l ⌝ }
-{
-    let i = sheet.layouts;
-    sheet.layout[i] = l;
-    sheet.layouts = i + 1;
-    Taken { number: 0, sheet }
-}
-
-fn with_view(mut sheet: Sheet, v: View) -> Taken
-    requires { ⌜ sheet .views < 4 ⌝ }
-    ensures { λ r. ⌜ r ≡ withView sheet v ⌝ }
-{
-    let i = sheet.views;
-    sheet.view[i] = v;
-    sheet.views = i + 1;
-    Taken { number: 0, sheet }
-}
-
-fn with_step(mut sheet: Sheet, step: Step) -> Taken
-    requires { ⌜ sheet .steps < 32 ⌝ }
-    ensures { λ r. ⌜ r ≡ withStep sheet step ⌝ }
-{
-    let i = sheet.steps;
-    sheet.step[i] = Cell { step };
-    sheet.steps = i + 1;
-    Taken { number: 0, sheet }
-}
-
 // Refusal 3: a layout after the edition and before any view or step, and not too many.
-fn layout_may_come(edition: u8, layouts: usize, views: usize, steps: usize) -> bool
-    ensures { λ r. ⌜ r ≡ layoutMayCome edition layouts views steps ⌝ }
+fn layout_may_come(given: Given) -> bool
+    ensures { λ r. ⌜ r ≡ layoutMayCome given ⌝ }
 {
-    if edition < 1 {
+    if given.edition < 1 {
         return false;
     }
-    if views != 0 {
+    if given.views != 0 {
         return false;
     }
-    if steps != 0 {
+    if given.steps != 0 {
         return false;
     }
-    layouts < sizes::LAYOUTS
+    given.layouts < sizes::LAYOUTS
 }
 
-fn view_may_come(edition: u8, views: usize, steps: usize) -> bool
-    ensures { λ r. ⌜ r ≡ viewMayCome edition views steps ⌝ }
+fn view_may_come(given: Given) -> bool
+    ensures { λ r. ⌜ r ≡ viewMayCome given ⌝ }
 {
-    if edition < 1 {
+    if given.edition < 1 {
         return false;
     }
-    if steps != 0 {
+    if given.steps != 0 {
         return false;
     }
-    views < sizes::VIEWS
+    given.views < sizes::VIEWS
 }
 
-fn step_may_come(edition: u8, steps: usize) -> bool
-    ensures { λ r. ⌜ r ≡ stepMayCome edition steps ⌝ }
+fn step_may_come(given: Given) -> bool
+    ensures { λ r. ⌜ r ≡ stepMayCome given ⌝ }
 {
-    if edition < 1 {
+    if given.edition < 1 {
         return false;
     }
-    steps < sizes::step_limit(edition)
+    let most = editions::limits(given.edition);
+    given.steps < most.steps
 }
 
-fn take_edition(s: &[u8], start: usize, len: usize, sheet: Sheet) -> Taken
+fn edition_refusal(s: &[u8], start: usize, len: usize, given: Given) -> u8
     requires { ⌜ start + len ≤ length (now s) ⌝ }
-    ensures { λ r. ⌜ r ≡ takeEdition (now (s .entry)) start len sheet ⌝ }
+    ensures { λ r. ⌜ r ≡ editionRefusal (now (s .entry)) start len given ⌝ }
 {
-    let edition = sheet.edition;
-    if 0 < edition {
-        return refuse(3, sheet);
+    if 0 < given.edition {
+        return OUT_OF_ORDER;
     }
     if len != 1 {
-        return refuse(4, sheet);
+        return WRONG_LENGTH;
     }
-    let e = s[start];
-    if !sizes::edition_ok(e) {
-        return refuse(6, sheet);
+    if !editions::edition_ok(s[start]) {
+        return UNKNOWN_EDITION;
     }
-    with_edition(sheet, e)
+    0
 }
 
-fn take_layout(s: &[u8], start: usize, len: usize, sheet: Sheet) -> Taken
+fn layout_refusal(s: &[u8], start: usize, len: usize, given: Given) -> u8
     requires { ⌜ start + len ≤ length (now s) ⌝ }
-    ensures { λ r. ⌜ r ≡ takeLayout (now (s .entry)) start len sheet ⌝ }
+    ensures { λ r. ⌜ r ≡ layoutRefusal (now (s .entry)) start len given ⌝ }
 {
-    if !layout_may_come(sheet.edition, sheet.layouts, sheet.views, sheet.steps) {
-        return refuse(3, sheet);
+    if !layout_may_come(given) {
+        return OUT_OF_ORDER;
     }
     if !contents::layout_length_ok(len) {
-        return refuse(4, sheet);
+        return WRONG_LENGTH;
     }
     if !contents::layout_head_ok(s, start, len) {
-        return refuse(5, sheet);
+        return BEYOND_SIZES;
     }
     let l = contents::layout_at(s, start, len);
     if !layouts::layout_ok(l) {
-        return refuse(5, sheet);
+        return BEYOND_SIZES;
     }
-    with_layout(sheet, l)
+    0
 }
 
-fn take_view(s: &[u8], start: usize, len: usize, sheet: Sheet) -> Taken
+fn view_refusal(s: &[u8], start: usize, len: usize, given: Given) -> u8
     requires { ⌜ start + len ≤ length (now s) ⌝ }
-    ensures { λ r. ⌜ r ≡ takeView (now (s .entry)) start len sheet ⌝ }
+    ensures { λ r. ⌜ r ≡ viewRefusal (now (s .entry)) start len given ⌝ }
 {
-    if !view_may_come(sheet.edition, sheet.views, sheet.steps) {
-        return refuse(3, sheet);
+    if !view_may_come(given) {
+        return OUT_OF_ORDER;
     }
     if !contents::view_length_ok(len) {
-        return refuse(4, sheet);
+        return WRONG_LENGTH;
     }
     if !contents::view_head_ok(s, start, len) {
-        return refuse(5, sheet);
+        return BEYOND_SIZES;
     }
     let v = contents::view_at(s, start, len);
     if !views::view_ok(v) {
-        return refuse(5, sheet);
+        return BEYOND_SIZES;
     }
-    with_view(sheet, v)
+    0
 }
 
-fn take_step(s: &[u8], tag: u8, start: usize, len: usize, sheet: Sheet) -> Taken
+fn step_refusal(s: &[u8], tag: u8, start: usize, len: usize, given: Given) -> u8
     requires { ⌜ start + len ≤ length (now s) ⌝ }
-    ensures { λ r. ⌜ r ≡ takeStep (now (s .entry)) tag start len sheet ⌝ }
+    ensures { λ r. ⌜ r ≡ stepRefusal (now (s .entry)) tag start len given ⌝ }
 {
-    let edition = sheet.edition;
-    if !step_may_come(edition, sheet.steps) {
-        return refuse(3, sheet);
+    if !step_may_come(given) {
+        return OUT_OF_ORDER;
     }
+    let edition = given.edition;
     if len != contents::step_length(edition, tag) {
-        return refuse(4, sheet);
+        return WRONG_LENGTH;
     }
     let step = contents::step_at(s, edition, tag, start);
-    if !steps::step_ok(edition, sheet.layouts, sheet.views, step) {
-        return refuse(5, sheet);
+    if !steps::step_ok(edition, given.layouts, given.views, step) {
+        return BEYOND_SIZES;
     }
-    with_step(sheet, step)
+    0
 }
 
-// The field's tag chooses its reader.
-fn take_field(s: &[u8], tag: u8, start: usize, len: usize, sheet: Sheet) -> Taken
+// The field's tag chooses.
+fn field_refusal(s: &[u8], tag: u8, start: usize, len: usize, given: Given) -> u8
     requires { ⌜ start + len ≤ length (now s) ⌝ }
-    ensures { λ r. ⌜ r ≡ takeField (now (s .entry)) tag start len sheet ⌝ }
+    ensures { λ r. ⌜ r ≡ fieldRefusal (now (s .entry)) tag start len given ⌝ }
 {
     match tag {
-        0x01 => take_edition(s, start, len, sheet),
-        0x10 => take_layout(s, start, len, sheet),
-        0x11 => take_view(s, start, len, sheet),
-        0x20..=0x25 => take_step(s, tag, start, len, sheet),
-        _ => refuse(2, sheet),
+        codes::EDITION_TAG => edition_refusal(s, start, len, given),
+        codes::LAYOUT_TAG => layout_refusal(s, start, len, given),
+        codes::VIEW_TAG => view_refusal(s, start, len, given),
+        codes::FILL_TAG..=codes::MULTIPLY_TAG => step_refusal(s, tag, start, len, given),
+        _ => UNKNOWN_TAG,
     }
+}
+
+fn more_layout(mut t: Tensors, l: Layout) -> Tensors
+    requires { ⌜ t .layouts < layoutPlaces ⌝ }
+    ensures { λ r. ⌜ r ≡ moreLayout t l ⌝ }
+{
+    let i = t.layouts;
+    t.layout[i] = l;
+    t.layouts = i + 1;
+    t
+}
+
+fn more_view(mut t: Tensors, v: View) -> Tensors
+    requires { ⌜ t .views < viewPlaces ⌝ }
+    ensures { λ r. ⌜ r ≡ moreView t v ⌝ }
+{
+    let i = t.views;
+    t.view[i] = v;
+    t.views = i + 1;
+    t
 }
 
 fn refused_read(number: u8, place: usize) -> ReadAnswer
     ensures { λ r. ⌜ r ≡ refusedRead number place ⌝ }
 {
-    let sheet = sheets::empty_sheet();
     ReadAnswer {
-        refusal: Refusal {
-            number,
-            place,
-            element: 0,
-        },
-        sheet,
+        refusal: refusals::refusal_at(number, place, 0),
+        sheet: sheets::empty_sheet(),
     }
 }
 
@@ -221,24 +200,25 @@ fn end_read(sheet: Sheet, place: usize) -> ReadAnswer
 {
     let edition = sheet.edition;
     if edition < 1 {
-        return refused_read(3, place);
+        return refused_read(OUT_OF_ORDER, place);
     }
     ReadAnswer {
-        refusal: Refusal {
-            number: 0,
-            place: 0,
-            element: 0,
-        },
+        refusal: refusals::not_refused(),
         sheet,
     }
 }
 
-// The sheet that the bytes are, or the number and the place of the first refusal with an empty sheet.
+// The sheet that the bytes are, or the number and the place of the first refusal with an empty sheet. Each part is put in its place as
+// it is read, so that no field copies the sheet.
 pub fn read_sheet(s: &[u8]) -> ReadAnswer
     ensures { λ r. ⌜ r ≡ readSheet (now (s .entry)) ⌝ }
 {
+    let empty = sheets::empty_sheet();
     let mut c = Cursor { at: 0 };
-    let mut sheet = sheets::empty_sheet();
+    let mut edition = empty.edition;
+    let mut tensors = empty.tensors;
+    let mut count = empty.steps;
+    let mut step = empty.step;
     while c.at < s.len() {
         let at = c.at;
         let Field::Whole {
@@ -248,16 +228,45 @@ pub fn read_sheet(s: &[u8]) -> ReadAnswer
             next,
         } = c.field(s)
         else {
-            return refused_read(1, at);
+            return refused_read(CUT_SHORT, at);
         };
-        let got = take_field(s, tag, start, len, sheet);
-        let number = got.number;
+        let given = Given {
+            edition,
+            layouts: tensors.layouts,
+            views: tensors.views,
+            steps: count,
+        };
+        let number = field_refusal(s, tag, start, len, given);
         if 0 < number {
             return refused_read(number, at);
         }
-        let after = got.sheet;
-        sheet = after;
         c = next;
+        if tag == codes::EDITION_TAG {
+            edition = s[start];
+            continue;
+        }
+        if tag == codes::LAYOUT_TAG {
+            let more = more_layout(tensors, contents::layout_at(s, start, len));
+            tensors = more;
+            continue;
+        }
+        if tag == codes::VIEW_TAG {
+            let more = more_view(tensors, contents::view_at(s, start, len));
+            tensors = more;
+            continue;
+        }
+        step[count] = Cell {
+            step: contents::step_at(s, edition, tag, start),
+        };
+        count += 1;
     }
-    end_read(sheet, s.len())
+    end_read(
+        Sheet {
+            edition,
+            tensors,
+            steps: count,
+            step,
+        },
+        s.len(),
+    )
 }

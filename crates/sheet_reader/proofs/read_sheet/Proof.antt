@@ -4,34 +4,75 @@ use native.Mathlib.Omega.{arith}
 use denote.Ref.{now}
 use lib.ListN.{length}
 use borrow.Author.Needs.{needs}
-use Rattle.sheet_reader.specs.Fields.{fieldAt}
-use Rattle.sheet_reader.specs.Reading.{readFrom, readSheet}
-use Rattle.sheet_reader.specs.declared.fields.Field.the-variants.{Whole}
-use Rattle.sheet_reader.proofs.Laws.{FieldIn, field-in, turn-on, turn-over, turn-end, turn-short, turn-refused, turn-next}
+use mathlib.Core.List.{List}
+use Rattle.sheet.specs.Sizes.{stepPlaces}
+use Rattle.sheet.specs.declared.Sheet.{Sheet}
+use Rattle.fields.specs.Fields.{fieldAt}
+use Rattle.fields.specs.declared.Cursor.{Cursor}
+use Rattle.fields.specs.declared.Cursor.{Cursor}
+use Rattle.fields.specs.declared.Field.the-variants.{Whole}
+use Rattle.fields.specs.Laws.Bounds.{FieldIn, field-in}
+use Rattle.contents.specs.Laws.Heads.{layout-room, view-room}
+use Rattle.sheet_reader.specs.Reading.{givenOf, withField, readFrom, readSheet}
+use Rattle.sheet_reader.specs.Laws.Taken.{Took, took, took-edition, took-layout, took-view, took-step, StepTaken, layout-place, view-place, step-place}
+use Rattle.sheet_reader.specs.Laws.Turns.{turn-on, turn-over, turn-end, turn-short, turn-refused, turn-next, with-edition, with-layout, with-view, with-step}
 use Rattle.sheet_reader.proofs.read_sheet.Statement.{statement}
 use Rattle.sheet_reader.proofs.read_sheet.Tie as tie
 
+-- what is left to read, from a byte with the sheet so far, is the whole
+abbrev Left : List ℕ → ℕ → Sheet → Type 0
+Left s at sh = (at ≤ length s) × ((f : ℕ) × ((length s < at + f) × (readFrom f s at sh ≡ readSheet s)))
+
 abbrev Inv-loop : tie.InvT-loop
-Inv-loop s c₀ sheet₀ c sheet = (c .at ≤ length s) × ((f : ℕ) × ((length s < c .at + f) × (readFrom f s (c .at) sheet ≡ readSheet s)))
+Inv-loop s c₀ edition₀ tensors₀ count₀ step₀ c edition tensors count step =
+    Left s (c .at) (record { edition = edition; tensors = tensors; steps = count; step = step })
 
 abbrev μ-loop : tie.MeasureT-loop
-μ-loop s c₀ sheet₀ c sheet = length s - c .at
+μ-loop s c₀ edition₀ tensors₀ count₀ step₀ c edition tensors count step = length s - c .at
 
 empty-sheet-requires : tie.Need-empty-sheet-requires Inv-loop μ-loop
 empty-sheet-requires c κs = search needs
 
--- the field that a turn takes: what it is, and where it lies
-the-field : (c : tie.After-known-told Inv-loop μ-loop) → let g = c .before .tag .given .0 in fieldAt (now (c .before .before .before .before .before .before .before .before .before .args .s)) (c .before .before .before .before .before .before .loop .c .at) ≡ Whole (g .0) (g .1 .0) (g .1 .1 .0) (g .1 .1 .1 .0)
-the-field c = sym (c .before .before .before .field .ensures) ∙ c .before .tag .given .1
-
-its-place : (c : tie.After-known-told Inv-loop μ-loop) → let g = c .before .tag .given .0 in FieldIn (now (c .before .before .before .before .before .before .before .before .before .args .s)) (c .before .before .before .before .before .before .loop .c .at) (g .1 .0) (g .1 .1 .0) (g .1 .1 .1 .0)
-its-place c = field-in _ _ _ _ _ _ (the-field c)
-
 loop-holds : tie.Need-loop-holds Inv-loop μ-loop
 unfolding readSheet
 loop-holds c =
-    let l = length (now (c .before .before .args .s)) in
-    (search needs, (suc l, (omega arith, ap (readFrom (suc l) (now (c .before .before .args .s)) 0) (c .empty-sheet .ensures))))
+    let s = now (c .before .before .before .before .args .s) in
+    let l = length s in
+    (omega arith, (suc l, (omega arith, ap (readFrom (suc l) s 0) (c .before .before .empty-sheet .ensures))))
+
+-- the field that a turn takes: what it is, and where it lies
+module _ (c : tie.After-known-told Inv-loop μ-loop) where
+  abbrev s : List ℕ
+  s = now (c .before .before .before .before .before .before .before .before .before .before .before .args .s)
+
+  abbrev here : ℕ
+  here = c .before .before .before .before .before .before .loop .c .at
+
+  abbrev tag : ℕ
+  tag = c .before .tag .given .0 .0
+
+  abbrev start : ℕ
+  start = c .before .tag .given .0 .1 .0
+
+  abbrev len : ℕ
+  len = c .before .tag .given .0 .1 .1 .0
+
+  abbrev next : Cursor
+  next = c .before .tag .given .0 .1 .1 .1 .0
+
+  abbrev sofar : Sheet
+  sofar =
+      let i = c .before .before .before .before .before .before .loop in
+      record { edition = i .edition; tensors = i .tensors; steps = i .count; step = i .step }
+
+  the-field : fieldAt s here ≡ Whole tag start len next
+  the-field = sym (c .before .before .before .field .ensures) ∙ c .before .tag .given .1
+
+  its-place : FieldIn s here start len next
+  its-place = field-in _ _ _ _ _ _ the-field
+
+  inside : here < length s
+  inside = c .before .before .before .before .if1 .taken
 
 field-requires : tie.Need-field-requires Inv-loop μ-loop
 field-requires c κs = search needs
@@ -48,10 +89,14 @@ refused-read-requires c κs = search needs
 returns : tie.Need-returns Inv-loop μ-loop
 returns c =
     let i = c .before .before .before .before .before .before .loop in
-    c .refused-read .ensures ∙ sym (turn-over _ (i .c .at) (i .sheet) (i .inv .1 .0) (omega (arith, i .inv)) (turn-short _ _ _ (c .before .before .before .before .if1 .taken) (sym (c .before .before .before .field .ensures) ∙ c .before .enum-told .given .1))) ∙ i .inv .1 .1 .1
+    c .refused-read .ensures
+    ∙ sym
+    (turn-over _ (i .c .at) _ (i .inv .1 .0) (omega (arith, i .inv))
+    (turn-short _ _ _ (c .before .before .before .before .if1 .taken) (sym (c .before .before .before .field .ensures) ∙ c .before .enum-told .given .1)))
+    ∙ i .inv .1 .1 .1
 
-take-field-requires : tie.Need-take-field-requires Inv-loop μ-loop
-take-field-requires c κs = its-place c .within
+field-refusal-requires : tie.Need-field-refusal-requires Inv-loop μ-loop
+field-refusal-requires c κs = its-place c .within
 
 refused-read-requires-2 : tie.Need-refused-read-requires-2 Inv-loop μ-loop
 refused-read-requires-2 c κs = search needs
@@ -62,31 +107,101 @@ returns-2 c =
     let i = c .before .before .before .before .before .before .before .before .before .loop in
     c .refused-read2 .ensures
     ∙ sym
-    (turn-over _ (i .c .at) (i .sheet) (i .inv .1 .0) (omega (arith, i .inv, c .before .before .before .before .before .before .before .if1 .taken))
-    (turn-refused _ _ _ (c .before .before .before .before .before .before .before .if1 .taken) (the-field k) (c .before .before .take-field .ensures) (c .before .if2 .taken)))
+    (turn-over _ (i .c .at) _ (i .inv .1 .0) (omega (arith, i .inv, inside k))
+    (turn-refused _ _ (sofar k) (inside k) (the-field k) (c .before .before .field-refusal .ensures) (c .before .if2 .taken)))
     ∙ i .inv .1 .1 .1
 
+-- a field that is not refused
+module _ (c : tie.Else2 Inv-loop μ-loop) where
+  its-way : Took (s (c .before .before)) (start (c .before .before)) (len (c .before .before)) (givenOf (sofar (c .before .before))) (tag (c .before .before))
+  its-way = took _ _ _ _ _ (sym (c .before .field-refusal .ensures) ∙ omega (arith, c .if2 .left))
+
+  -- reading goes on past it, with what it adds
+  goes-on : (sh : Sheet) → sh ≡ withField (s (c .before .before)) (tag (c .before .before)) (start (c .before .before)) (sofar (c .before .before)) → Left (s (c .before .before)) (next (c .before .before) .at) sh
+  goes-on sh e =
+      let k = c .before .before in
+      let i = c .before .before .before .before .before .before .before .before .loop in
+      let p = its-place k in (
+        omega (arith, p),
+        (
+          i .inv .1 .0 - 1,
+          (
+            omega (arith, p, i .inv),
+            sym
+                (turn-on _ (i .c .at) _ (i .inv .1 .0) (omega (arith, i .inv, inside k))
+                (turn-next _ _ (sofar k) (inside k) (the-field k) (c .before .field-refusal .ensures) (c .if2 .left) e))
+                ∙ i .inv .1 .1 .1,
+          ),
+        ),
+      )
+
+  further : length (s (c .before .before)) - next (c .before .before) .at < length (s (c .before .before)) - here (c .before .before)
+  further = let p = its-place (c .before .before) in omega (arith, p, inside (c .before .before))
+
+shared-slice-read-edition : tie.Need-shared-slice-read-edition Inv-loop μ-loop
+shared-slice-read-edition c =
+    let t = took-edition _ _ _ _ (its-way (c .before .before)) (c .before .if3 .taken) in
+    omega (arith, its-place (c .before .before .before .before), t .one)
+
 loop-less : tie.Need-loop-less Inv-loop μ-loop
-loop-less c =
-    let p = its-place (c .before .before .before) in
-    omega (arith, p, c .before .before .before .before .before .before .before .if1 .taken)
+loop-less c = further (c .before .before)
 
 loop-again : tie.Need-loop-again Inv-loop μ-loop
-loop-again c =
-    let p = its-place (c .before .before .before) in
-    let i = c .before .before .before .before .before .before .before .before .before .loop in (
-      omega (arith, p),
-      (
-        i .inv .1 .0 - 1,
-        (
-          omega (arith, p, i .inv),
-          sym
-              (turn-on _ (i .c .at) (i .sheet) (i .inv .1 .0) (omega (arith, i .inv, c .before .before .before .before .before .before .before .if1 .taken))
-              (turn-next _ _ _ (c .before .before .before .before .before .before .before .if1 .taken) (the-field (c .before .before .before)) (c .before .before .take-field .ensures) (c .before .if2 .left)))
-              ∙ i .inv .1 .1 .1,
-        ),
-      ),
-    )
+loop-again c = goes-on (c .before .before) _ (with-edition _ _ _ (sofar (c .before .before .before .before)) (c .before .if3 .taken))
+
+layout-at-requires : tie.Need-layout-at-requires Inv-loop μ-loop
+layout-at-requires c κs =
+    let t = took-layout _ _ _ _ (its-way (c .before .before)) (c .if4 .taken) in
+    (layout-room _ (t .long), its-place (c .before .before .before .before) .within, t .head)
+
+more-layout-requires : tie.Need-more-layout-requires Inv-loop μ-loop
+more-layout-requires c κs = layout-place _ (took-layout _ _ _ _ (its-way (c .before .before .before)) (c .before .if4 .taken) .may)
+
+loop-less-2 : tie.Need-loop-less-2 Inv-loop μ-loop
+loop-less-2 c = further (c .before .before .before .before)
+
+loop-again-2 : tie.Need-loop-again-2 Inv-loop μ-loop
+loop-again-2 c = goes-on (c .before .before .before .before) _ (with-layout _ _ _ (sofar (c .before .before .before .before .before .before)) (c .before .before .if4 .taken) (c .before .layout-at .ensures) (c .more-layout .ensures))
+
+view-at-requires : tie.Need-view-at-requires Inv-loop μ-loop
+view-at-requires c κs =
+    let t = took-view _ _ _ _ (its-way (c .before .before .before)) (c .if5 .taken) in
+    (view-room _ (t .long), its-place (c .before .before .before .before .before) .within, t .head)
+
+more-view-requires : tie.Need-more-view-requires Inv-loop μ-loop
+more-view-requires c κs = view-place _ (took-view _ _ _ _ (its-way (c .before .before .before .before)) (c .before .if5 .taken) .may)
+
+loop-less-3 : tie.Need-loop-less-3 Inv-loop μ-loop
+loop-less-3 c = further (c .before .before .before .before .before)
+
+loop-again-3 : tie.Need-loop-again-3 Inv-loop μ-loop
+loop-again-3 c = goes-on (c .before .before .before .before .before) _ (with-view _ _ _ (sofar (c .before .before .before .before .before .before .before)) (c .before .before .if5 .taken) (c .before .view-at .ensures) (c .more-view .ensures))
+
+-- a field that is none of these is a step
+module _ (c : tie.Else5 Inv-loop μ-loop) where
+  step-way : StepTaken (s (c .before .before .before .before .before)) (start (c .before .before .before .before .before)) (len (c .before .before .before .before .before)) (givenOf (sofar (c .before .before .before .before .before))) (tag (c .before .before .before .before .before))
+  step-way = took-step _ _ _ _ (its-way (c .before .before .before)) (c .before .before .if3 .left) (c .before .if4 .left) (c .if5 .left)
+
+  step-room : c .before .before .before .before .before .before .before .before .before .before .before .loop .count < stepPlaces
+  step-room = step-place _ (step-way .may)
+
+step-at-requires : tie.Need-step-at-requires Inv-loop μ-loop
+step-at-requires c κs = omega (arith, its-place (c .before .before .before .before .before), step-way c .long)
+
+mul-step : tie.Need-mul-step Inv-loop μ-loop
+mul-step c = omega (arith, step-room (c .before))
+
+array-set-from-step : tie.Need-array-set-from-step Inv-loop μ-loop
+array-set-from-step c = step-room (c .before)
+
+add-count : tie.Need-add-count Inv-loop μ-loop
+add-count c = omega (arith, step-room (c .before))
+
+loop-less-4 : tie.Need-loop-less-4 Inv-loop μ-loop
+loop-less-4 c = further (c .before .before .before .before)
+
+loop-again-4 : tie.Need-loop-again-4 Inv-loop μ-loop
+loop-again-4 c = goes-on (c .before .before .before .before) _ (with-step _ _ _ (sofar (c .before .before .before .before .before .before)) (c .before .before .before .if3 .left) (c .before .before .if4 .left) (c .before .if5 .left) (c .step-at .ensures))
 
 end-read-requires : tie.Need-end-read-requires Inv-loop μ-loop
 end-read-requires c κs = search needs
@@ -95,7 +210,7 @@ returns-3 : tie.Need-returns-3 Inv-loop μ-loop
 returns-3 c =
     let i = c .before .before .before .loop in
     c .end-read .ensures
-    ∙ sym (turn-over _ (i .c .at) (i .sheet) (i .inv .1 .0) (omega (arith, i .inv)) (turn-end _ _ _ (c .before .if1 .left)))
+    ∙ sym (turn-over _ (i .c .at) _ (i .inv .1 .0) (omega (arith, i .inv)) (turn-end _ _ _ (c .before .if1 .left)))
     ∙ i .inv .1 .1 .1
 
 pub read-sheet-spec : {M : Type 1} → statement M
@@ -111,10 +226,25 @@ read-sheet-spec =
     enum-told
     refused-read-requires
     returns
-    take-field-requires
+    field-refusal-requires
     refused-read-requires-2
     returns-2
+    shared-slice-read-edition
     loop-less
     loop-again
+    layout-at-requires
+    more-layout-requires
+    loop-less-2
+    loop-again-2
+    view-at-requires
+    more-view-requires
+    loop-less-3
+    loop-again-3
+    step-at-requires
+    mul-step
+    array-set-from-step
+    add-count
+    loop-less-4
+    loop-again-4
     end-read-requires
     returns-3)

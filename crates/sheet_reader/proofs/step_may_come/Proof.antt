@@ -8,12 +8,12 @@ returns : tie.Need-returns
 unfolding stepMayCome
 returns c = stop _ (search tests)
 
-step-limit-requires : tie.Need-step-limit-requires
-step-limit-requires c κs = search needs
+limits-requires : tie.Need-limits-requires
+limits-requires c κs = search needs
 
 returns-2 : tie.Need-returns-2
 unfolding stepMayCome
-returns-2 c = pass (search tests) (rw (← c .step-limit .ensures))
+returns-2 c = pass (search tests) (rw (← c .before .before .limits .ensures))
 
 pub step-may-come-spec : {M : Type 1} → statement M
-step-may-come-spec = tie.close (tie.spec returns step-limit-requires returns-2)
+step-may-come-spec = tie.close (tie.spec returns limits-requires returns-2)
