@@ -1,3 +1,5 @@
 -- What is proved of the definitions.
 pub mod Taken
 pub mod Turns
+pub mod Ways
+pub mod Growing
