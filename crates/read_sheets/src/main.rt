@@ -12,8 +12,8 @@ fn show(name: &[u8], s: &[u8]) {
     print(r.refusal.number as usize, b" ");
     print(r.refusal.place, b" ");
     print(r.refusal.element, b": ");
-    print(r.sheet.layouts, b" ");
-    print(r.sheet.views, b" ");
+    print(r.sheet.tensors.layouts, b" ");
+    print(r.sheet.tensors.views, b" ");
     print(r.sheet.steps, b"\n");
 }
 
