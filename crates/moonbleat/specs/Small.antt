@@ -34,12 +34,15 @@ use Rattle.accesses.specs.Refusals as accesses
 use Rattle.accesses.specs.Refusals.{elementOutcome, misplaced, ranksDiffer, storeBlocked, firstRefused, sameAt, clashFrom, clashRefusal, elementsRefusal, accessRefusal}
 use Rattle.stops.specs.declared.Stop.{Stop}
 use Rattle.whole_steps.specs.Within.{refusal-element}
-use Rattle.carrying.specs.Steps.{accessOf, objectOf, loadCheck, storeCheck, checkedStep, Machine}
-use Rattle.carrying.specs.Carrying.{memoryLimit, checkedFrom, checked, checkedSheet, performed, started, carried}
-use Rattle.carrying.specs.Types.{check-sized, within-step}
-use Rattle.carrying.specs.Counts.{step-placed, sheet-count}
-use Rattle.carrying.specs.declared.StepCheck.{StepCheck}
-use Rattle.carrying.specs.declared.CheckAnswer.{CheckAnswer}
+use Rattle.checking.specs.Steps.{accessOf, objectOf, loadCheck, storeCheck, checkedStep}
+use Rattle.carrying.specs.Steps.{Machine}
+use Rattle.checking.specs.Checking.{memoryLimit, checkedFrom, checked, checkedSheet}
+use Rattle.carrying.specs.Carrying.{performed, started, carried}
+use Rattle.checking.specs.Laws.Steps.{check-sized, step-placed}
+use Rattle.checking.specs.Laws.Turns.{within-step}
+use Rattle.carrying.specs.Theorems.Counts.{sheet-count}
+use Rattle.checking.specs.declared.StepCheck.{StepCheck}
+use Rattle.checking.specs.declared.CheckAnswer.{CheckAnswer}
 use Rattle.carrying.specs.declared.CarryAnswer.{CarryAnswer}
 use Rattle.records.specs.declared.Decoded.{Decoded}
 use Rattle.tape.specs.Translating.{fitsRoom, translated}

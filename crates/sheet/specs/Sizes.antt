@@ -21,6 +21,10 @@ pub step-limit-places : (edition : ℕ) → stepLimit edition ≤ 32
 unfolding stepLimit
 step-limit-places edition = le-refl 32
 
+-- the most records of a tape
+unfoldable pub recordLimit : ℕ → ℕ
+recordLimit edition = 1024
+
 -- a layout or a view has 1 to 5 dimensions
 abbrev pub rankOk : ℕ → Bool
 rankOk rank = between 1 5 rank

@@ -1,7 +1,7 @@
 // The limits of document 01's Sizes.
 ghost use mathlib.Core.Path.{_≡_};
 ghost use Prim.Native.Nat.{_≤_, _<_};
-ghost use Rattle.sheet.specs.Sizes.{editionOk, sideLimit, stepLimit, rankOk, sizeOk, offsetOk, sideOk, registerOk, optionOk};
+ghost use Rattle.sheet.specs.Sizes.{editionOk, sideLimit, stepLimit, recordLimit, rankOk, sizeOk, offsetOk, sideOk, registerOk, optionOk};
 
 // The places that a layout's and a view's dimensions have.
 pub const RANK: usize = 5;
@@ -34,6 +34,13 @@ pub fn step_limit(edition: u8) -> usize
     ensures { λ r. ⌜ r ≡ stepLimit edition ⌝ }
 {
     STEPS
+}
+
+// The most records of a tape.
+pub fn record_limit(edition: u8) -> usize
+    ensures { λ r. ⌜ r ≡ recordLimit edition ⌝ }
+{
+    1024
 }
 
 // A layout or a view has 1 to 5 dimensions.

@@ -33,12 +33,13 @@ use Rattle.sheet.specs.declared.Step.{Step}
 use Rattle.sheet.specs.declared.Step.the-variants.{Nothing, Load, Store, Whole}
 use Rattle.registers.specs.Types.{theType}
 use Rattle.registers.specs.declared.MatrixType.{MatrixType}
-use Rattle.carrying.specs.Steps.{accessOf, objectOf, checkedStep}
-use Rattle.carrying.specs.Carrying.{checkedFrom, checked, checkedSheet, refusalAt}
-use Rattle.carrying.specs.Types.{check-sized, first-clear, rest-clear}
-use Rattle.carrying.specs.Loops.{one-less}
-use Rattle.carrying.specs.declared.CheckAnswer.{CheckAnswer}
-use Rattle.carrying.specs.Accesses.{Clear, load-accepted, store-accepted}
+use Rattle.checking.specs.Steps.{accessOf, objectOf, checkedStep}
+use Rattle.checking.specs.Checking.{checkedFrom, checked, checkedSheet, refusalAt}
+use Rattle.checking.specs.Laws.Steps.{check-sized}
+use Rattle.checking.specs.Laws.Turns.{first-clear, rest-clear, one-less}
+use Rattle.checking.specs.declared.CheckAnswer.{CheckAnswer}
+use Rattle.checking.specs.Clear.{Clear}
+use Rattle.checking.specs.Laws.Accesses.{load-accepted, store-accepted}
 use Rattle.records.specs.declared.Record.{Record}
 use Rattle.records.specs.declared.Record.the-variants.{Copy}
 use Rattle.records.specs.Records.{recordNumbers, tapeNumbers}

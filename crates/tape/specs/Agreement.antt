@@ -15,8 +15,11 @@ use Rattle.sheet.specs.declared.Sheet.{Sheet}
 use Rattle.round_trip.specs.Sheets.{Within}
 use Rattle.registers.specs.declared.MatrixType.{MatrixType}
 use Rattle.carrying.specs.Steps.{Machine, performedStep}
-use Rattle.carrying.specs.Carrying.{refusalAt, memoryLimit, checked, performedFrom, performed, started}
-use Rattle.carrying.specs.Types.{checkOn, Accepted, Formed, checkFrom, typesFrom, step-types, step-length, step-formed, first-accepted, rest-checked, within-step, started-formed}
+use Rattle.checking.specs.Checking.{refusalAt, memoryLimit, checked}
+use Rattle.carrying.specs.Carrying.{performedFrom, performed, started}
+use Rattle.carrying.specs.Machines.{checkOn, Accepted, Formed}
+use Rattle.carrying.specs.Laws.Types.{checkFrom, step-types, step-length, step-formed, first-accepted, rest-checked, started-formed}
+use Rattle.checking.specs.Laws.Turns.{typesFrom, within-step}
 use Rattle.records.specs.declared.Record.{Record}
 use Rattle.records.specs.declared.Record.the-variants.{Whole}
 use Rattle.records.specs.declared.Decoded.{Decoded}

@@ -5,10 +5,10 @@ use native.Mathlib.Omega.{arith}
 use borrow.Author.Tests.{le-leb, lt-leb}
 use lib.Dec.{leb}
 use Rattle.numbers.specs.Choice.{both, stop, both-true}
+use Rattle.numbers.specs.Places.{by-order}
 use Rattle.signed.specs.Numbers.{rise, fall, atLeast}
 use Rattle.signed.specs.Laws.{least-parts}
 use Rattle.records.specs.ByteSteps.{rise-step, fall-step}
-use Rattle.runs.specs.Longest.{by-order}
 use Rattle.tape.specs.Records.{signedByte, byteAt, byteInside}
 
 module _ (byte up down i : ℕ) where
@@ -21,9 +21,9 @@ module _ (byte up down i : ℕ) where
       let z = signedByte byte up down i in
       let down-to : fall z ≡ i * down - (byte + i * up) = fall-step byte up down i in
       least-parts 0 z
-      ∙ by-order (i * down) (byte + i * up)
-      (λ h. both-true _ _ (le-leb (fall z) 0 (omega arith)) (le-leb 0 (rise z) (omega arith)) ∙ sym (le-leb (i * down) (byte + i * up) h))
+      ∙ by-order (byte + i * up) (i * down)
       (λ h. sym (stop _ (lt-leb (fall z) 0 (omega arith))) ∙ sym (lt-leb (i * down) (byte + i * up) h))
+      (λ h. both-true _ _ (le-leb (fall z) 0 (omega arith)) (le-leb 0 (rise z) (omega arith)) ∙ sym (le-leb (i * down) (byte + i * up) h))
 
   pub inside-natural : (size len : ℕ) → byteInside size len byte up down i ≡ both (leb (i * down) (byte + i * up)) (leb (byte + i * up - i * down + size) len)
   unfolding byteInside

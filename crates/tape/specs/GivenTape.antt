@@ -12,7 +12,7 @@ use Rattle.registers.specs.Types.{theType}
 use Rattle.registers.specs.Registers.{emptyRegisters}
 use Rattle.registers.specs.declared.MatrixType.{MatrixType}
 use Rattle.addressing.specs.declared.Access.{Access}
-use Rattle.carrying.specs.Steps.{accessOf, objectOf, checkedStep}
+use Rattle.checking.specs.Steps.{accessOf, objectOf, checkedStep}
 use Rattle.records.specs.declared.Record.the-variants.{Whole}
 use Rattle.records.specs.Records.{recordNumbers, tapeNumbers}
 use Rattle.records.specs.Laws.{tape-append}

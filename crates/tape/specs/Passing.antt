@@ -15,7 +15,7 @@ use Rattle.sheet.specs.declared.WholeStep.{WholeStep}
 use Rattle.registers.specs.declared.MatrixType.{MatrixType}
 use Rattle.whole_steps.specs.Refusals.{wholeRefusal}
 use Rattle.carrying.specs.Steps.{Machine, performedStep}
-use Rattle.carrying.specs.Carrying.{refusalAt}
+use Rattle.checking.specs.Checking.{refusalAt}
 use Rattle.records.specs.declared.Record.{Record}
 use Rattle.records.specs.declared.Record.the-variants.{Copy, Take, Put, Fill, Whole}
 use Rattle.records.specs.declared.Decoded.{Decoded}
@@ -27,8 +27,6 @@ use Rattle.tape.specs.Running.{rangeFrom, ranDecoded, ranFrom}
 -- record k + i of a tape is record i of a list
 abbrev pub Says : (ℕ → Decoded) → ℕ → List Record → Type 0
 Says the k rs = (i : ℕ) → i < length rs → the (k + i) ≡ Good (getD rs i (Whole 0))
-
--- ---- one record
 
 -- the whole step that op 4 names where it is not out of range
 pub record Named (sh : Sheet) (ts : List MatrixType) (len k : ℕ) : Type 0 where
@@ -57,8 +55,7 @@ module _ (sh : Sheet) where
   record-types (Fill register first count value) m len e = refl
   record-types (Whole k) m len e = rw (whole-named sh (m .registers .types) len k e .is)
 
-  -- ---- all records
-
+module _ (sh : Sheet) where
   -- no record is out of range, from registers of types ts on; types us are left
   pub data Passes (len : ℕ) : List Record → List MatrixType → List MatrixType → Type 0 where
     none : {ts : List MatrixType} → Passes len [] ts ts

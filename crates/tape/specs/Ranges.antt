@@ -23,9 +23,10 @@ use Rattle.registers.specs.Registers.{emptyRegisters}
 use Rattle.registers.specs.Sized.{SizedType, Sized, sized-empty}
 use Rattle.registers.specs.declared.MatrixType.{MatrixType}
 use Rattle.transfers.specs.Transfers.{outcomeOf}
-use Rattle.carrying.specs.Steps.{accessOf, objectOf}
-use Rattle.carrying.specs.Carrying.{memoryLimit}
-use Rattle.carrying.specs.Types.{check-sized, within-step}
+use Rattle.checking.specs.Steps.{accessOf, objectOf}
+use Rattle.checking.specs.Checking.{memoryLimit}
+use Rattle.checking.specs.Laws.Steps.{check-sized}
+use Rattle.checking.specs.Laws.Turns.{within-step}
 use Rattle.records.specs.declared.Record.the-variants.{Copy}
 use Rattle.records.specs.Laws.{AllWithin, all-append}
 use Rattle.records.specs.Ranges as ranges

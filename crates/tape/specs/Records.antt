@@ -17,7 +17,8 @@ use Rattle.registers.specs.Registers.{copied}
 use Rattle.registers.specs.declared.MatrixType.{MatrixType}
 use Rattle.whole_steps.specs.Refusals.{wholeRefusal}
 use Rattle.transfers.specs.Acts.{State, took, gave, put}
-use Rattle.carrying.specs.Steps.{Machine, machine, stateOf, machineOf, stepTypes, performedStep}
+use Rattle.carrying.specs.Steps.{Machine, machine, stateOf, machineOf, performedStep}
+use Rattle.checking.specs.Steps.{stepTypes}
 use Rattle.signed.specs.Numbers.{rise, atLeast, difference}
 use Rattle.records.specs.declared.Record.{Record}
 use Rattle.records.specs.declared.Record.the-variants.{Copy, Take, Put, Fill, Whole}

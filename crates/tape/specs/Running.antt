@@ -12,7 +12,8 @@ use Rattle.sheet_reader.specs.Reading.{readSheet}
 use Rattle.registers.specs.Registers.{emptyRegisters}
 use Rattle.registers.specs.declared.MatrixType.{MatrixType}
 use Rattle.carrying.specs.Steps.{Machine}
-use Rattle.carrying.specs.Carrying.{refusalAt, memoryLimit, started, carryAnswer}
+use Rattle.checking.specs.Checking.{refusalAt, memoryLimit}
+use Rattle.carrying.specs.Carrying.{started, carryAnswer}
 use Rattle.carrying.specs.declared.CarryAnswer.{CarryAnswer}
 use Rattle.records.specs.Records.{recordAt}
 use Rattle.records.specs.declared.Decoded.{Decoded}

@@ -27,8 +27,11 @@ use Rattle.accesses.specs.Accepted.{element-sound}
 use Rattle.whole_steps.specs.Refusals.{wholeRefusal}
 use Rattle.whole_steps.specs.Whole.{wholeTypes}
 use Rattle.transfers.specs.Transfers.{outcomeOf, transferred}
-use Rattle.carrying.specs.Steps.{Machine, machine, stateOf, machineOf, accessOf, objectOf, checkedStep, loadDone, storeDone, objectDone, stepTypes, performedStep}
-use Rattle.carrying.specs.Types.{checkOn, Accepted, load-some, load-access, store-some, store-access, object-type, object-memory}
+use Rattle.carrying.specs.Steps.{Machine, machine, stateOf, machineOf, loadDone, storeDone, objectDone, performedStep}
+use Rattle.checking.specs.Steps.{accessOf, objectOf, checkedStep, stepTypes}
+use Rattle.carrying.specs.Machines.{checkOn, Accepted}
+use Rattle.checking.specs.Laws.Steps.{load-some, load-access, store-some, store-access}
+use Rattle.carrying.specs.Laws.Types.{object-type, object-memory}
 use Rattle.records.specs.declared.Record.{Record}
 use Rattle.records.specs.declared.Record.the-variants.{Copy, Whole}
 use Rattle.runs.specs.States.{performAll, performAll-append}

@@ -14,7 +14,7 @@ use Rattle.registers.specs.Registers.{emptyRegisters}
 use Rattle.registers.specs.declared.MatrixType.{MatrixType}
 use Rattle.addressing.specs.declared.Access.{Access}
 use Rattle.transfers.specs.Transfers.{outcomeOf}
-use Rattle.carrying.specs.Steps.{accessOf, objectOf, checkedStep}
+use Rattle.checking.specs.Steps.{accessOf, objectOf, checkedStep}
 use Rattle.records.specs.declared.Record.{Record}
 use Rattle.records.specs.declared.Record.the-variants.{Copy, Whole}
 use Rattle.runs.specs.Runs.{runsRecords}

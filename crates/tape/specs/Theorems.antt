@@ -15,12 +15,13 @@ use Rattle.numbers.specs.Choice.{pick, pick-case, both-left}
 use Rattle.sheet.specs.declared.Sheet.{Sheet}
 use Rattle.sheet_reader.specs.Reading.{readSheet}
 use Rattle.carrying.specs.Steps.{Machine}
-use Rattle.carrying.specs.Carrying.{refusalAt, memoryLimit, checkedSheet, carryAnswer, carried, carriedMemory}
+use Rattle.checking.specs.Checking.{refusalAt, memoryLimit, checkedSheet}
+use Rattle.carrying.specs.Carrying.{carryAnswer, carried, carriedMemory}
 use Rattle.records.specs.Records.{tapeNumbers}
 use Rattle.records.specs.Laws.{length-tape}
 use Rattle.tape.specs.Tapes.{tapeOf}
 use Rattle.tape.specs.GivenTape.{GivenTape, tape-only}
-use Rattle.carrying.specs.Readable.{Readable, sheet-readable}
+use Rattle.checking.specs.Laws.Readable.{Readable, sheet-readable}
 use Rattle.tape.specs.Translating.{recordLimit, recordsFit, fitsRoom, translated, translatedRoom}
 use Rattle.tape.specs.Running.{runRefusal, runTape, ranMemory}
 use Rattle.tape.specs.Turns.{fit-room}
@@ -54,12 +55,13 @@ module _ (s : List ℕ) (len : ℕ) (room : List ℤ) (h : translated s len (len
   unfolding translatedRoom pick
   room-is = rw (told .accepted, told .fits)
 
+module _ (s : List ℕ) (len : ℕ) (room : List ℤ) (h : translated s len (length room) .refusal .number ≡ 0) where
   pub translated-given : (xs : List ℤ) → GivenTape (readSheet s .sheet) len xs → translatedRoom s len room ≡ sets room 0 xs
-  translated-given xs g = room-is ∙ ap (sets room 0) (sym (tape-only (readSheet s .sheet) len xs g))
+  translated-given xs g = room-is s len room h ∙ ap (sets room 0) (sym (tape-only (readSheet s .sheet) len xs g))
 
   pub translated-count : (xs : List ℤ) → GivenTape (readSheet s .sheet) len xs → translated s len (length room) .records * 6 ≡ length xs
   translated-count xs g =
-      ap (λ (n : ℕ). n * 6) (told .records)
+      ap (λ (n : ℕ). n * 6) (told s len room h .records)
       ∙ sym (length-tape (tapeOf (readSheet s .sheet) len))
       ∙ ap length (sym (tape-only (readSheet s .sheet) len xs g))
 

@@ -9,18 +9,11 @@ use lib.Dec.{leb, eqb}
 use Rattle.numbers.specs.Choice.{pick, both}
 use Rattle.sheet.specs.declared.Refusal.{Refusal}
 use Rattle.sheet_reader.specs.Reading.{readSheet}
-use Rattle.carrying.specs.Carrying.{refusalAt, checkedSheet}
+use Rattle.checking.specs.Checking.{refusalAt, checkedSheet}
 use Rattle.records.specs.Records.{tapeNumbers}
+use Rattle.records.specs.Room.{recordsFit}
 use Rattle.tape.specs.Tapes.{tapeOf}
 use Rattle.tape.specs.declared.TranslateAnswer.{TranslateAnswer}
-
--- the most records of a tape
-unfoldable pub recordLimit : ℕ → ℕ
-recordLimit edition = 1024
-
--- the records of a tape are at most its edition's limit, and the room holds their six numbers each
-unfoldable pub recordsFit : ℕ → ℕ → ℕ → Bool
-recordsFit edition room records = both (leb records (recordLimit edition)) (leb (records * 6) room)
 
 abbrev pub translateAnswer : Refusal → ℕ → ℕ → TranslateAnswer
 translateAnswer r count records = record { refusal = r; count = count; records = records }

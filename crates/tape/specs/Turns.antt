@@ -23,15 +23,17 @@ use Rattle.memory.specs.Laws.{length-with}
 use Rattle.sheet_reader.specs.Reading.{readSheet}
 use Rattle.registers.specs.Types.{noType, theType}
 use Rattle.registers.specs.Registers.{placeOf, elementOf, withElementOf, room, emptyRegisters}
-use Rattle.registers.specs.Sized.{SizedType, Sized, sized-with}
+use Rattle.registers.specs.Sized.{SizedType, Sized, sized-with, sized-room}
 use Rattle.registers.specs.declared.MatrixType.{MatrixType}
 use Rattle.registers.specs.declared.Registers.{Registers}
 use Rattle.whole_steps.specs.Within.{WholeOk, whole-ok, sized-whole}
 use Rattle.transfers.specs.Acts.{State, state, took, gave, put}
 use Rattle.carrying.specs.Steps.{Machine, machine, stateOf, machineOf, performedStep}
-use Rattle.carrying.specs.Carrying.{refusalAt, memoryLimit, started, carryAnswer}
-use Rattle.carrying.specs.Types.{Formed, started-formed, step-places, within-step}
-use Rattle.carrying.specs.Loops.{one-less}
+use Rattle.checking.specs.Checking.{refusalAt, memoryLimit}
+use Rattle.carrying.specs.Carrying.{started, carryAnswer}
+use Rattle.carrying.specs.Machines.{Formed}
+use Rattle.carrying.specs.Laws.Types.{started-formed, step-places}
+use Rattle.checking.specs.Laws.Turns.{within-step, one-less}
 use Rattle.records.specs.declared.Record.{Record}
 use Rattle.records.specs.declared.Record.the-variants.{Copy, Take, Put, Fill, Whole}
 use Rattle.records.specs.declared.Decoded.{Decoded}
@@ -41,8 +43,6 @@ use Rattle.tape.specs.Records.{elementsOk, byteAt, byteInside, bytesInsi
 use Rattle.tape.specs.Translating.{recordLimit, recordsFit}
 use Rattle.tape.specs.Running.{tapeRecord, decodedOk, decodedTypes, rangeFrom, rangeRefusal, ranDecoded, ranFrom, ran, tapeRefusal, runRefusal, runTape, ranMemory}
 use Rattle.tape.specs.Passing.{Named, whole-named, record-types}
-
--- ---- elements
 
 -- element i of a take, a put and a fill
 abbrev pub taking : ℕ → ℕ → ℕ → ℕ → ℕ → ℕ → ℕ → State → State
@@ -123,9 +123,6 @@ inside-lies size len count byte up down e i h =
     record { above = leb-true _ _ (both-left _ _ f); below = rw (byte-natural byte up down i) (leb-true _ _ (both-right _ _ f)) }
 
 -- elements of a matrix are elements of a register
-pub sized-room : (t : MatrixType) → SizedType t → t .rows * t .columns ≤ 256
-sized-room t s = mul-le-mul {n₂ = 16} {m₂ = 16} (s .rows) (s .columns)
-
 pub elements-fit : (t : MatrixType) (first count : ℕ) → SizedType t → elementsOk t first count ≡ true → first + count ≤ 256
 elements-fit t first count s e = omega (arith, sized-room t s, leb-true (first + count) (t .rows * t .columns) e)
 
@@ -150,8 +147,6 @@ stride-small i step h l = let k : i ≤ 256 = omega arith in mul-le-mul {n₂ = 
 -- op 4
 pub whole-within : (sh : Sheet) → Within sh → (ts : List MatrixType) (len k : ℕ) (n : Named sh ts len k) → WholeOk (n .whole)
 whole-within sh w ts len k n = whole-ok (sh .edition) (n .whole) (rw (n .is) at (within-step sh w k (n .given)))
-
--- ---- what a record keeps
 
 -- the types that a record leaves are within Sizes, and as many
 module _ (sh : Sheet) (w : Within sh) (ts : List MatrixType) (len : ℕ) where
@@ -244,8 +239,6 @@ module _ (sh : Sheet) (m : Machine) (len : ℕ) where
   decoded-formed w (Good r) e f = record-formed w r e f
   decoded-formed w Bad e f = f
 
--- ---- the turns
-
 -- the records from number k on are looked at, over types
 module _ (n : ℕ) (sh : Sheet) (len : ℕ) (the : ℕ → Decoded) (k : ℕ) (ts : List MatrixType) where
   pub range-end : n ≤ k → refusalAt 0 0 0 ≡ rangeFrom (n - k) sh len the k ts
@@ -317,17 +310,6 @@ module _ (n : ℕ) (sh : Sheet) (len : ℕ) (the : ℕ → Decoded) (k : ℕ) (m
   pub turns-end : n ≤ k → m ≡ goal
   unfolding ranFrom
   turns-end h = let e : n - k ≡ 0 = omega arith in (rw e at r) .rest
-
--- ---- which answer a tape gets, by the ways that the code takes
-
-module _ (edition room records : ℕ) (e : recordsFit edition room records ≡ true) where
-  pub fit-few : records ≤ 1024
-  unfolding recordsFit recordLimit
-  fit-few = leb-true _ _ (both-left _ _ e)
-
-  pub fit-room : records * 6 ≤ room
-  unfolding recordsFit
-  fit-room = leb-true _ _ (both-right _ _ e)
 
 module _ (sh : Sheet) (tape : List ℤ) (records len : ℕ) where
   pub tape-fit : tapeRefusal sh tape records len .number ≡ 0 → recordsFit (sh .edition) (length tape) records ≡ true

@@ -22,7 +22,8 @@ use Rattle.records.specs.declared.Decoded.{Decoded}
 use Rattle.records.specs.declared.Decoded.the-variants.{Good, Bad}
 use Rattle.tape.specs.Records.{byteAt, inOrder, ranRecord}
 use Rattle.tape.specs.Running.{decodedOk, decodedTypes, rangeFrom, rangeRefusal, ranDecoded, ranFrom, ran}
-use Rattle.tape.specs.Passing.{whole-named, record-types}
+use Rattle.tape.specs.Passing.{whole-named}
+use Rattle.tape.specs.Turns.{decoded-types}
 
 -- byte p is none that a record puts, by the types of the registers when it runs
 abbrev pub OutsideRecord : List MatrixType → ℕ → Decoded → Type 0
@@ -65,11 +66,6 @@ module _ (sh : Sheet) (len p : ℕ) where
   record-kept (Good (Whole k)) m e o = rw (whole-named sh (m .registers .types) len k e .is)
   record-kept Bad m e o = refl
 
-  decoded-types : (d : Decoded) (m : Machine) → decodedOk sh (m .registers .types) len d ≡ true
-      → ranDecoded sh d m .registers .types ≡ decodedTypes sh (m .registers .types) d
-  decoded-types (Good r) m e = record-types sh r m len e
-  decoded-types Bad m e = refl
-
   -- where n records are not out of range, the first is not, nor are the others
   record Ranged (n : ℕ) (the : ℕ → Decoded) (k : ℕ) (ts : List MatrixType) : Type 0 where
     first : decodedOk sh ts len (the k) ≡ true
@@ -87,7 +83,7 @@ module _ (sh : Sheet) (len p : ℕ) where
   from-kept zero the k m h o = refl
   from-kept (suc n) the k m h o =
       let r = ranged n the k (m .registers .types) h in
-      let types = decoded-types (the k) m (r .first) in
+      let types = decoded-types sh m len (the k) (r .first) in
       from-kept n the (k + 1) (ranDecoded sh (the k) m) (rw types (r .others)) (rw types (o .1))
       ∙ record-kept (the k) m (r .first) (o .0)
 

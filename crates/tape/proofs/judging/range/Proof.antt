@@ -3,7 +3,7 @@ use Prim.Native.Nat.{_-_, _≤_}
 use mathlib.Core.Path.{_≡_, _∙_}
 use Rattle.numbers.specs.Choice.{went-not, went-past}
 use Rattle.registers.specs.Sized.{Sized, sized-empty}
-use Rattle.carrying.specs.Types.{empty-types}
+use Rattle.checking.specs.Laws.Turns.{empty-types}
 use Rattle.tape.specs.Running.{tapeRecord, rangeFrom, rangeRefusal}
 use Rattle.tape.specs.Turns.{range-start, range-go, range-stop, range-end, decoded-sized}
 use borrow.Author.Needs.{needs}

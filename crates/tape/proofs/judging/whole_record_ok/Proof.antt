@@ -1,6 +1,6 @@
 use Rattle.numbers.specs.Choice.{tests, stop, pass}
 use Rattle.tape.specs.Records.{wholeRecordOk}
-use Rattle.carrying.specs.Types.{within-step}
+use Rattle.checking.specs.Laws.Turns.{within-step}
 use native.Mathlib.Omega.{arith}
 use borrow.Author.Needs.{needs}
 use Rattle.tape.proofs.judging.whole_record_ok.Statement.{statement}

@@ -1,4 +1,4 @@
-use Rattle.carrying.specs.Types.{within-step}
+use Rattle.checking.specs.Laws.Turns.{within-step}
 use borrow.Author.Needs.{needs}
 use Rattle.tape.proofs.judging.whole_record_types.Statement.{statement}
 use Rattle.tape.proofs.judging.whole_record_types.Tie as tie

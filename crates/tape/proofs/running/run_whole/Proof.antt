@@ -1,7 +1,7 @@
 use Prim.Native.Nat.{_<_}
 use borrow.Author.Tests.{ltb-true}
 use Rattle.numbers.specs.Choice.{both-left, both-right}
-use Rattle.carrying.specs.Types.{within-step}
+use Rattle.checking.specs.Laws.Turns.{within-step}
 use Rattle.tape.specs.Records.{wholeRecordOk}
 use native.Mathlib.Omega.{arith}
 use Rattle.tape.proofs.running.run_whole.Statement.{statement}

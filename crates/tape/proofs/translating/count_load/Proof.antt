@@ -3,8 +3,8 @@ use mathlib.Core.Bool.{true}
 use Prim.Native.Nat.{_*_}
 use lib.ListN.{length}
 use Rattle.transfers.specs.Transfers.{outcomeOf}
-use Rattle.carrying.specs.Steps.{accessOf}
-use Rattle.carrying.specs.Names.{load-names, object-few}
+use Rattle.checking.specs.Steps.{accessOf}
+use Rattle.checking.specs.Laws.Names.{load-names, object-few}
 use Rattle.runs.specs.Writing.{count-records}
 use Rattle.tape.proofs.TranslateLaws.{own-records, own-clear, other-records, other-clear, access-few}
 use native.Mathlib.Omega.{arith}

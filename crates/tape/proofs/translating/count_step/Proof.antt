@@ -3,9 +3,9 @@ use mathlib.Core.Bool.{false}
 use Prim.Native.Nat.{_*_}
 use lib.ListN.{length}
 use Rattle.transfers.specs.Transfers.{outcomeOf}
-use Rattle.carrying.specs.Steps.{accessOf}
+use Rattle.checking.specs.Steps.{accessOf}
 use Rattle.runs.specs.Writing.{count-records}
-use Rattle.carrying.specs.Names.{store-names}
+use Rattle.checking.specs.Laws.Names.{store-names}
 use Rattle.tape.specs.Tapes.{stepRecords}
 use Rattle.tape.proofs.TranslateLaws.{store-records, store-clear}
 use borrow.Author.Needs.{needs}

@@ -2,7 +2,8 @@ use mathlib.Core.Path.{_≡_, sym, ap, _∙_}
 use Prim.Native.Nat.{_+_, _-_, _*_, _≤_}
 use lib.ListN.{length, length-append}
 use Rattle.sheet.specs.Steps.{theStep}
-use Rattle.carrying.specs.Types.{within-step, check-types, empty-types}
+use Rattle.checking.specs.Laws.Turns.{within-step, empty-types}
+use Rattle.checking.specs.Laws.Steps.{check-types}
 use Rattle.tape.specs.Tapes.{stepRecords, tapeFrom, tapeOf}
 use Rattle.tape.proofs.TranslateLaws.{Rest, rest-start, rest-first, rest-next, tape-start, tape-go, tape-end, step-records, step-few}
 use borrow.Author.Needs.{needs}

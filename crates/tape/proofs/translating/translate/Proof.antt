@@ -2,8 +2,8 @@ use Rattle.tape.proofs.TranslateLaws.{refused-answer, refused-room, lon
 use Rattle.tape.specs.Translating.{translateAnswer}
 use Rattle.tape.specs.Tapes.{tapeOf}
 use Rattle.records.specs.Records.{tapeNumbers}
-use Rattle.carrying.specs.declared.CheckAnswer.{CheckAnswer}
-use Rattle.carrying.specs.Readable.{sheet-readable}
+use Rattle.checking.specs.declared.CheckAnswer.{CheckAnswer}
+use Rattle.checking.specs.Laws.Readable.{sheet-readable}
 use Rattle.sheet.specs.declared.Sheet.{Sheet}
 use Rattle.sheet.specs.declared.Refusal.{Refusal}
 use Rattle.numbers.specs.Choice.{went-not, went-past}

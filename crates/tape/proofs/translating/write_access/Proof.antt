@@ -1,6 +1,6 @@
 use Rattle.accesses.specs.Accepted.{element-accepted}
 use Rattle.addressing.specs.Valid.{planned-access, planned-columns}
-use Rattle.carrying.specs.Accesses.{shaped}
+use Rattle.checking.specs.Laws.Accesses.{shaped}
 use native.Mathlib.Omega.{arith}
 use borrow.Author.Needs.{needs}
 use Rattle.tape.proofs.translating.write_access.Statement.{statement}

@@ -3,8 +3,8 @@ use denote.Ref.{now}
 use mathlib.Core.Bool.{true}
 use Prim.Native.Nat.{_*_, _+_, _≤_}
 use lib.ListN.{length}
-use Rattle.carrying.specs.Steps.{accessOf}
-use Rattle.carrying.specs.Names.{load-names, object-few}
+use Rattle.checking.specs.Steps.{accessOf}
+use Rattle.checking.specs.Laws.Names.{load-names, object-few}
 use Rattle.records.specs.declared.Record.the-variants.{Copy}
 use Rattle.tape.specs.Tapes.{accessRecords}
 use Rattle.tape.proofs.TranslateLaws.{own-records, own-clear, other-records, other-clear, other-some, one-more}

@@ -1,5 +1,5 @@
 use mathlib.Core.Path.{refl}
-use Rattle.carrying.specs.Names.{store-names}
+use Rattle.checking.specs.Laws.Names.{store-names}
 use Rattle.tape.specs.Tapes.{stepRecords}
 use Rattle.tape.proofs.TranslateLaws.{store-records, store-clear}
 use native.Mathlib.Omega.{arith}

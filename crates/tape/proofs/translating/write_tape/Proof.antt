@@ -4,8 +4,9 @@ use Prim.Native.Nat.{_+_, _-_, _*_, _≤_}
 use lib.ListN.{length, length-append}
 use lib.Seq.{sets}
 use Rattle.sheet.specs.Steps.{theStep}
-use Rattle.carrying.specs.Steps.{checkedStep}
-use Rattle.carrying.specs.Types.{within-step, check-types, empty-types}
+use Rattle.checking.specs.Steps.{checkedStep}
+use Rattle.checking.specs.Laws.Turns.{within-step, empty-types}
+use Rattle.checking.specs.Laws.Steps.{check-types}
 use Rattle.records.specs.declared.Record.{Record}
 use Rattle.records.specs.Records.{tapeNumbers}
 use Rattle.tape.specs.Tapes.{stepRecords, tapeFrom, tapeOf}
