@@ -25,7 +25,7 @@ use Rattle.round_trip.specs.Sheets.{Within, within, sheet-short}
 use Rattle.round_trip.specs.Growing.{reading}
 use Rattle.round_trip.specs.Theorems.{not-refused, read-within}
 use Rattle.registers.specs.Types.{theType, isEmpty}
-use Rattle.registers.specs.Sized.{SizedType, Sized, sized-empty}
+use Rattle.registers.specs.Sized.{SizedType, Sized, sized-empty, sized-room}
 use Rattle.registers.specs.Registers.{emptyRegisters}
 use Rattle.registers.specs.declared.MatrixType.{MatrixType}
 use Rattle.addressing.specs.declared.Access.{Access}
@@ -45,10 +45,12 @@ use Rattle.checking.specs.declared.StepCheck.{StepCheck}
 use Rattle.checking.specs.declared.CheckAnswer.{CheckAnswer}
 use Rattle.carrying.specs.declared.CarryAnswer.{CarryAnswer}
 use Rattle.records.specs.declared.Decoded.{Decoded}
-use Rattle.tape.specs.Translating.{fitsRoom, translated}
-use Rattle.tape.specs.Running.{tapeRecord, decodedOk, decodedTypes, rangeFrom, ran, ranDecoded, tapeRefusal, runRefusal, runTape}
-use Rattle.tape.specs.Turns.{sized-room, Ready, ready-start, turn-next, turns-end, fit-few, tape-fit, tape-clear}
-use Rattle.tape.specs.declared.TranslateAnswer.{TranslateAnswer}
+use Rattle.translating.specs.Translating.{fitsRoom, translated}
+use Rattle.running.specs.Running.{tapeRecord, decodedOk, decodedTypes, rangeFrom, ran, ranDecoded, tapeRefusal, runRefusal, runTape}
+use Rattle.running.specs.Laws.Turns.{Ready, ready-start, turn-next, turns-end}
+use Rattle.records.specs.Laws.{fit-few}
+use Rattle.running.specs.Laws.Answers.{tape-fit, tape-clear}
+use Rattle.translating.specs.declared.TranslateAnswer.{TranslateAnswer}
 
 -- what the row of an answer asks of a refusal and a count
 abbrev pub Small : Refusal → ℕ → Type 0

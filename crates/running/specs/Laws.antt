@@ -1,0 +1,5 @@
+pub mod Bytes
+pub mod Elements
+pub mod Records
+pub mod Turns
+pub mod Answers
