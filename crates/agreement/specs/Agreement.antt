@@ -8,7 +8,8 @@ use Rattle.sheet.specs.declared.Sheet.{Sheet}
 use Rattle.checking.specs.Checking.{refusalAt}
 use Rattle.carrying.specs.Carrying.{performed, started, carried, carriedMemory}
 use Rattle.records.specs.declared.Decoded.{Decoded}
-use Rattle.running.specs.Running.{tapeRecord, rangeRefusal, ran, tapeRefusal, runTape, ranMemory}
+use Rattle.judging.specs.Judging.{tapeRecord, rangeRefusal, tapeRefusal}
+use Rattle.running.specs.Running.{ran, runTape, ranMemory}
 
 -- n records of a tape, as they are decoded, are not refused, and leave what the steps of the sheet leave
 pub record Agrees (sh : Sheet) (memory : List ℕ) (n : ℕ) (the : ℕ → Decoded) : Type 0 where

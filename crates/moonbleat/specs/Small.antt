@@ -46,10 +46,11 @@ use Rattle.checking.specs.declared.CheckAnswer.{CheckAnswer}
 use Rattle.carrying.specs.declared.CarryAnswer.{CarryAnswer}
 use Rattle.records.specs.declared.Decoded.{Decoded}
 use Rattle.translating.specs.Translating.{fitsRoom, translated}
-use Rattle.running.specs.Running.{tapeRecord, decodedOk, decodedTypes, rangeFrom, ran, ranDecoded, tapeRefusal, runRefusal, runTape}
+use Rattle.judging.specs.Judging.{tapeRecord, decodedOk, decodedTypes, rangeFrom, tapeRefusal}
+use Rattle.running.specs.Running.{ran, ranDecoded, runRefusal, runTape}
 use Rattle.running.specs.Laws.Turns.{Ready, ready-start, turn-next, turns-end}
 use Rattle.records.specs.Laws.{fit-few}
-use Rattle.running.specs.Laws.Answers.{tape-fit, tape-clear}
+use Rattle.judging.specs.Laws.Turns.{tape-fit, tape-clear}
 use Rattle.translating.specs.declared.TranslateAnswer.{TranslateAnswer}
 
 -- what the row of an answer asks of a refusal and a count

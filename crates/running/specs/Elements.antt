@@ -1,7 +1,7 @@
 -- What element i of a take, a put and a fill does.
 use Prim.Native.Nat.{ℕ, _+_}
 use Rattle.transfers.specs.Acts.{State, took, gave, put}
-use Rattle.running.specs.Records.{byteAt}
+use Rattle.judging.specs.Records.{byteAt}
 
 -- element i of a take, a put and a fill
 abbrev pub taking : ℕ → ℕ → ℕ → ℕ → ℕ → ℕ → ℕ → State → State

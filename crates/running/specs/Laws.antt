@@ -1,4 +1,3 @@
-pub mod Bytes
 pub mod Elements
 pub mod Records
 pub mod Turns

@@ -9,8 +9,8 @@ use Rattle.registers.specs.declared.MatrixType.{MatrixType}
 use Rattle.records.specs.declared.Record.the-variants.{Copy, Take, Put, Fill, Whole}
 use Rattle.records.specs.declared.Decoded.{Decoded}
 use Rattle.records.specs.declared.Decoded.the-variants.{Good, Bad}
-use Rattle.running.specs.Records.{byteAt}
-use Rattle.running.specs.Running.{decodedTypes}
+use Rattle.judging.specs.Records.{byteAt}
+use Rattle.judging.specs.Judging.{decodedTypes}
 
 -- byte p is none that a record puts, by the types of the registers when it runs
 abbrev pub OutsideRecord : List MatrixType → ℕ → Decoded → Type 0

@@ -1,7 +1,6 @@
 -- Running a tape with its sheet: 18, the sheet's reading, then 17 only.
-use Prim.Native.Nat.{ℕ, zero, suc, _+_, _*_}
+use Prim.Native.Nat.{ℕ, zero, suc, _+_}
 use mathlib.Core.List.{List}
-use mathlib.Core.Bool.{Bool, false}
 use lib.IntN.{ℤ}
 use lib.ListN.{length}
 use lib.Dec.{leb, eqb}
@@ -10,40 +9,14 @@ use Rattle.sheet.specs.declared.Sheet.{Sheet}
 use Rattle.sheet.specs.declared.Refusal.{Refusal}
 use Rattle.sheet_reader.specs.Reading.{readSheet}
 use Rattle.registers.specs.Registers.{emptyRegisters}
-use Rattle.registers.specs.declared.MatrixType.{MatrixType}
 use Rattle.checking.specs.Checking.{refusalAt, memoryLimit}
 use Rattle.carrying.specs.Steps.{Machine}
 use Rattle.carrying.specs.Carrying.{started, carryAnswer}
 use Rattle.carrying.specs.declared.CarryAnswer.{CarryAnswer}
-use Rattle.records.specs.Records.{recordAt}
 use Rattle.records.specs.declared.Decoded.{Decoded}
 use Rattle.records.specs.declared.Decoded.the-variants.{Good, Bad}
-use Rattle.records.specs.Room.{recordsFit}
-use Rattle.running.specs.Records.{recordOk, recordTypes, ranRecord}
-
--- record k of a tape, by its six numbers
-abbrev pub tapeRecord : List ℤ → ℕ → Decoded
-tapeRecord tape k = recordAt tape (k * 6)
-
-abbrev pub decodedOk : Sheet → List MatrixType → ℕ → Decoded → Bool
-decodedOk sh ts len (Good r) = recordOk sh ts len r
-decodedOk sh ts len Bad = false
-
-abbrev pub decodedTypes : Sheet → List MatrixType → Decoded → List MatrixType
-decodedTypes sh ts (Good r) = recordTypes sh ts r
-decodedTypes sh ts Bad = ts
-
--- n records more, the next of which is number k: out of range at the first such record
-unfoldable pub rangeFrom : ℕ → Sheet → ℕ → (ℕ → Decoded) → ℕ → List MatrixType → Refusal
-rangeFrom zero sh len the k ts = refusalAt 0 0 0
-rangeFrom (suc n) sh len the k ts =
-    pick (decodedOk sh ts len (the k))
-    (rangeFrom n sh len the (k + 1) (decodedTypes sh ts (the k)))
-    (refusalAt 17 k 0)
-
--- all records, from empty registers
-abbrev pub rangeRefusal : ℕ → Sheet → ℕ → (ℕ → Decoded) → Refusal
-rangeRefusal n sh len the = rangeFrom n sh len the 0 (emptyRegisters .types)
+use Rattle.judging.specs.Judging.{tapeRecord, tapeRefusal}
+use Rattle.running.specs.Records.{ranRecord}
 
 abbrev pub ranDecoded : Sheet → Decoded → Machine → Machine
 ranDecoded sh (Good r) m = ranRecord sh r m
@@ -57,13 +30,6 @@ ranFrom (suc n) sh the k m = ranFrom n sh the (k + 1) (ranDecoded sh (the k) m)
 -- all records, in order
 abbrev pub ran : ℕ → Sheet → (ℕ → Decoded) → Machine → Machine
 ran n sh the m = ranFrom n sh the 0 m
-
--- a record count above 1,024 or past the slice has place 0
-unfoldable pub tapeRefusal : Sheet → List ℤ → ℕ → ℕ → Refusal
-tapeRefusal sh tape records len =
-    pick (recordsFit (sh .edition) (length tape) records)
-    (rangeRefusal records sh len (tapeRecord tape))
-    (refusalAt 17 0 0)
 
 -- 18 first, then reading's 1 to 6, then 17
 unfoldable pub runRefusal : List ℕ → List ℤ → ℕ → ℕ → Refusal

@@ -19,9 +19,12 @@ use Rattle.carrying.specs.Carrying.{started}
 use Rattle.records.specs.declared.Record.the-variants.{Copy, Take, Put, Fill, Whole}
 use Rattle.records.specs.declared.Decoded.{Decoded}
 use Rattle.records.specs.declared.Decoded.the-variants.{Good, Bad}
-use Rattle.running.specs.Records.{byteAt, inOrder, ranRecord}
-use Rattle.running.specs.Running.{decodedOk, decodedTypes, rangeFrom, rangeRefusal, ranDecoded, ranFrom, ran}
-use Rattle.running.specs.Laws.Records.{whole-named, decoded-types}
+use Rattle.judging.specs.Records.{byteAt}
+use Rattle.judging.specs.Judging.{decodedOk, decodedTypes, rangeFrom, rangeRefusal}
+use Rattle.judging.specs.Laws.Records.{whole-named}
+use Rattle.running.specs.Records.{inOrder, ranRecord}
+use Rattle.running.specs.Running.{ranDecoded, ranFrom, ran}
+use Rattle.running.specs.Laws.Records.{decoded-types}
 use Rattle.running.specs.Outside.{OutsideRecord, OutsideFrom}
 
 -- what holds before the elements of a record, and after each, holds after all

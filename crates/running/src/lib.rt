@@ -1,5 +1,4 @@
 // A tape run with its sheet: every record's range first, then the records, which cannot fail.
-pub mod judging;
 pub mod moving;
 
 ghost use mathlib.Core.Path.{_≡_};
@@ -15,8 +14,10 @@ ghost use Rattle.carrying.specs.Steps.{machine, machineOf, performedStep};
 ghost use Rattle.carrying.specs.Carrying.{started};
 ghost use Rattle.records.specs.Ranges.{Sound};
 ghost use Rattle.records.specs.declared.Decoded.the-variants.{Good};
-ghost use Rattle.running.specs.Records.{wholeClear, wholeRecordOk, recordOk, ranRecord};
-ghost use Rattle.running.specs.Running.{tapeRecord, decodedOk, rangeRefusal, ranDecoded, ran, tapeRefusal, runTape, ranMemory};
+ghost use Rattle.judging.specs.Records.{wholeClear, wholeRecordOk, recordOk};
+ghost use Rattle.running.specs.Records.{ranRecord};
+ghost use Rattle.judging.specs.Judging.{tapeRecord, decodedOk, rangeRefusal};
+ghost use Rattle.running.specs.Running.{ranDecoded, ran, runTape, ranMemory};
 use carrying::CarryAnswer;
 use carrying::Performed;
 use carrying::Stepped;
@@ -25,7 +26,6 @@ use records::Decoded;
 use records::Record;
 use registers::MatrixType;
 use registers::Registers;
-use sheet::Refusal;
 use sheet::Sheet;
 use sheet::Step;
 
@@ -211,17 +211,6 @@ fn run_records(sheet: Sheet, tape: &[i32], records: usize, memory: &mut [u8]) ->
     }
 }
 
-// A record count that does not fit has place 0.
-fn tape_refusal(sheet: Sheet, tape: &[i32], records: usize, len: usize) -> Refusal
-    requires { ⌜ Within sheet ⌝ }
-    ensures { λ r. ⌜ r ≡ tapeRefusal sheet (now (tape .entry)) records len ⌝ }
-{
-    if !records::records_fit(sheet.edition, tape.len(), records) {
-        return checks::refusal_at(judging::OUT_OF_RANGE, 0, 0);
-    }
-    judging::range(sheet, tape, records, len)
-}
-
 // Runs a tape with its sheet on the lent memory. Refused: memory is unchanged and the registers are empty.
 pub fn run_tape(sheet: &[u8], tape: &[i32], records: usize, memory: &mut [u8]) -> CarryAnswer
     ensures { λ r. ⌜ r ≡ runTape (now (sheet .entry)) (now (tape .entry)) records (now (memory .entry)) ⌝ }
@@ -236,7 +225,7 @@ pub fn run_tape(sheet: &[u8], tape: &[i32], records: usize, memory: &mut [u8]) -
         return carrying::carry_refused(unread);
     }
     let model = read.sheet;
-    let refused = tape_refusal(model, tape, records, memory.len());
+    let refused = judging::tape_refusal(model, tape, records, memory.len());
     if 0 < refused.number {
         return carrying::carry_refused(refused);
     }

@@ -11,7 +11,8 @@ ghost use Rattle.registers.specs.Types.{theType};
 ghost use Rattle.transfers.specs.Acts.{state};
 ghost use Rattle.carrying.specs.Steps.{machineOf};
 ghost use Rattle.records.specs.Ranges.{Elements, Bytes};
-ghost use Rattle.running.specs.Records.{byteAt, bytesInside, bytesRecordOk, fillRecordOk, inOrder, onElements};
+ghost use Rattle.judging.specs.Records.{byteAt, bytesInside, bytesRecordOk, fillRecordOk};
+ghost use Rattle.running.specs.Records.{inOrder, onElements};
 ghost use Rattle.running.specs.Elements.{taking, putting, filling};
 use registers::MatrixType;
 

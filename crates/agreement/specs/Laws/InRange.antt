@@ -19,8 +19,8 @@ use Rattle.runs.specs.declared.Run.{Run}
 use Rattle.runs.specs.declared.Run.the-variants.{Idle, Bytes, Fills}
 use Rattle.runs.specs.Runs.{held, ending, runRecords, endedRecords, runsRecords}
 use Rattle.runs.specs.Longest.{Going, Pouring, Open, held-open, ending-open}
-use Rattle.running.specs.Records.{bytesRecordOk, fillRecordOk}
-use Rattle.running.specs.Laws.Bytes.{inside-natural}
+use Rattle.judging.specs.Records.{bytesRecordOk, fillRecordOk}
+use Rattle.judging.specs.Laws.Bytes.{inside-natural}
 use Rattle.agreement.specs.Laws.Passing.{Passes, none, more, passes-append}
 
 -- an element that has a byte has all of its bytes in memory, and what fills an element fits its kind

@@ -19,7 +19,7 @@ use Rattle.runs.specs.Runs.{runsRecords}
 use Rattle.runs.specs.Acts.{Act, meet, give, one, spread, pour}
 use Rattle.runs.specs.States.{fold, elementwise, fold-append, same-records}
 use Rattle.running.specs.Records.{inOrder, onElements, ranRecord}
-use Rattle.running.specs.Laws.Bytes.{byte-natural}
+use Rattle.judging.specs.Laws.Bytes.{byte-natural}
 use Rattle.agreement.specs.Laws.Passing.{ranAll}
 
 -- an element meets its byte: on a load it takes the bits there, on a store it is written there

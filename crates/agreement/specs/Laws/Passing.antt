@@ -15,8 +15,10 @@ use Rattle.records.specs.declared.Record.the-variants.{Whole}
 use Rattle.records.specs.declared.Decoded.{Decoded}
 use Rattle.records.specs.declared.Decoded.the-variants.{Good}
 use Rattle.runs.specs.States.{performAll}
-use Rattle.running.specs.Records.{recordOk, recordTypes, ranRecord}
-use Rattle.running.specs.Running.{rangeFrom, ranDecoded, ranFrom}
+use Rattle.judging.specs.Records.{recordOk, recordTypes}
+use Rattle.running.specs.Records.{ranRecord}
+use Rattle.judging.specs.Judging.{rangeFrom}
+use Rattle.running.specs.Running.{ranDecoded, ranFrom}
 
 -- record k + i of a tape is record i of a list
 abbrev pub Says : (ℕ → Decoded) → ℕ → List Record → Type 0

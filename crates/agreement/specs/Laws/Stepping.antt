@@ -36,7 +36,8 @@ use Rattle.records.specs.declared.Record.{Record}
 use Rattle.records.specs.declared.Record.the-variants.{Copy, Whole}
 use Rattle.runs.specs.States.{performAll, performAll-append}
 use Rattle.translating.specs.Tapes.{copyRecords, accessRecords, stepRecords}
-use Rattle.running.specs.Records.{wholeRecordOk, ranRecord}
+use Rattle.judging.specs.Records.{wholeRecordOk}
+use Rattle.running.specs.Records.{ranRecord}
 use Rattle.agreement.specs.Laws.Passing.{Passes, none, more, passes-append, ranAll}
 use Rattle.agreement.specs.Laws.Moving.{elementDone, FillsOnLoad, runs-done}
 use Rattle.agreement.specs.Laws.InRange.{Passable, runs-pass}

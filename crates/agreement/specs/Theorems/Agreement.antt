@@ -23,7 +23,7 @@ use Rattle.records.specs.Records.{tapeNumbers}
 use Rattle.records.specs.Laws.{tape-back, length-tape}
 use Rattle.records.specs.Room.{recordsFit}
 use Rattle.translating.specs.Tapes.{tapeOf}
-use Rattle.running.specs.Running.{tapeRecord, tapeRefusal}
+use Rattle.judging.specs.Judging.{tapeRecord, tapeRefusal}
 use Rattle.agreement.specs.Laws.Passing.{Says, passes-range, ran-list}
 use Rattle.agreement.specs.Laws.Ranges.{tape-within}
 use Rattle.agreement.specs.Agreement.{Agrees, NumbersAgree}

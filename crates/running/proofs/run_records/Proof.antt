@@ -7,7 +7,8 @@ use Rattle.records.specs.declared.Decoded.{Decoded}
 use Rattle.transfers.specs.Acts.{state}
 use Rattle.carrying.specs.Steps.{machineOf}
 use Rattle.carrying.specs.Carrying.{started}
-use Rattle.running.specs.Running.{tapeRecord, ranDecoded, ran}
+use Rattle.judging.specs.Judging.{tapeRecord}
+use Rattle.running.specs.Running.{ranDecoded, ran}
 use Rattle.running.specs.Laws.Turns.{empty-started, Ready, ready-start, turn-ok, turn-next, turns-end}
 use borrow.Author.Needs.{needs}
 use native.Mathlib.Omega.{arith}

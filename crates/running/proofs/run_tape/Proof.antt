@@ -8,9 +8,11 @@ use Rattle.sheet_reader.specs.declared.ReadAnswer.{ReadAnswer}
 use Rattle.registers.specs.Registers.{emptyRegisters}
 use Rattle.round_trip.specs.Theorems.{not-refused, read-within}
 use Rattle.carrying.specs.Carrying.{started, carryAnswer}
-use Rattle.running.specs.Running.{tapeRecord, ran, tapeRefusal}
+use Rattle.judging.specs.Judging.{tapeRecord, tapeRefusal}
+use Rattle.running.specs.Running.{ran}
 use Rattle.records.specs.Laws.{fit-few, fit-room}
-use Rattle.running.specs.Laws.Answers.{tape-fit, tape-clear, run-large, run-unread, run-readable, run-refused, ran-refused, run-accepted, ran-accepted}
+use Rattle.judging.specs.Laws.Turns.{tape-fit, tape-clear}
+use Rattle.running.specs.Laws.Answers.{run-large, run-unread, run-readable, run-refused, ran-refused, run-accepted, ran-accepted}
 use native.Mathlib.Omega.{arith}
 use borrow.Author.Needs.{needs}
 use Rattle.running.proofs.run_tape.Statement.{statement}

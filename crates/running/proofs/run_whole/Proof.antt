@@ -2,7 +2,7 @@ use Prim.Native.Nat.{_<_}
 use borrow.Author.Tests.{ltb-true}
 use Rattle.numbers.specs.Choice.{both-left, both-right}
 use Rattle.checking.specs.Laws.Turns.{within-step}
-use Rattle.running.specs.Records.{wholeRecordOk}
+use Rattle.judging.specs.Records.{wholeRecordOk}
 use native.Mathlib.Omega.{arith}
 use Rattle.running.proofs.run_whole.Statement.{statement}
 use Rattle.running.proofs.run_whole.Tie as tie

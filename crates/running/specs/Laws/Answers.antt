@@ -1,14 +1,12 @@
 -- Which answer a tape gets, by the ways that the code takes.
 use Prim.Native.Nat.{ℕ, _<_, _≤_}
 use mathlib.Core.Path.{_≡_}
-use mathlib.Core.Bool.{true}
 use mathlib.Core.List.{List}
 use native.Mathlib.Omega.{arith}
 use borrow.Author.Tests.{le-leb, lt-leb, eq-eqb, ne-eqb}
 use lib.IntN.{ℤ}
 use lib.ListN.{length}
-use Rattle.numbers.specs.Choice.{pick, pick-case}
-use Rattle.sheet.specs.declared.Sheet.{Sheet}
+use Rattle.numbers.specs.Choice.{pick}
 use Rattle.sheet.specs.declared.Refusal.{Refusal}
 use Rattle.sheet_reader.specs.Reading.{readSheet}
 use Rattle.registers.specs.Registers.{emptyRegisters}
@@ -16,21 +14,8 @@ use Rattle.registers.specs.declared.Registers.{Registers}
 use Rattle.checking.specs.Checking.{refusalAt, memoryLimit}
 use Rattle.carrying.specs.Steps.{machine}
 use Rattle.carrying.specs.Carrying.{started, carryAnswer}
-use Rattle.records.specs.Room.{recordsFit}
-use Rattle.running.specs.Running.{tapeRecord, rangeRefusal, ran, tapeRefusal, runRefusal, runTape, ranMemory}
-
-module _ (sh : Sheet) (tape : List ℤ) (records len : ℕ) where
-  pub tape-fit : tapeRefusal sh tape records len .number ≡ 0 → recordsFit (sh .edition) (length tape) records ≡ true
-  unfolding tapeRefusal
-  tape-fit =
-      pick-case (λ (r : Refusal). r .number ≡ 0 → recordsFit (sh .edition) (length tape) records ≡ true) (recordsFit (sh .edition) (length tape) records) _ _
-      (λ e h. e) (λ e h. absurd (omega arith))
-
-  pub tape-clear : tapeRefusal sh tape records len .number ≡ 0 → rangeRefusal records sh len (tapeRecord tape) .number ≡ 0
-  unfolding tapeRefusal
-  tape-clear =
-      pick-case (λ (r : Refusal). r .number ≡ 0 → rangeRefusal records sh len (tapeRecord tape) .number ≡ 0) (recordsFit (sh .edition) (length tape) records) _ _
-      (λ e h. h) (λ e h. absurd (omega arith))
+use Rattle.judging.specs.Judging.{tapeRecord, tapeRefusal}
+use Rattle.running.specs.Running.{ran, runRefusal, runTape, ranMemory}
 
 module _ (s : List ℕ) (tape : List ℤ) (records : ℕ) where
   module _ (len : ℕ) where

@@ -1,22 +1,15 @@
--- The elements of a take, a put and a fill: the turns over them, and where they lie.
-use Prim.Native.Nat.{ℕ, zero, suc, _+_, _*_, _<_, _≤_}
+-- The turns over the elements of a take, a put and a fill.
+use Prim.Native.Nat.{ℕ, zero, suc, _+_, _≤_}
 use mathlib.Core.Path.{_≡_, refl, sym, ap, _∙_}
-use mathlib.Core.Bool.{Bool, true, false, not}
 use mathlib.Core.List.{List}
 use native.Mathlib.Numerals.{add-one}
-use native.Mathlib.Nat.{mul-le-mul, add-zero}
+use native.Mathlib.Nat.{add-zero}
 use native.Mathlib.Omega.{arith}
-use borrow.Author.Tests.{leb-true}
-use Rattle.numbers.specs.Choice.{both-left, both-right}
-use Rattle.numbers.specs.All.{all-at}
-use Rattle.kinds.specs.Widths.{bytesOf}
 use Rattle.memory.specs.Elements.{elementAt, withElement}
 use Rattle.registers.specs.Registers.{elementOf, withElementOf}
-use Rattle.registers.specs.Sized.{SizedType, sized-room}
-use Rattle.registers.specs.declared.MatrixType.{MatrixType}
 use Rattle.transfers.specs.Acts.{State, state}
-use Rattle.running.specs.Laws.Bytes.{byte-natural, inside-natural}
-use Rattle.running.specs.Records.{elementsOk, byteAt, byteInside, bytesInside, bytesRecordOk, fillRecordOk, inOrder}
+use Rattle.judging.specs.Records.{byteAt}
+use Rattle.running.specs.Records.{inOrder}
 use Rattle.running.specs.Elements.{taking, putting, filling}
 
 module _ (act : ℕ → State → State) where
@@ -67,44 +60,3 @@ module _ (register first i : ℕ) where
   pub fill-turn : (value : ℕ) (es₀ : List ℕ) {es es′ : List ℕ} → ((m : List ℕ) (n : ℕ) → state es m n ≡ inOrder (filling register first value) i (state es₀ m n)) → es′ ≡ withElementOf es register (first + i) value
       → (m : List ℕ) (n : ℕ) → state es′ m n ≡ inOrder (filling register first value) (i + 1) (state es₀ m n)
   fill-turn value es₀ inv r m n = order-turn (filling register first value) i (state es₀ m n) (inv m n) (rw r refl)
-
--- a test that a call made, turned over
-pub not-on : {r t : Bool} → r ≡ t → r ≡ true → not t ≡ false
-not-on p q = ap not (sym p ∙ q)
-
-pub not-off : {r t : Bool} → r ≡ t → r ≡ false → not t ≡ true
-not-off p q = ap not (sym p ∙ q)
-
-pub ruleset turned = (not-on, not-off)
-
--- every byte of element i lies in memory
-pub record Lies (size len byte up down i : ℕ) : Type 0 where
-  pub above : i * down ≤ byte + i * up
-  pub below : byteAt byte up down i + size ≤ len
-
-pub inside-lies : (size len count byte up down : ℕ) → bytesInside size len count byte up down ≡ true → (i : ℕ) → i < count → Lies size len byte up down i
-inside-lies size len count byte up down e i h =
-    let f = sym (inside-natural byte up down i size len) ∙ all-at count (byteInside size len byte up down) e i h in
-    record { above = leb-true _ _ (both-left _ _ f); below = rw (byte-natural byte up down i) (leb-true _ _ (both-right _ _ f)) }
-
--- elements of a matrix are elements of a register
-pub elements-fit : (t : MatrixType) (first count : ℕ) → SizedType t → elementsOk t first count ≡ true → first + count ≤ 256
-elements-fit t first count s e = omega (arith, sized-room t s, leb-true (first + count) (t .rows * t .columns) e)
-
--- a take or a put, and a fill, that is in range, by its parts
-module _ (t : MatrixType) (first count : ℕ) where
-  pub bytes-elements : (len byte up down : ℕ) → bytesRecordOk t len first count byte up down ≡ true → elementsOk t first count ≡ true
-  unfolding bytesRecordOk
-  bytes-elements len byte up down e = both-left _ _ (both-right _ _ e)
-
-  pub bytes-inside : (len byte up down : ℕ) → bytesRecordOk t len first count byte up down ≡ true → bytesInside (bytesOf (t .kind)) len count byte up down ≡ true
-  unfolding bytesRecordOk
-  bytes-inside len byte up down e = both-right _ _ (both-right _ _ e)
-
-  pub fill-elements : (value : ℕ) → fillRecordOk t first count value ≡ true → elementsOk t first count ≡ true
-  unfolding fillRecordOk
-  fill-elements value e = both-left _ _ (both-right _ _ e)
-
--- the way of an element from a record's byte
-pub stride-small : (i step : ℕ) → i < 256 → step ≤ 65535 → i * step ≤ 256 * 65536
-stride-small i step h l = let k : i ≤ 256 = omega arith in mul-le-mul {n₂ = 256} {m₂ = 65536} k (omega arith)

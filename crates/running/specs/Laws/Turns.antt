@@ -1,9 +1,8 @@
--- The turns over the records: which are in range, and what they leave.
+-- The turns over the records, and what they leave.
 use Prim.Native.Nat.{ℕ, suc, _+_, _-_, _*_, _<_, _≤_}
 use mathlib.Core.Path.{_≡_, refl, _∙_}
-use mathlib.Core.Bool.{true, false}
+use mathlib.Core.Bool.{true}
 use mathlib.Core.List.{List, [], _∷_}
-use native.Mathlib.Nat.{sub-zero}
 use native.Mathlib.Omega.{arith}
 use lib.ListN.{length, replicate}
 use Rattle.numbers.specs.Choice.{pick, pick-case}
@@ -14,38 +13,20 @@ use Rattle.registers.specs.Types.{noType}
 use Rattle.registers.specs.Registers.{emptyRegisters}
 use Rattle.registers.specs.declared.MatrixType.{MatrixType}
 use Rattle.transfers.specs.Acts.{state}
-use Rattle.checking.specs.Checking.{refusalAt}
 use Rattle.checking.specs.Laws.Turns.{one-less}
 use Rattle.carrying.specs.Steps.{Machine, machineOf}
 use Rattle.carrying.specs.Carrying.{started}
 use Rattle.carrying.specs.Machines.{Formed}
 use Rattle.carrying.specs.Laws.Types.{started-formed}
 use Rattle.records.specs.declared.Decoded.{Decoded}
-use Rattle.running.specs.Running.{decodedOk, decodedTypes, rangeFrom, rangeRefusal, ranDecoded, ranFrom, ran}
+use Rattle.judging.specs.Judging.{decodedOk, decodedTypes, rangeFrom, rangeRefusal}
+use Rattle.running.specs.Running.{ranDecoded, ranFrom, ran}
 use Rattle.running.specs.Laws.Records.{decoded-types, decoded-length, decoded-count, decoded-formed}
-
--- the records from number k on are looked at, over types
-module _ (n : ℕ) (sh : Sheet) (len : ℕ) (the : ℕ → Decoded) (k : ℕ) (ts : List MatrixType) where
-  pub range-end : n ≤ k → refusalAt 0 0 0 ≡ rangeFrom (n - k) sh len the k ts
-  unfolding rangeFrom
-  range-end h = let e : n - k ≡ 0 = omega arith in rw e
-
-  module _ (h : k < n) {d : Decoded} (q : d ≡ the k) where
-    pub range-go : decodedOk sh ts len d ≡ true → rangeFrom (n - (k + 1)) sh len the (k + 1) (decodedTypes sh ts d) ≡ rangeFrom (n - k) sh len the k ts
-    unfolding rangeFrom pick
-    range-go e = rw (one-less n k h, ← q, e)
-
-    pub range-stop : decodedOk sh ts len d ≡ false → refusalAt 17 k 0 ≡ rangeFrom (n - k) sh len the k ts
-    unfolding rangeFrom pick
-    range-stop e = rw (one-less n k h, ← q, e)
 
 -- the run begins with registers that have no type, and elements that are 0
 pub empty-started : (none : MatrixType) → none ≡ noType → (memory : List ℕ) → machineOf (none ∷ none ∷ none ∷ none ∷ []) (state (replicate 1024 0) memory 0) ≡ started memory
 unfolding emptyRegisters
 empty-started none e memory = rw e
-
-pub range-start : (n : ℕ) (sh : Sheet) (len : ℕ) (the : ℕ → Decoded) → rangeFrom (n - 0) sh len the 0 (emptyRegisters .types) ≡ rangeRefusal n sh len the
-range-start n sh len the = rw (sub-zero n)
 
 -- a machine before record k of n more: well formed, few elements counted, the rest in range, and the rest leaves the goal
 pub record Ready (n : ℕ) (sh : Sheet) (len : ℕ) (the : ℕ → Decoded) (k : ℕ) (m goal : Machine) : Type 0 where

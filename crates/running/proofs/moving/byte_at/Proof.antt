@@ -1,5 +1,5 @@
-use Rattle.running.specs.Laws.Elements.{stride-small}
-use Rattle.running.specs.Laws.Bytes.{byte-natural}
+use Rattle.judging.specs.Laws.Elements.{stride-small}
+use Rattle.judging.specs.Laws.Bytes.{byte-natural}
 use native.Mathlib.Omega.{arith}
 use borrow.Author.Needs.{needs}
 use Rattle.running.proofs.moving.byte_at.Statement.{statement}

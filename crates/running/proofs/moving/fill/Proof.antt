@@ -1,7 +1,7 @@
 use mathlib.Core.Path.{ap}
 use Rattle.registers.specs.Types.{theType}
 use Rattle.carrying.specs.Steps.{machineOf}
-use Rattle.running.specs.Laws.Elements.{elements-fit, fill-elements}
+use Rattle.judging.specs.Laws.Elements.{elements-fit, fill-elements}
 use Rattle.running.proofs.moving.fill.Statement.{statement}
 use Rattle.running.proofs.moving.fill.Tie as tie
 

@@ -6,7 +6,8 @@ use Rattle.memory.specs.Laws.{length-with}
 use Rattle.transfers.specs.Acts.{state}
 use Rattle.running.specs.Records.{inOrder}
 use Rattle.running.specs.Elements.{putting}
-use Rattle.running.specs.Laws.Elements.{order-start, inside-lies, put-turn}
+use Rattle.running.specs.Laws.Elements.{order-start, put-turn}
+use Rattle.judging.specs.Laws.Elements.{inside-lies}
 use borrow.Author.Needs.{needs}
 use native.Mathlib.Omega.{arith}
 use Rattle.running.proofs.moving.put_elements.Statement.{statement}

@@ -9,7 +9,7 @@ use Rattle.transfers.specs.Acts.{state}
 use Rattle.carrying.specs.Steps.{machineOf}
 use Rattle.running.specs.Records.{inOrder}
 use Rattle.running.specs.Elements.{taking}
-use Rattle.running.specs.Laws.Elements.{elements-fit, bytes-elements, bytes-inside}
+use Rattle.judging.specs.Laws.Elements.{elements-fit, bytes-elements, bytes-inside}
 use borrow.Author.Needs.{needs}
 use Rattle.running.proofs.moving.take.Statement.{statement}
 use Rattle.running.proofs.moving.take.Tie as tie

@@ -4,7 +4,8 @@ use Prim.Native.Nat.{ℕ, _+_, _-_, _≤_}
 use Rattle.transfers.specs.Acts.{state}
 use Rattle.running.specs.Records.{inOrder}
 use Rattle.running.specs.Elements.{taking}
-use Rattle.running.specs.Laws.Elements.{order-start, inside-lies, take-turn}
+use Rattle.running.specs.Laws.Elements.{order-start, take-turn}
+use Rattle.judging.specs.Laws.Elements.{inside-lies}
 use borrow.Author.Needs.{needs}
 use native.Mathlib.Omega.{arith}
 use Rattle.running.proofs.moving.take_elements.Statement.{statement}
