@@ -1,12 +1,6 @@
 pub mod Steps
 pub mod Carrying
-pub mod Names
-pub mod Accesses
-pub mod Types
-pub mod Counts
-pub mod Untouched
-pub mod Stores
-pub mod Strips
-pub mod Done
-pub mod Loops
-pub mod Readable
+pub mod Machines
+pub mod Bytes
+pub mod Laws
+pub mod Theorems

@@ -1,38 +1,14 @@
-// Carrying out a sheet: a check over types that refuses or accepts, then a performance that cannot fail.
-pub mod checks;
+// Carrying out a sheet: the check, then a performance that cannot fail.
 pub mod memory_steps;
 pub mod performing;
 
 ghost use mathlib.Core.Path.{_≡_};
-ghost use lib.ListN.{length};
-ghost use Rattle.carrying.specs.Carrying.{checkRefused, carryAnswer, checkedSheet, carried, carriedMemory};
-ghost use Rattle.sheet_reader.specs.Reading.{readSheet};
 ghost use Rattle.registers.specs.Registers.{emptyRegisters};
+ghost use Rattle.carrying.specs.Carrying.{carryAnswer, carried, carriedMemory};
+use checking::checks;
 use registers::MatrixType;
 use registers::Registers;
 use sheet::Refusal;
-use sheet::Sheet;
-use sheet::sheets;
-use stops::Stop;
-
-// The largest memory.
-pub const MEMORY_LIMIT: usize = 65_536;
-
-// The refusal of a larger one.
-pub const MEMORY_TOO_LARGE: u8 = 18;
-
-// What the check of a step tells: its refusal, or the types that it leaves and how many of its elements have a byte.
-pub struct StepCheck {
-    pub stop: Stop,
-    pub types: [MatrixType; 4],
-    pub placed: usize,
-}
-
-// The answer of a check: a refusal, or how many elements of loads and stores have a byte.
-pub struct CheckAnswer {
-    pub refusal: Refusal,
-    pub count: usize,
-}
 
 // The answer of carrying out: a refusal with empty registers and a count of 0, or the registers and how many elements of loads and
 // stores had a byte.
@@ -54,50 +30,6 @@ pub struct Stepped {
     pub count: usize,
 }
 
-// A sheet read and checked: the check's answer, and where it is not refused the sheet.
-pub struct Judged {
-    pub answer: CheckAnswer,
-    pub sheet: Sheet,
-}
-
-fn judged_refused(refusal: Refusal) -> Judged
-    ensures { λ r. ⌜ r .answer ≡ checkRefused refusal ⌝ }
-{
-    Judged {
-        answer: checks::check_refused(refusal),
-        sheet: sheets::empty_sheet(),
-    }
-}
-
-// 18, the sheet's reading, and its check: what carrying out and translating begin with.
-pub fn judge(sheet: &[u8], memory_len: usize) -> Judged
-    ensures { λ r. ⌜ r .answer ≡ checkedSheet (now (sheet .entry)) «memory_len» ⌝ }
-    ensures { λ r. ⌜ (r .answer .refusal .number ≡ 0 → r .sheet ≡ readSheet (now (sheet .entry)) .sheet) ⌝ }
-{
-    if MEMORY_LIMIT < memory_len {
-        return judged_refused(checks::refusal_at(MEMORY_TOO_LARGE, 0, 0));
-    }
-    let read = sheet_reader::read_sheet(sheet);
-    let refusal = read.refusal;
-    if 0 < refusal.number {
-        return judged_refused(refusal);
-    }
-    let model = read.sheet;
-    let answer = checks::check(model, memory_len);
-    Judged {
-        answer,
-        sheet: model,
-    }
-}
-
-// Whether a sheet would be refused for a memory of a length, and how many elements of its loads and stores have a byte.
-pub fn check_sheet(sheet: &[u8], memory_len: usize) -> CheckAnswer
-    ensures { λ r. ⌜ r ≡ checkedSheet (now (sheet .entry)) «memory_len» ⌝ }
-{
-    let judged = judge(sheet, memory_len);
-    judged.answer
-}
-
 pub fn carry_refused(refusal: Refusal) -> CarryAnswer
     ensures { λ r. ⌜ r ≡ carryAnswer refusal emptyRegisters 0 ⌝ }
 {
@@ -114,7 +46,7 @@ pub fn carry_out(sheet: &[u8], memory: &mut [u8]) -> CarryAnswer
     ensures { λ r. ⌜ r ≡ carried (now (sheet .entry)) (now (memory .entry)) ⌝ }
     ensures { λ _. ⌜ now (memory .exit) ≡ carriedMemory (now (sheet .entry)) (now (memory .entry)) ⌝ }
 {
-    let judged = judge(sheet, memory.len());
+    let judged = checking::judge(sheet, memory.len());
     let found = judged.answer;
     let refused = found.refusal;
     if 0 < refused.number {

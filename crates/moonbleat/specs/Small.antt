@@ -25,7 +25,7 @@ use Rattle.round_trip.specs.Sheets.{Within, within, sheet-short}
 use Rattle.round_trip.specs.Growing.{reading}
 use Rattle.round_trip.specs.Theorems.{not-refused, read-within}
 use Rattle.registers.specs.Types.{theType, isEmpty}
-use Rattle.registers.specs.Sized.{SizedType, Sized, sized-empty}
+use Rattle.registers.specs.Sized.{SizedType, Sized, sized-empty, sized-room}
 use Rattle.registers.specs.Registers.{emptyRegisters}
 use Rattle.registers.specs.declared.MatrixType.{MatrixType}
 use Rattle.addressing.specs.declared.Access.{Access}
@@ -34,18 +34,24 @@ use Rattle.accesses.specs.Refusals as accesses
 use Rattle.accesses.specs.Refusals.{elementOutcome, misplaced, ranksDiffer, storeBlocked, firstRefused, sameAt, clashFrom, clashRefusal, elementsRefusal, accessRefusal}
 use Rattle.stops.specs.declared.Stop.{Stop}
 use Rattle.whole_steps.specs.Within.{refusal-element}
-use Rattle.carrying.specs.Steps.{accessOf, objectOf, loadCheck, storeCheck, checkedStep, Machine}
-use Rattle.carrying.specs.Carrying.{memoryLimit, checkedFrom, checked, checkedSheet, performed, started, carried}
-use Rattle.carrying.specs.Types.{check-sized, within-step}
-use Rattle.carrying.specs.Counts.{step-placed, sheet-count}
-use Rattle.carrying.specs.declared.StepCheck.{StepCheck}
-use Rattle.carrying.specs.declared.CheckAnswer.{CheckAnswer}
+use Rattle.checking.specs.Steps.{accessOf, objectOf, loadCheck, storeCheck, checkedStep}
+use Rattle.carrying.specs.Steps.{Machine}
+use Rattle.checking.specs.Checking.{memoryLimit, checkedFrom, checked, checkedSheet}
+use Rattle.carrying.specs.Carrying.{performed, started, carried}
+use Rattle.checking.specs.Laws.Steps.{check-sized, step-placed}
+use Rattle.checking.specs.Laws.Turns.{within-step}
+use Rattle.carrying.specs.Theorems.Counts.{sheet-count}
+use Rattle.checking.specs.declared.StepCheck.{StepCheck}
+use Rattle.checking.specs.declared.CheckAnswer.{CheckAnswer}
 use Rattle.carrying.specs.declared.CarryAnswer.{CarryAnswer}
 use Rattle.records.specs.declared.Decoded.{Decoded}
-use Rattle.tape.specs.Translating.{fitsRoom, translated}
-use Rattle.tape.specs.Running.{tapeRecord, decodedOk, decodedTypes, rangeFrom, ran, ranDecoded, tapeRefusal, runRefusal, runTape}
-use Rattle.tape.specs.Turns.{sized-room, Ready, ready-start, turn-next, turns-end, fit-few, tape-fit, tape-clear}
-use Rattle.tape.specs.declared.TranslateAnswer.{TranslateAnswer}
+use Rattle.translating.specs.Translating.{fitsRoom, translated}
+use Rattle.judging.specs.Judging.{tapeRecord, decodedOk, decodedTypes, rangeFrom, tapeRefusal}
+use Rattle.running.specs.Running.{ran, ranDecoded, runRefusal, runTape}
+use Rattle.running.specs.Laws.Turns.{Ready, ready-start, turn-next, turns-end}
+use Rattle.records.specs.Laws.{fit-few}
+use Rattle.judging.specs.Laws.Turns.{tape-fit, tape-clear}
+use Rattle.translating.specs.declared.TranslateAnswer.{TranslateAnswer}
 
 -- what the row of an answer asks of a refusal and a count
 abbrev pub Small : Refusal → ℕ → Type 0

@@ -4,9 +4,10 @@ ghost use mathlib.Core.List.{[], _∷_};
 ghost use Prim.Native.Nat.{_<_, _^_};
 ghost use lib.ListN.{length};
 ghost use Rattle.sheet_reader.specs.Reading.{readSheet};
-ghost use Rattle.carrying.specs.Carrying.{checkedSheet, carried, carriedMemory};
-ghost use Rattle.tape.specs.Translating.{translated, translatedRoom};
-ghost use Rattle.tape.specs.Running.{runTape, ranMemory};
+ghost use Rattle.checking.specs.Checking.{checkedSheet};
+ghost use Rattle.carrying.specs.Carrying.{carried, carriedMemory};
+ghost use Rattle.translating.specs.Translating.{translated, translatedRoom};
+ghost use Rattle.running.specs.Running.{runTape, ranMemory};
 ghost use Rattle.moonbleat.specs.Rows.{answerRow, countsRow, typesRow, rewritten, rewrittenRoom};
 use registers::Registers;
 use sheet::Refusal;
@@ -114,7 +115,7 @@ pub extern "C" fn moonbleat_check(
     ensures { λ r. ⌜ r ≡ checkedSheet (now (sheet .entry)) «memory_len» .refusal .number ⌝ }
     ensures { λ _. ⌜ now (answer .exit) ≡ answerRow (checkedSheet (now (sheet .entry)) «memory_len» .refusal) (checkedSheet (now (sheet .entry)) «memory_len» .count) ⌝ }
 {
-    let found = carrying::check_sheet(sheet, memory_len);
+    let found = checking::check_sheet(sheet, memory_len);
     put_answer(answer, found.refusal, found.count)
 }
 
@@ -152,7 +153,7 @@ pub extern "C" fn moonbleat_translate(
     ensures { λ _. ⌜ now (records .exit) ≡ translated (now (sheet .entry)) «memory_len» (length (now (tape .entry))) .records ∷ [] ⌝ }
     ensures { λ _. ⌜ now (answer .exit) ≡ answerRow (translated (now (sheet .entry)) «memory_len» (length (now (tape .entry))) .refusal) (translated (now (sheet .entry)) «memory_len» (length (now (tape .entry))) .count) ⌝ }
 {
-    let made = tape::translating::translate(sheet, memory_len, tape);
+    let made = translating::translate(sheet, memory_len, tape);
     *records = [made.records as u32];
     put_answer(answer, made.refusal, made.count)
 }
@@ -174,7 +175,7 @@ pub extern "C" fn moonbleat_run(
     ensures { λ _. ⌜ now (elements .exit) ≡ runTape (now (sheet .entry)) (now (tape .entry)) records (now (memory .entry)) .registers .elements ⌝ }
     ensures { λ _. ⌜ now (answer .exit) ≡ answerRow (runTape (now (sheet .entry)) (now (tape .entry)) records (now (memory .entry)) .refusal) (runTape (now (sheet .entry)) (now (tape .entry)) records (now (memory .entry)) .count) ⌝ }
 {
-    let done = tape::running::run_tape(sheet, tape, records, memory);
+    let done = running::run_tape(sheet, tape, records, memory);
     put_registers(types, elements, done.registers);
     put_answer(answer, done.refusal, done.count)
 }

@@ -59,7 +59,7 @@ fn main() {
     let mut input = [0u8; 66_282];
     let n = io::read_full(STDIN_FILENO, &mut input);
     let mut tape = [0i32; 6144];
-    let r = tape::translating::translate(&input[..n], MEMORY, &mut tape);
+    let r = translating::translate(&input[..n], MEMORY, &mut tape);
     let f = r.refusal;
     if 0 < f.number {
         print_refusal(f.number, f.place, f.element);

@@ -6,10 +6,11 @@ use mathlib.Core.List.{List, [], _∷_, _++_, append-assoc}
 use native.Mathlib.Nat.{not-suc-le-zero}
 use native.Mathlib.Numerals.{towards-suc}
 use native.Mathlib.Omega.{arith}
-use borrow.Author.Tests.{le-leb}
+use borrow.Author.Tests.{le-leb, leb-true}
 use lib.ListN.{length, getD, length-append}
 use lib.IntN.{ℤ, pos}
-use Rattle.numbers.specs.Choice.{pick, both-true}
+use Rattle.numbers.specs.Choice.{pick, both-true, both-left, both-right}
+use Rattle.sheet.specs.Sizes.{recordLimit}
 use Rattle.signed.specs.Numbers.{rise, fall, is, atLeast, difference, signedOf}
 use Rattle.signed.specs.Laws.{spans-true, rise-difference, fall-difference, bits-signed}
 use Rattle.records.specs.declared.Record.{Record}
@@ -17,6 +18,7 @@ use Rattle.records.specs.declared.Record.the-variants.{Copy, Take, Put, 
 use Rattle.records.specs.declared.Decoded.the-variants.{Good}
 use Rattle.records.specs.Records.{recordNumbers, tapeNumbers, moved, registerOk, stepOk, copyOk, bytesOk, fillOk, wholeOk, copyOf, bytesOf, fillOf, wholeOf, recordOf, recordAt}
 use Rattle.records.specs.Ranges.{Elements, Bytes, Within}
+use Rattle.records.specs.Room.{recordsFit}
 
 register-true : (r : ℕ) → r < 4 → registerOk (pos r) ≡ true
 register-true r h = spans-true 0 3 (pos r) (omega arith) (omega arith)
@@ -121,3 +123,13 @@ length-tape (r ∷ rs) = length-append (recordNumbers r) (tapeNumbers rs) ∙ om
 pub tape-append : (rs qs : List Record) → tapeNumbers (rs ++ qs) ≡ tapeNumbers rs ++ tapeNumbers qs
 tape-append [] qs = refl
 tape-append (r ∷ rs) qs = rw (tape-append rs qs, append-assoc)
+
+-- so many records fit: they are few, and the room holds their numbers
+module _ (edition room records : ℕ) (e : recordsFit edition room records ≡ true) where
+  pub fit-few : records ≤ 1024
+  unfolding recordsFit recordLimit
+  fit-few = leb-true _ _ (both-left _ _ e)
+
+  pub fit-room : records * 6 ≤ room
+  unfolding recordsFit
+  fit-room = leb-true _ _ (both-right _ _ e)

@@ -9,6 +9,8 @@ ghost use lib.IntN.{pos};
 ghost use Rattle.signed.specs.Numbers.{number, rise};
 ghost use Rattle.records.specs.Records.{registerOk, moved, bytesNumbers, recordNumbers, fields, copyOk, bytesOk, fillOk, wholeOk, copyOf, bytesOf, fillOf, wholeOf, recordAt};
 ghost use Rattle.records.specs.Ranges.{Elements, Bytes, Within, Sound};
+ghost use Rattle.records.specs.Room.{recordsFit};
+use sheet::sizes;
 
 // The byte step of a take or a put is up - down, of which one is 0.
 pub enum Record {
@@ -56,6 +58,16 @@ pub const NUMBERS: usize = 6;
 const REGISTER: usize = 3;
 
 const STEP: usize = 65_535;
+
+// The limit first: past it the numbers are not counted.
+pub fn records_fit(edition: u8, room: usize, records: usize) -> bool
+    ensures { λ r. ⌜ r ≡ recordsFit edition room records ⌝ }
+{
+    if sizes::record_limit(edition) < records {
+        return false;
+    }
+    records * NUMBERS <= room
+}
 
 fn copy_ok(tape: &[i32], at: usize) -> bool
     requires { ⌜ at + 6 ≤ length (now tape) ⌝ }

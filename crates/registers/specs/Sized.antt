@@ -1,7 +1,8 @@
 -- Types within Sizes, and that every change of types keeps to them.
 use mathlib.Core.Path.{_≡_, refl}
 use mathlib.Core.List.{List, [], _∷_}
-use Prim.Native.Nat.{ℕ, zero, suc, _<_, _≤_}
+use Prim.Native.Nat.{ℕ, zero, suc, _*_, _<_, _≤_}
+use native.Mathlib.Nat.{mul-le-mul}
 use native.Mathlib.Omega.{arith}
 use lib.ListN.{replicate}
 use Rattle.registers.specs.Types.{noType, theType, withType}
@@ -18,6 +19,10 @@ pub record SizedType (t : MatrixType) : Type 0 where
 
 pub record Sized (ts : List MatrixType) : Type 0 where
   pub each : (r : ℕ) → SizedType (theType ts r)
+
+-- the elements of a matrix are elements of a register
+pub sized-room : (t : MatrixType) → SizedType t → t .rows * t .columns ≤ 256
+sized-room t s = mul-le-mul {n₂ = 16} {m₂ = 16} (s .rows) (s .columns)
 
 pub sized-none : SizedType noType
 sized-none = record { kind = omega arith; rows = omega arith; columns = omega arith; some = λ h. h; none = λ e. refl }

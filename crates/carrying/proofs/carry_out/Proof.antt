@@ -1,6 +1,6 @@
 use Rattle.carrying.proofs.Laws.{carried-refused, memory-refused, carried-accepted, memory-accepted}
-use Rattle.carrying.specs.Readable.{sheet-readable}
-use Rattle.carrying.specs.declared.CheckAnswer.{CheckAnswer}
+use Rattle.checking.specs.Laws.Readable.{sheet-readable}
+use Rattle.checking.specs.declared.CheckAnswer.{CheckAnswer}
 use Rattle.carrying.specs.Carrying.{started, performed, carryAnswer}
 use Rattle.sheet.specs.declared.Sheet.{Sheet}
 use Rattle.sheet.specs.declared.Refusal.{Refusal}

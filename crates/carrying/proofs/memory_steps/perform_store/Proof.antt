@@ -1,12 +1,13 @@
-use Rattle.carrying.specs.Steps.{accessOf, machineOf}
+use Rattle.checking.specs.Steps.{accessOf}
+use Rattle.carrying.specs.Steps.{machineOf}
 use Rattle.transfers.specs.Acts.{state}
 use Rattle.addressing.specs.declared.Access.{Access}
 use Rattle.registers.specs.declared.MatrixType.{MatrixType}
 use mathlib.Core.Bool.{false}
 use lib.ListN.{length}
 use denote.Ref.{now}
-use Rattle.carrying.specs.Done.{store-performed}
-use Rattle.carrying.specs.Accesses.{shaped}
+use Rattle.carrying.specs.Laws.Done.{store-performed}
+use Rattle.checking.specs.Laws.Accesses.{shaped}
 use Rattle.addressing.specs.Valid.{planned-access, planned-columns}
 use Rattle.accesses.specs.Accepted.{accepted-valid, element-accepted}
 use mathlib.Core.Path.{ap, _∙_}

@@ -1,11 +1,11 @@
-use Rattle.carrying.specs.Loops.{Ready, ready-start}
-use Rattle.carrying.specs.Types.{within-step}
+use Rattle.carrying.specs.Laws.Loops.{Ready, ready-start}
+use Rattle.checking.specs.Laws.Turns.{within-step}
 use Rattle.carrying.specs.Carrying.{started}
 use Rattle.carrying.specs.Steps.{machineOf}
 use Rattle.transfers.specs.Acts.{state}
 use Prim.Native.Nat.{_-_, _≤_}
 use denote.Ref.{now}
-use Rattle.carrying.specs.Loops.{turn-accepted, turn-next, turns-end}
+use Rattle.carrying.specs.Laws.Loops.{turn-accepted, turn-next, turns-end}
 use native.Mathlib.Nat.{sub-zero}
 use borrow.Author.Needs.{needs}
 use native.Mathlib.Omega.{arith}

@@ -1,12 +1,12 @@
-use Rattle.carrying.specs.Names.{load-names, store-names, load-option}
-use Rattle.carrying.specs.Loops.{object-machine, given-sized, load-clear, store-clear}
+use Rattle.checking.specs.Laws.Names.{load-names, store-names, load-option}
+use Rattle.carrying.specs.Laws.Loops.{object-machine, given-sized, load-clear, store-clear}
 use Rattle.carrying.specs.Steps.{machine, machineOf, registersOf, performedStep, loadDone}
 use Rattle.transfers.specs.Acts.{state}
 use Rattle.whole_steps.specs.Within.{whole-ok}
 use Rattle.registers.specs.declared.Registers.{Registers}
 use mathlib.Core.Path.{ap, _∙_}
 use denote.Ref.{now}
-use Rattle.carrying.specs.Steps.{checkedStep}
+use Rattle.checking.specs.Steps.{checkedStep}
 use borrow.Author.Needs.{needs}
 use Rattle.carrying.proofs.performing.perform_step.Statement.{statement}
 use Rattle.carrying.proofs.performing.perform_step.Tie as tie

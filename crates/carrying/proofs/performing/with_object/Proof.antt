@@ -1,4 +1,4 @@
-use Rattle.carrying.specs.Accesses.{view-given}
+use Rattle.checking.specs.Laws.Accesses.{view-given}
 use Rattle.carrying.specs.Steps.{objectRegisters}
 use Rattle.numbers.specs.Choice.{tests, taken, left, ne-not}
 use mathlib.Core.Path.{refl}

@@ -1,0 +1,4 @@
+pub mod Types
+pub mod Counts
+pub mod Done
+pub mod Loops

@@ -1,0 +1,4 @@
+pub mod Counts
+pub mod Untouched
+pub mod Stores
+pub mod Strips

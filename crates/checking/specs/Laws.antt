@@ -1,0 +1,5 @@
+pub mod Names
+pub mod Steps
+pub mod Accesses
+pub mod Turns
+pub mod Readable

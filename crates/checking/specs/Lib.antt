@@ -1,0 +1,4 @@
+pub mod Steps
+pub mod Checking
+pub mod Clear
+pub mod Laws

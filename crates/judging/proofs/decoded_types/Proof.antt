@@ -1,0 +1,22 @@
+use borrow.Author.Needs.{needs}
+use Rattle.judging.proofs.decoded_types.Statement.{statement}
+use Rattle.judging.proofs.decoded_types.Tie as tie
+
+enum-known-d : tie.Need-enum-known-d
+enum-known-d c = search needs
+
+record-types-requires : tie.Need-record-types-requires
+record-types-requires c κs = let s = c .before .before .before in let e = c .before .d .given .1 in (s .pre .0, rw e at (s .pre .1), rw e at (s .pre .2))
+
+enum-told : tie.Need-enum-told
+enum-told c = search needs
+
+returns : tie.Need-returns
+returns c = rw (c .before .before .d .given .1) (c .record-types .ensures)
+
+returns-2 : tie.Need-returns-2
+returns-2 c = rw (c .enum-told .given .1)
+
+pub decoded-types-spec : {M : Type 1} → statement M
+decoded-types-spec =
+    tie.close (tie.spec enum-known-d record-types-requires enum-told returns returns-2)

@@ -1,0 +1,27 @@
+use Rattle.numbers.specs.Choice.{taken, left, went-not, went-past}
+use Rattle.judging.specs.Judging.{tapeRefusal}
+use Rattle.records.specs.Laws.{fit-few, fit-room}
+use borrow.Author.Needs.{needs}
+use Rattle.judging.proofs.tape_refusal.Statement.{statement}
+use Rattle.judging.proofs.tape_refusal.Tie as tie
+
+records-fit-requires : tie.Need-records-fit-requires
+records-fit-requires c κs = search needs
+
+refusal-at-requires : tie.Need-refusal-at-requires
+refusal-at-requires c κs = search needs
+
+returns : tie.Need-returns
+unfolding tapeRefusal
+returns c = left _ (went-not (c .before .before .records-fit .ensures) (c .before .if1 .taken)) (c .refusal-at .ensures)
+
+range-requires : tie.Need-range-requires
+range-requires c κs = let e = went-past (c .before .records-fit .ensures) (c .if1 .left) in (c .before .before .pre, fit-few _ _ _ e, fit-room _ _ _ e)
+
+returns-2 : tie.Need-returns-2
+unfolding tapeRefusal
+returns-2 c = taken _ (went-past (c .before .before .records-fit .ensures) (c .before .if1 .left)) (c .range .ensures)
+
+pub tape-refusal-spec : {M : Type 1} → statement M
+tape-refusal-spec =
+    tie.close (tie.spec records-fit-requires refusal-at-requires returns range-requires returns-2)

@@ -1,0 +1,4 @@
+pub mod Bytes
+pub mod Elements
+pub mod Records
+pub mod Turns

@@ -1,0 +1,55 @@
+-- A take, a put and a fill in range, by their parts.
+use Prim.Native.Nat.{ℕ, _+_, _*_, _<_, _≤_}
+use mathlib.Core.Path.{_≡_, sym, ap, _∙_}
+use mathlib.Core.Bool.{Bool, true, false, not}
+use native.Mathlib.Nat.{mul-le-mul}
+use native.Mathlib.Omega.{arith}
+use borrow.Author.Tests.{leb-true}
+use Rattle.numbers.specs.Choice.{both-left, both-right}
+use Rattle.numbers.specs.All.{all-at}
+use Rattle.kinds.specs.Widths.{bytesOf}
+use Rattle.registers.specs.Sized.{SizedType, sized-room}
+use Rattle.registers.specs.declared.MatrixType.{MatrixType}
+use Rattle.judging.specs.Laws.Bytes.{byte-natural, inside-natural}
+use Rattle.judging.specs.Records.{elementsOk, byteAt, byteInside, bytesInside, bytesRecordOk, fillRecordOk}
+
+-- a test that a call made, turned over
+pub not-on : {r t : Bool} → r ≡ t → r ≡ true → not t ≡ false
+not-on p q = ap not (sym p ∙ q)
+
+pub not-off : {r t : Bool} → r ≡ t → r ≡ false → not t ≡ true
+not-off p q = ap not (sym p ∙ q)
+
+pub ruleset turned = (not-on, not-off)
+
+-- every byte of element i lies in memory
+pub record Lies (size len byte up down i : ℕ) : Type 0 where
+  pub above : i * down ≤ byte + i * up
+  pub below : byteAt byte up down i + size ≤ len
+
+pub inside-lies : (size len count byte up down : ℕ) → bytesInside size len count byte up down ≡ true → (i : ℕ) → i < count → Lies size len byte up down i
+inside-lies size len count byte up down e i h =
+    let f = sym (inside-natural byte up down i size len) ∙ all-at count (byteInside size len byte up down) e i h in
+    record { above = leb-true _ _ (both-left _ _ f); below = rw (byte-natural byte up down i) (leb-true _ _ (both-right _ _ f)) }
+
+-- elements of a matrix are elements of a register
+pub elements-fit : (t : MatrixType) (first count : ℕ) → SizedType t → elementsOk t first count ≡ true → first + count ≤ 256
+elements-fit t first count s e = omega (arith, sized-room t s, leb-true (first + count) (t .rows * t .columns) e)
+
+-- a take or a put, and a fill, that is in range, by its parts
+module _ (t : MatrixType) (first count : ℕ) where
+  pub bytes-elements : (len byte up down : ℕ) → bytesRecordOk t len first count byte up down ≡ true → elementsOk t first count ≡ true
+  unfolding bytesRecordOk
+  bytes-elements len byte up down e = both-left _ _ (both-right _ _ e)
+
+  pub bytes-inside : (len byte up down : ℕ) → bytesRecordOk t len first count byte up down ≡ true → bytesInside (bytesOf (t .kind)) len count byte up down ≡ true
+  unfolding bytesRecordOk
+  bytes-inside len byte up down e = both-right _ _ (both-right _ _ e)
+
+  pub fill-elements : (value : ℕ) → fillRecordOk t first count value ≡ true → elementsOk t first count ≡ true
+  unfolding fillRecordOk
+  fill-elements value e = both-left _ _ (both-right _ _ e)
+
+-- the way of an element from a record's byte
+pub stride-small : (i step : ℕ) → i < 256 → step ≤ 65535 → i * step ≤ 256 * 65536
+stride-small i step h l = let k : i ≤ 256 = omega arith in mul-le-mul {n₂ = 256} {m₂ = 65536} k (omega arith)

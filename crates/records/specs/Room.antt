@@ -1,0 +1,10 @@
+-- How many records a tape may have.
+use Prim.Native.Nat.{ℕ, _*_}
+use mathlib.Core.Bool.{Bool}
+use lib.Dec.{leb}
+use Rattle.numbers.specs.Choice.{both}
+use Rattle.sheet.specs.Sizes.{recordLimit}
+
+-- the records of a tape are at most its edition's limit, and the room holds their six numbers each
+unfoldable pub recordsFit : ℕ → ℕ → ℕ → Bool
+recordsFit edition room records = both (leb records (recordLimit edition)) (leb (records * 6) room)

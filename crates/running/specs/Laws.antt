@@ -1,0 +1,4 @@
+pub mod Elements
+pub mod Records
+pub mod Turns
+pub mod Answers

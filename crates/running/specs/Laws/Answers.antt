@@ -1,0 +1,53 @@
+-- Which answer a tape gets, by the ways that the code takes.
+use Prim.Native.Nat.{ℕ, _<_, _≤_}
+use mathlib.Core.Path.{_≡_}
+use mathlib.Core.List.{List}
+use native.Mathlib.Omega.{arith}
+use borrow.Author.Tests.{le-leb, lt-leb, eq-eqb, ne-eqb}
+use lib.IntN.{ℤ}
+use lib.ListN.{length}
+use Rattle.numbers.specs.Choice.{pick}
+use Rattle.sheet.specs.declared.Refusal.{Refusal}
+use Rattle.sheet_reader.specs.Reading.{readSheet}
+use Rattle.registers.specs.Registers.{emptyRegisters}
+use Rattle.registers.specs.declared.Registers.{Registers}
+use Rattle.checking.specs.Checking.{refusalAt, memoryLimit}
+use Rattle.carrying.specs.Steps.{machine}
+use Rattle.carrying.specs.Carrying.{started, carryAnswer}
+use Rattle.judging.specs.Judging.{tapeRecord, tapeRefusal}
+use Rattle.running.specs.Running.{ran, runRefusal, runTape, ranMemory}
+
+module _ (s : List ℕ) (tape : List ℤ) (records : ℕ) where
+  module _ (len : ℕ) where
+    pub run-large : memoryLimit < len → runRefusal s tape records len ≡ refusalAt 18 0 0
+    unfolding runRefusal pick
+    run-large h = rw (lt-leb len memoryLimit h)
+
+    pub run-unread : len ≤ memoryLimit → 0 < readSheet s .refusal .number → runRefusal s tape records len ≡ readSheet s .refusal
+    unfolding runRefusal pick
+    run-unread h n = rw (le-leb len memoryLimit h, ne-eqb (readSheet s .refusal .number) 0 (λ e. omega arith))
+
+    pub run-readable : len ≤ memoryLimit → readSheet s .refusal .number ≡ 0 → runRefusal s tape records len ≡ tapeRefusal (readSheet s .sheet) tape records len
+    unfolding runRefusal pick
+    run-readable h n = rw (le-leb len memoryLimit h, eq-eqb (readSheet s .refusal .number) 0 n)
+
+  module _ (memory : List ℕ) where
+    -- refused: empty registers, memory unchanged
+    pub run-refused : {r : Refusal} → runRefusal s tape records (length memory) ≡ r → 0 < r .number → carryAnswer r emptyRegisters 0 ≡ runTape s tape records memory
+    unfolding runTape pick
+    run-refused {r} e n = rw (e, ne-eqb (r .number) 0 (λ q. omega arith))
+
+    pub ran-refused : {r : Refusal} → runRefusal s tape records (length memory) ≡ r → 0 < r .number → memory ≡ ranMemory s tape records memory
+    unfolding ranMemory pick
+    ran-refused {r} e n = rw (e, ne-eqb (r .number) 0 (λ q. omega arith))
+
+    -- accepted: what the records leave
+    pub run-accepted : {registers : Registers} {after : List ℕ} {count : ℕ} → runRefusal s tape records (length memory) .number ≡ 0
+        → machine registers after count ≡ ran records (readSheet s .sheet) (tapeRecord tape) (started memory) → carryAnswer (refusalAt 0 0 0) registers count ≡ runTape s tape records memory
+    unfolding runTape pick
+    run-accepted n e = rw (eq-eqb (runRefusal s tape records (length memory) .number) 0 n, ← e)
+
+    pub ran-accepted : {registers : Registers} {after : List ℕ} {count : ℕ} → runRefusal s tape records (length memory) .number ≡ 0
+        → machine registers after count ≡ ran records (readSheet s .sheet) (tapeRecord tape) (started memory) → after ≡ ranMemory s tape records memory
+    unfolding ranMemory pick
+    ran-accepted n e = rw (eq-eqb (runRefusal s tape records (length memory) .number) 0 n, ← e)

@@ -1,0 +1,62 @@
+-- The turns over the elements of a take, a put and a fill.
+use Prim.Native.Nat.{ℕ, zero, suc, _+_, _≤_}
+use mathlib.Core.Path.{_≡_, refl, sym, ap, _∙_}
+use mathlib.Core.List.{List}
+use native.Mathlib.Numerals.{add-one}
+use native.Mathlib.Nat.{add-zero}
+use native.Mathlib.Omega.{arith}
+use Rattle.memory.specs.Elements.{elementAt, withElement}
+use Rattle.registers.specs.Registers.{elementOf, withElementOf}
+use Rattle.transfers.specs.Acts.{State, state}
+use Rattle.judging.specs.Records.{byteAt}
+use Rattle.running.specs.Records.{inOrder}
+use Rattle.running.specs.Elements.{taking, putting, filling}
+
+module _ (act : ℕ → State → State) where
+  pub order-none : (s : State) → inOrder act 0 s ≡ s
+  unfolding inOrder
+  order-none s = refl
+
+  pub order-more : (n : ℕ) (s : State) → inOrder act (n + 1) s ≡ act n (inOrder act n s)
+  unfolding inOrder
+  order-more n s = rw add-one
+
+  pub order-keeps : {A : Type 0} (f : State → A) → ((i : ℕ) (s : State) → f (act i s) ≡ f s) → (n : ℕ) (s : State) → f (inOrder act n s) ≡ f s
+  unfolding inOrder
+  order-keeps f h zero s = refl
+  order-keeps f h (suc n) s = h n (inOrder act n s) ∙ order-keeps f h n s
+
+  pub order-counts : ((i : ℕ) (s : State) → act i s .count ≤ s .count + 1) → (n : ℕ) (s : State) → inOrder act n s .count ≤ s .count + n
+  unfolding inOrder
+  order-counts h zero s = omega arith
+  order-counts h (suc n) s = omega (arith, h n (inOrder act n s), order-counts h n s)
+
+  order-turn : (i : ℕ) (s : State) {t u : State} → t ≡ inOrder act i s → u ≡ act i t → u ≡ inOrder act (i + 1) s
+  order-turn i s p q = q ∙ ap (act i) p ∙ sym (order-more i s)
+
+  pub order-start : (es m : List ℕ) (n : ℕ) → state es m (n + 0) ≡ inOrder act 0 (state es m n)
+  unfolding inOrder
+  order-start es m n = rw (add-zero n)
+
+-- one turn of the loop over the elements of a take, a put and a fill
+module _ (register first i : ℕ) where
+  module _ (size byte up down : ℕ) where
+    abbrev TakenSo : List ℕ → List ℕ → List ℕ → ℕ → Type 0
+    TakenSo es₀ m es k = (n : ℕ) → state es m (n + k) ≡ inOrder (taking size register first byte up down) k (state es₀ m n)
+
+    abbrev PutSo : List ℕ → List ℕ → List ℕ → ℕ → Type 0
+    PutSo es m₀ m k = (n : ℕ) → state es m (n + k) ≡ inOrder (putting size register first byte up down) k (state es m₀ n)
+
+    pub take-turn : (es₀ : List ℕ) {m es es′ : List ℕ} {at x : ℕ} → TakenSo es₀ m es i → at ≡ byteAt byte up down i → x ≡ elementAt m at size → es′ ≡ withElementOf es register (first + i) x → TakenSo es₀ m es′ (i + 1)
+    take-turn es₀ {m = m} inv p q r n =
+        let k : n + (i + 1) ≡ n + i + 1 = omega arith in
+        order-turn (taking size register first byte up down) i (state es₀ m n) (inv n) (rw (r, q, p, k) refl)
+
+    pub put-turn : (m₀ : List ℕ) {es m m′ : List ℕ} {at x : ℕ} → PutSo es m₀ m i → at ≡ byteAt byte up down i → x ≡ elementOf es register (first + i) → m′ ≡ withElement m at size x → PutSo es m₀ m′ (i + 1)
+    put-turn m₀ {es = es} inv p q r n =
+        let k : n + (i + 1) ≡ n + i + 1 = omega arith in
+        order-turn (putting size register first byte up down) i (state es m₀ n) (inv n) (rw (r, q, p, k) refl)
+
+  pub fill-turn : (value : ℕ) (es₀ : List ℕ) {es es′ : List ℕ} → ((m : List ℕ) (n : ℕ) → state es m n ≡ inOrder (filling register first value) i (state es₀ m n)) → es′ ≡ withElementOf es register (first + i) value
+      → (m : List ℕ) (n : ℕ) → state es′ m n ≡ inOrder (filling register first value) (i + 1) (state es₀ m n)
+  fill-turn value es₀ inv r m n = order-turn (filling register first value) i (state es₀ m n) (inv m n) (rw r refl)

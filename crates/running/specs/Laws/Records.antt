@@ -1,0 +1,111 @@
+-- What a record in range keeps.
+use Prim.Native.Nat.{ℕ, _+_, _≤_}
+use mathlib.Core.Path.{_≡_, refl, ap, _∙_}
+use mathlib.Core.Bool.{true}
+use native.Mathlib.Omega.{arith}
+use lib.ListN.{length, length-set}
+use Rattle.numbers.specs.Lists.{length-line}
+use Rattle.kinds.specs.Widths.{bytesOf}
+use Rattle.sheet.specs.Steps.{theStep}
+use Rattle.sheet.specs.declared.Sheet.{Sheet}
+use Rattle.round_trip.specs.Sheets.{Within}
+use Rattle.memory.specs.Laws.{length-with}
+use Rattle.registers.specs.Types.{theType}
+use Rattle.registers.specs.Registers.{placeOf, elementOf, room}
+use Rattle.registers.specs.Sized.{Sized}
+use Rattle.transfers.specs.Acts.{State}
+use Rattle.carrying.specs.Steps.{Machine, performedStep, stateOf}
+use Rattle.carrying.specs.Machines.{Formed}
+use Rattle.carrying.specs.Laws.Types.{step-places}
+use Rattle.records.specs.declared.Record.{Record}
+use Rattle.records.specs.declared.Record.the-variants.{Copy, Take, Put, Fill, Whole}
+use Rattle.records.specs.declared.Decoded.{Decoded}
+use Rattle.records.specs.declared.Decoded.the-variants.{Good, Bad}
+use Rattle.judging.specs.Records.{recordOk, recordTypes, elementsOk}
+use Rattle.judging.specs.Judging.{decodedOk, decodedTypes}
+use Rattle.judging.specs.Laws.Elements.{elements-fit, bytes-elements, fill-elements}
+use Rattle.judging.specs.Laws.Records.{whole-named, record-sized, record-registers}
+use Rattle.running.specs.Records.{ranRecord}
+use Rattle.running.specs.Running.{ranDecoded}
+use Rattle.running.specs.Elements.{taking, putting, filling}
+use Rattle.running.specs.Laws.Elements.{order-keeps, order-counts}
+
+module _ (sh : Sheet) where
+  pub record-types : (r : Record) (m : Machine) (len : ℕ) → recordOk sh (m .registers .types) len r ≡ true
+      → ranRecord sh r m .registers .types ≡ recordTypes sh (m .registers .types) r
+  unfolding ranRecord performedStep
+  record-types (Copy register object) m len e = refl
+  record-types (Take register first count byte up down) m len e = refl
+  record-types (Put register first count byte up down) m len e = refl
+  record-types (Fill register first count value) m len e = refl
+  record-types (Whole k) m len e = rw (whole-named sh (m .registers .types) len k e .is)
+
+-- a record in range on a machine
+module _ (sh : Sheet) (m : Machine) (len : ℕ) where
+  record-length : (r : Record) → recordOk sh (m .registers .types) len r ≡ true → length (ranRecord sh r m .memory) ≡ length (m .memory)
+  unfolding ranRecord performedStep
+  record-length (Copy register object) e = refl
+  record-length (Take register first count byte up down) e =
+      order-keeps _ (λ (s : State). length (s .memory)) (λ i s. refl) count (stateOf m)
+  record-length (Put register first count byte up down) e =
+      order-keeps _ (λ (s : State). length (s .memory)) (λ i s. length-with (s .memory) _ _ _) count (stateOf m)
+  record-length (Fill register first count value) e =
+      order-keeps _ (λ (s : State). length (s .memory)) (λ i s. refl) count (stateOf m)
+  record-length (Whole k) e = rw (whole-named sh (m .registers .types) len k e .is)
+
+  record-places : (r : Record) → length (ranRecord sh r m .registers .elements) ≡ length (m .registers .elements)
+  unfolding ranRecord
+  record-places (Copy register object) = length-line (m .registers .elements) (placeOf register 0) (elementOf (m .registers .elements) object) room
+  record-places (Take register first count byte up down) =
+      order-keeps _ (λ (s : State). length (s .elements)) (λ i s. length-set (s .elements) _ _) count (stateOf m)
+  record-places (Put register first count byte up down) =
+      order-keeps _ (λ (s : State). length (s .elements)) (λ i s. refl) count (stateOf m)
+  record-places (Fill register first count value) =
+      order-keeps _ (λ (s : State). length (s .elements)) (λ i s. length-set (s .elements) _ _) count (stateOf m)
+  record-places (Whole k) = step-places sh (theStep (sh .step) k) m
+
+  few : (register first count : ℕ) → Sized (m .registers .types) → elementsOk (theType (m .registers .types) register) first count ≡ true → count ≤ 256
+  few register first count s e = omega (arith, elements-fit _ first count (s .each register) e)
+
+  record-count : (r : Record) → recordOk sh (m .registers .types) len r ≡ true → Sized (m .registers .types) → ranRecord sh r m .count ≤ m .count + 256
+  unfolding ranRecord performedStep
+  record-count (Copy register object) e s = omega arith
+  record-count (Take register first count byte up down) e s =
+      let f = few register first count s (bytes-elements _ first count len byte up down e) in
+      let n = order-counts (taking (bytesOf (theType (m .registers .types) register .kind)) register first byte up down) (λ i s. omega arith) count (stateOf m) in
+      omega (arith, f, n)
+  record-count (Put register first count byte up down) e s =
+      let f = few register first count s (bytes-elements _ first count len byte up down e) in
+      let n = order-counts (putting (bytesOf (theType (m .registers .types) register .kind)) register first byte up down) (λ i s. omega arith) count (stateOf m) in
+      omega (arith, f, n)
+  record-count (Fill register first count value) e s =
+      let f = few register first count s (fill-elements _ first count value e) in
+      let n = order-counts (filling register first value) (λ i s. omega arith) count (stateOf m) in
+      omega (arith, f, n)
+  record-count (Whole k) e s = rw (whole-named sh (m .registers .types) len k e .is) (omega arith)
+
+  record-formed : Within sh → (r : Record) → recordOk sh (m .registers .types) len r ≡ true → Formed m → Formed (ranRecord sh r m)
+  record-formed w r e f =
+      let types = record-types sh r m len e in
+      record {
+        registers = ap length types ∙ record-registers sh (m .registers .types) len r e ∙ f .registers;
+        sized = rw types (record-sized sh w (m .registers .types) len r e (f .sized));
+        places = record-places r ∙ f .places;
+      }
+
+  -- the same of six numbers
+  pub decoded-types : (d : Decoded) → decodedOk sh (m .registers .types) len d ≡ true → ranDecoded sh d m .registers .types ≡ decodedTypes sh (m .registers .types) d
+  decoded-types (Good r) e = record-types sh r m len e
+  decoded-types Bad e = refl
+
+  pub decoded-length : (d : Decoded) → decodedOk sh (m .registers .types) len d ≡ true → length (ranDecoded sh d m .memory) ≡ length (m .memory)
+  decoded-length (Good r) e = record-length r e
+  decoded-length Bad e = refl
+
+  pub decoded-count : (d : Decoded) → decodedOk sh (m .registers .types) len d ≡ true → Sized (m .registers .types) → ranDecoded sh d m .count ≤ m .count + 256
+  decoded-count (Good r) e s = record-count r e s
+  decoded-count Bad e s = omega arith
+
+  pub decoded-formed : Within sh → (d : Decoded) → decodedOk sh (m .registers .types) len d ≡ true → Formed m → Formed (ranDecoded sh d m)
+  decoded-formed w (Good r) e f = record-formed w r e f
+  decoded-formed w Bad e f = f

@@ -1,0 +1,34 @@
+-- What a record of a running tape does.
+use Prim.Native.Nat.{ℕ, zero, suc, _+_}
+use Rattle.kinds.specs.Widths.{bytesOf}
+use Rattle.sheet.specs.Steps.{theStep}
+use Rattle.sheet.specs.declared.Sheet.{Sheet}
+use Rattle.registers.specs.Types.{theType}
+use Rattle.registers.specs.Registers.{copied}
+use Rattle.transfers.specs.Acts.{State, took, gave, put}
+use Rattle.carrying.specs.Steps.{Machine, machine, stateOf, machineOf, performedStep}
+use Rattle.records.specs.declared.Record.{Record}
+use Rattle.records.specs.declared.Record.the-variants.{Copy, Take, Put, Fill, Whole}
+use Rattle.judging.specs.Records.{byteAt}
+
+-- element after element, each on what the last one left
+unfoldable pub inOrder : (ℕ → State → State) → ℕ → State → State
+inOrder act zero s = s
+inOrder act (suc n) s = act n (inOrder act n s)
+
+-- a record that works on elements of register r: their acts, by the size of its elements
+abbrev pub onElements : ℕ → (ℕ → ℕ → State → State) → ℕ → Machine → Machine
+onElements register act count m =
+    machineOf (m .registers .types) (inOrder (act (bytesOf (theType (m .registers .types) register .kind))) count (stateOf m))
+
+-- take gives its elements the raw bits at their bytes, put writes theirs there, fill gives its elements the value's bits,
+-- copy makes the register equal to the object, op 4 does that step; all else stays
+unfoldable pub ranRecord : Sheet → Record → Machine → Machine
+ranRecord sh (Copy register object) m = machine (copied (m .registers) register object) (m .memory) (m .count)
+ranRecord sh (Take register first count byte up down) m =
+    onElements register (λ (size i : ℕ) (s : State). took size register (first + i) (byteAt byte up down i) s) count m
+ranRecord sh (Put register first count byte up down) m =
+    onElements register (λ (size i : ℕ) (s : State). put size register (first + i) (byteAt byte up down i) s) count m
+ranRecord sh (Fill register first count value) m =
+    onElements register (λ (size i : ℕ) (s : State). gave register (first + i) value s) count m
+ranRecord sh (Whole step) m = performedStep sh (theStep (sh .step) step) m

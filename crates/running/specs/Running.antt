@@ -1,0 +1,54 @@
+-- Running a tape with its sheet: 18, the sheet's reading, then 17 only.
+use Prim.Native.Nat.{ℕ, zero, suc, _+_}
+use mathlib.Core.List.{List}
+use lib.IntN.{ℤ}
+use lib.ListN.{length}
+use lib.Dec.{leb, eqb}
+use Rattle.numbers.specs.Choice.{pick}
+use Rattle.sheet.specs.declared.Sheet.{Sheet}
+use Rattle.sheet.specs.declared.Refusal.{Refusal}
+use Rattle.sheet_reader.specs.Reading.{readSheet}
+use Rattle.registers.specs.Registers.{emptyRegisters}
+use Rattle.checking.specs.Checking.{refusalAt, memoryLimit}
+use Rattle.carrying.specs.Steps.{Machine}
+use Rattle.carrying.specs.Carrying.{started, carryAnswer}
+use Rattle.carrying.specs.declared.CarryAnswer.{CarryAnswer}
+use Rattle.records.specs.declared.Decoded.{Decoded}
+use Rattle.records.specs.declared.Decoded.the-variants.{Good, Bad}
+use Rattle.judging.specs.Judging.{tapeRecord, tapeRefusal}
+use Rattle.running.specs.Records.{ranRecord}
+
+abbrev pub ranDecoded : Sheet → Decoded → Machine → Machine
+ranDecoded sh (Good r) m = ranRecord sh r m
+ranDecoded sh Bad m = m
+
+-- n records more, the next of which is number k, each on what the last one left
+unfoldable pub ranFrom : ℕ → Sheet → (ℕ → Decoded) → ℕ → Machine → Machine
+ranFrom zero sh the k m = m
+ranFrom (suc n) sh the k m = ranFrom n sh the (k + 1) (ranDecoded sh (the k) m)
+
+-- all records, in order
+abbrev pub ran : ℕ → Sheet → (ℕ → Decoded) → Machine → Machine
+ran n sh the m = ranFrom n sh the 0 m
+
+-- 18 first, then reading's 1 to 6, then 17
+unfoldable pub runRefusal : List ℕ → List ℤ → ℕ → ℕ → Refusal
+runRefusal s tape records len =
+    pick (leb len memoryLimit)
+    (pick (eqb (readSheet s .refusal .number) 0) (tapeRefusal (readSheet s .sheet) tape records len) (readSheet s .refusal))
+    (refusalAt 18 0 0)
+
+-- refused: empty registers and a count of 0; accepted: what the records leave
+unfoldable pub runTape : List ℕ → List ℤ → ℕ → List ℕ → CarryAnswer
+runTape s tape records memory =
+    let r = runRefusal s tape records (length memory) in
+    pick (eqb (r .number) 0)
+    (let m = ran records (readSheet s .sheet) (tapeRecord tape) (started memory) in carryAnswer (refusalAt 0 0 0) (m .registers) (m .count))
+    (carryAnswer r emptyRegisters 0)
+
+-- memory afterwards: unchanged where the tape is refused
+unfoldable pub ranMemory : List ℕ → List ℤ → ℕ → List ℕ → List ℕ
+ranMemory s tape records memory =
+    pick (eqb (runRefusal s tape records (length memory) .number) 0)
+    (ran records (readSheet s .sheet) (tapeRecord tape) (started memory) .memory)
+    memory

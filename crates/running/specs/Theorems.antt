@@ -1,0 +1,80 @@
+-- A byte outside the puts of a tape is unchanged by running it.
+use Prim.Native.Nat.{ℕ, zero, suc, _+_, _<_}
+use mathlib.Core.Path.{_≡_, refl, _∙_}
+use mathlib.Core.Bool.{true}
+use mathlib.Core.List.{List}
+use native.Mathlib.Omega.{arith}
+use lib.ListN.{getD}
+use Rattle.numbers.specs.Choice.{pick-case}
+use Rattle.kinds.specs.Widths.{bytesOf}
+use Rattle.sheet.specs.declared.Sheet.{Sheet}
+use Rattle.sheet.specs.declared.Refusal.{Refusal}
+use Rattle.memory.specs.Laws.{with-outside}
+use Rattle.registers.specs.Types.{theType}
+use Rattle.registers.specs.Registers.{emptyRegisters, elementOf}
+use Rattle.registers.specs.declared.MatrixType.{MatrixType}
+use Rattle.transfers.specs.Acts.{State}
+use Rattle.carrying.specs.Steps.{Machine, stateOf, performedStep}
+use Rattle.carrying.specs.Carrying.{started}
+use Rattle.records.specs.declared.Record.the-variants.{Copy, Take, Put, Fill, Whole}
+use Rattle.records.specs.declared.Decoded.{Decoded}
+use Rattle.records.specs.declared.Decoded.the-variants.{Good, Bad}
+use Rattle.judging.specs.Records.{byteAt}
+use Rattle.judging.specs.Judging.{decodedOk, decodedTypes, rangeFrom, rangeRefusal}
+use Rattle.judging.specs.Laws.Records.{whole-named}
+use Rattle.running.specs.Records.{inOrder, ranRecord}
+use Rattle.running.specs.Running.{ranDecoded, ranFrom, ran}
+use Rattle.running.specs.Laws.Records.{decoded-types}
+use Rattle.running.specs.Outside.{OutsideRecord, OutsideFrom}
+
+-- what holds before the elements of a record, and after each, holds after all
+in-order-keeps : (P : State → Type 0) (act : ℕ → State → State) (n : ℕ) → ((i : ℕ) → i < n → (s : State) → P s → P (act i s))
+    → (s : State) → P s → P (inOrder act n s)
+unfolding inOrder
+in-order-keeps P act zero h s q = q
+in-order-keeps P act (suc n) h s q = h n (omega arith) (inOrder act n s) (in-order-keeps P act n (λ i l. h i (omega arith)) s q)
+
+module _ (sh : Sheet) (len p : ℕ) where
+  abbrev Kept : Machine → Machine → Type 0
+  Kept before after = getD (after .memory) p 0 ≡ getD (before .memory) p 0
+
+  record-kept : (d : Decoded) (m : Machine) → decodedOk sh (m .registers .types) len d ≡ true → OutsideRecord (m .registers .types) p d → Kept m (ranDecoded sh d m)
+  unfolding ranRecord performedStep
+  record-kept (Good (Copy register object)) m e o = refl
+  record-kept (Good (Take register first count byte up down)) m e o =
+      in-order-keeps (λ (s : State). getD (s .memory) p 0 ≡ getD (m .memory) p 0) _ count (λ i l s q. q) (stateOf m) refl
+  record-kept (Good (Put register first count byte up down)) m e o =
+      let size = bytesOf (theType (m .registers .types) register .kind) in
+      in-order-keeps (λ (s : State). getD (s .memory) p 0 ≡ getD (m .memory) p 0) _ count
+      (λ i l s q. with-outside (s .memory) (byteAt byte up down i) size (elementOf (s .elements) register (first + i)) p (λ j h. o i j l h) ∙ q)
+      (stateOf m) refl
+  record-kept (Good (Fill register first count value)) m e o =
+      in-order-keeps (λ (s : State). getD (s .memory) p 0 ≡ getD (m .memory) p 0) _ count (λ i l s q. q) (stateOf m) refl
+  record-kept (Good (Whole k)) m e o = rw (whole-named sh (m .registers .types) len k e .is)
+  record-kept Bad m e o = refl
+
+  -- where n records are not out of range, the first is not, nor are the others
+  record Ranged (n : ℕ) (the : ℕ → Decoded) (k : ℕ) (ts : List MatrixType) : Type 0 where
+    first : decodedOk sh ts len (the k) ≡ true
+    others : rangeFrom n sh len the (k + 1) (decodedTypes sh ts (the k)) .number ≡ 0
+
+  ranged : (n : ℕ) (the : ℕ → Decoded) (k : ℕ) (ts : List MatrixType) → rangeFrom (suc n) sh len the k ts .number ≡ 0 → Ranged n the k ts
+  unfolding rangeFrom
+  ranged n the k ts =
+      pick-case (λ (r : Refusal). r .number ≡ 0 → Ranged n the k ts) (decodedOk sh ts len (the k)) _ _
+      (λ e h. record { first = e; others = h }) (λ e h. absurd (omega arith))
+
+  from-kept : (n : ℕ) (the : ℕ → Decoded) (k : ℕ) (m : Machine) → rangeFrom n sh len the k (m .registers .types) .number ≡ 0
+      → OutsideFrom n sh the k (m .registers .types) p → Kept m (ranFrom n sh the k m)
+  unfolding ranFrom OutsideFrom
+  from-kept zero the k m h o = refl
+  from-kept (suc n) the k m h o =
+      let r = ranged n the k (m .registers .types) h in
+      let types = decoded-types sh m len (the k) (r .first) in
+      from-kept n the (k + 1) (ranDecoded sh (the k) m) (rw types (r .others)) (rw types (o .1))
+      ∙ record-kept (the k) m (r .first) (o .0)
+
+  -- A byte outside the puts of a tape that is not refused is unchanged by running it.
+  pub outside-kept : (n : ℕ) (the : ℕ → Decoded) (memory : List ℕ) → rangeRefusal n sh len the .number ≡ 0
+      → OutsideFrom n sh the 0 (emptyRegisters .types) p → getD (ran n sh the (started memory) .memory) p 0 ≡ getD memory p 0
+  outside-kept n the memory h o = from-kept n the 0 (started memory) h o

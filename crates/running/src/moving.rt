@@ -1,0 +1,159 @@
+// The elements of a take, a put and a fill.
+ghost use mathlib.Core.Path.{_≡_};
+ghost use mathlib.Core.Bool.{true};
+ghost use mathlib.Core.List.{List};
+ghost use Prim.Native.Nat.{ℕ, _+_, _*_, _<_, _≤_};
+ghost use lib.ListN.{length};
+ghost use Rattle.kinds.specs.Laws.{ElementSize};
+ghost use Rattle.registers.specs.Registers.{room};
+ghost use Rattle.registers.specs.Sized.{Sized};
+ghost use Rattle.registers.specs.Types.{theType};
+ghost use Rattle.transfers.specs.Acts.{state};
+ghost use Rattle.carrying.specs.Steps.{machineOf};
+ghost use Rattle.records.specs.Ranges.{Elements, Bytes};
+ghost use Rattle.judging.specs.Records.{byteAt, bytesInside, bytesRecordOk, fillRecordOk};
+ghost use Rattle.running.specs.Records.{inOrder, onElements};
+ghost use Rattle.running.specs.Elements.{taking, putting, filling};
+use registers::MatrixType;
+
+fn byte_at(byte: usize, up: usize, down: usize, i: usize) -> usize
+    requires { ⌜ Bytes byte up down × (i < 256) × (i * down ≤ byte + i * up) ⌝ }
+    ensures { λ r. ⌜ r ≡ byteAt byte up down i ⌝ }
+{
+    byte + i * up - i * down
+}
+
+fn take_elements(
+    elements: &mut [u32; 1024],
+    memory: &[u8],
+    size: usize,
+    register: u8,
+    first: usize,
+    count: usize,
+    byte: usize,
+    up: usize,
+    down: usize,
+)
+    requires { ⌜ ElementSize size × (register < 4) × (first + count ≤ room) × Bytes byte up down ⌝ }
+    requires { ⌜ bytesInside size (length (now memory)) count byte up down ≡ true ⌝ }
+    ensures { λ _. ⌜ ((n : ℕ) → state (now (elements .exit)) (now (memory .entry)) (n + count) ≡ inOrder (taking size register first byte up down) count (state (now (elements .entry)) (now (memory .entry)) n)) ⌝ }
+{
+    let mut i = 0;
+    while i < count {
+        let at = byte_at(byte, up, down, i);
+        let x = memory::element_at(memory, at, size);
+        registers::put_element_of(elements, register, first + i, x);
+        i += 1;
+    }
+}
+
+fn put_elements(
+    elements: &[u32; 1024],
+    memory: &mut [u8],
+    size: usize,
+    register: u8,
+    first: usize,
+    count: usize,
+    byte: usize,
+    up: usize,
+    down: usize,
+)
+    requires { ⌜ ElementSize size × (register < 4) × (first + count ≤ room) × Bytes byte up down ⌝ }
+    requires { ⌜ bytesInside size (length (now memory)) count byte up down ≡ true ⌝ }
+    ensures { λ _. ⌜ ((n : ℕ) → state (now (elements .entry)) (now (memory .exit)) (n + count) ≡ inOrder (putting size register first byte up down) count (state (now (elements .entry)) (now (memory .entry)) n)) ⌝ }
+{
+    let mut i = 0;
+    while i < count {
+        let at = byte_at(byte, up, down, i);
+        let x = registers::element_of(elements, register, first + i);
+        memory::put_element(memory, at, size, x);
+        i += 1;
+    }
+}
+
+fn fill_elements(elements: &mut [u32; 1024], register: u8, first: usize, count: usize, value: u32)
+    requires { ⌜ (register < 4) × (first + count ≤ room) ⌝ }
+    ensures { λ _. ⌜ ((memory : List ℕ) (n : ℕ) → state (now (elements .exit)) memory n ≡ inOrder (filling register first value) count (state (now (elements .entry)) memory n)) ⌝ }
+{
+    let mut i = 0;
+    while i < count {
+        registers::put_element_of(elements, register, first + i, value);
+        i += 1;
+    }
+}
+
+// A take, which changes elements alone.
+pub fn take(
+    types: [MatrixType; 4],
+    elements: &mut [u32; 1024],
+    memory: &[u8],
+    register: u8,
+    first: usize,
+    count: usize,
+    byte: usize,
+    up: usize,
+    down: usize,
+)
+    requires { ⌜ Sized types × Elements register first count × Bytes byte up down ⌝ }
+    requires { ⌜ bytesRecordOk (theType types register) (length (now memory)) first count byte up down ≡ true ⌝ }
+    ensures { λ _. ⌜ ((n : ℕ) → machineOf types (state (now (elements .exit)) (now (memory .entry)) (n + count)) ≡ onElements register (λ (size : ℕ). taking size register first byte up down) count (machineOf types (state (now (elements .entry)) (now (memory .entry)) n))) ⌝ }
+{
+    let t = registers::the_type(types, register);
+    take_elements(
+        elements,
+        memory,
+        kinds::bytes(t.kind),
+        register,
+        first,
+        count,
+        byte,
+        up,
+        down,
+    );
+}
+
+// A put, which changes memory alone.
+pub fn put(
+    types: [MatrixType; 4],
+    elements: &[u32; 1024],
+    memory: &mut [u8],
+    register: u8,
+    first: usize,
+    count: usize,
+    byte: usize,
+    up: usize,
+    down: usize,
+)
+    requires { ⌜ Sized types × Elements register first count × Bytes byte up down ⌝ }
+    requires { ⌜ bytesRecordOk (theType types register) (length (now memory)) first count byte up down ≡ true ⌝ }
+    ensures { λ _. ⌜ ((n : ℕ) → machineOf types (state (now (elements .entry)) (now (memory .exit)) (n + count)) ≡ onElements register (λ (size : ℕ). putting size register first byte up down) count (machineOf types (state (now (elements .entry)) (now (memory .entry)) n))) ⌝ }
+{
+    let t = registers::the_type(types, register);
+    put_elements(
+        elements,
+        memory,
+        kinds::bytes(t.kind),
+        register,
+        first,
+        count,
+        byte,
+        up,
+        down,
+    );
+}
+
+// A fill, which changes elements alone.
+pub fn fill(
+    types: [MatrixType; 4],
+    elements: &mut [u32; 1024],
+    register: u8,
+    first: usize,
+    count: usize,
+    value: u32,
+)
+    requires { ⌜ Sized types × Elements register first count ⌝ }
+    requires { ⌜ fillRecordOk (theType types register) first count value ≡ true ⌝ }
+    ensures { λ _. ⌜ ((memory : List ℕ) (n : ℕ) → machineOf types (state (now (elements .exit)) memory n) ≡ onElements register (λ (size : ℕ). filling register first value) count (machineOf types (state (now (elements .entry)) memory n))) ⌝ }
+{
+    fill_elements(elements, register, first, count, value);
+}

@@ -1,0 +1,4 @@
+pub mod Tapes
+pub mod Translating
+pub mod GivenTape
+pub mod Theorems

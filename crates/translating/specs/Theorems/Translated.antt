@@ -1,0 +1,58 @@
+-- Where translating is not refused, the room holds the tape that document 01 gives, from its start on, and nothing else is written.
+use Prim.Native.Nat.{ℕ, _*_}
+use mathlib.Core.Path.{_≡_, refl, sym, ap, _∙_}
+use mathlib.Core.Bool.{true}
+use mathlib.Core.List.{List}
+use native.Mathlib.Omega.{arith}
+use borrow.Author.Tests.{eqb-true, eqb-false}
+use lib.Dec.{eqb}
+use lib.IntN.{ℤ}
+use lib.ListN.{length}
+use lib.Seq.{sets}
+use Rattle.numbers.specs.Choice.{pick, pick-case}
+use Rattle.sheet_reader.specs.Reading.{readSheet}
+use Rattle.checking.specs.Checking.{checkedSheet}
+use Rattle.records.specs.Records.{tapeNumbers}
+use Rattle.records.specs.Laws.{length-tape}
+use Rattle.translating.specs.Tapes.{tapeOf}
+use Rattle.translating.specs.GivenTape.{GivenTape}
+use Rattle.translating.specs.Theorems.GivenTape.{tape-only}
+use Rattle.translating.specs.Translating.{fitsRoom, translated, translatedRoom}
+use Rattle.translating.specs.declared.TranslateAnswer.{TranslateAnswer}
+
+-- a sheet that is translated into a room
+pub record Translated (s : List ℕ) (len room : ℕ) (r : TranslateAnswer) : Type 0 where
+  pub accepted : checkedSheet s len .refusal .number ≡ 0
+  pub fits : fitsRoom s len room ≡ true
+  pub records : r .records ≡ length (tapeOf (readSheet s .sheet) len)
+
+is-translated : (s : List ℕ) (len room : ℕ) → translated s len room .refusal .number ≡ 0 → Translated s len room (translated s len room)
+unfolding translated
+is-translated s len room =
+    pick-case P (eqb (checkedSheet s len .refusal .number) 0) _ _
+    (λ e. pick-case P (fitsRoom s len room) _ _
+    (λ f h. record { accepted = eqb-true (checkedSheet s len .refusal .number) 0 e; fits = f; records = refl })
+    (λ f h. absurd (omega arith)))
+    (λ e h. absurd (eqb-false (checkedSheet s len .refusal .number) 0 e h))
+  where
+    P : TranslateAnswer → Type 0
+    P r = r .refusal .number ≡ 0 → Translated s len room r
+
+-- Where translating is not refused, the room holds the tape that document 01 gives, from its start on, and nothing else is written.
+module _ (s : List ℕ) (len : ℕ) (room : List ℤ) (h : translated s len (length room) .refusal .number ≡ 0) where
+  pub told : Translated s len (length room) (translated s len (length room))
+  told = is-translated s len (length room) h
+
+  pub room-is : translatedRoom s len room ≡ sets room 0 (tapeNumbers (tapeOf (readSheet s .sheet) len))
+  unfolding translatedRoom pick
+  room-is = rw (told .accepted, told .fits)
+
+module _ (s : List ℕ) (len : ℕ) (room : List ℤ) (h : translated s len (length room) .refusal .number ≡ 0) where
+  pub translated-given : (xs : List ℤ) → GivenTape (readSheet s .sheet) len xs → translatedRoom s len room ≡ sets room 0 xs
+  translated-given xs g = room-is s len room h ∙ ap (sets room 0) (sym (tape-only (readSheet s .sheet) len xs g))
+
+  pub translated-count : (xs : List ℤ) → GivenTape (readSheet s .sheet) len xs → translated s len (length room) .records * 6 ≡ length xs
+  translated-count xs g =
+      ap (λ (n : ℕ). n * 6) (told s len room h .records)
+      ∙ sym (length-tape (tapeOf (readSheet s .sheet) len))
+      ∙ ap length (sym (tape-only (readSheet s .sheet) len xs g))
