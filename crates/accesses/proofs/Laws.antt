@@ -1,5 +1,5 @@
 -- Laws of an access's elements, as the loops go over them.
-use Prim.Native.Nat.{ℕ, zero, suc, _+_, _-_, _*_, _<_, _≤_, zero-le}
+use Prim.Native.Nat.{ℕ, zero, suc, _+_, _-_, _<_, _≤_, zero-le}
 use mathlib.Core.Path.{_≡_, refl, sym, ap, _∙_}
 use mathlib.Core.Bool.{Bool, true, false}
 use mathlib.Core.List.{List}
@@ -16,6 +16,7 @@ use Rattle.outcomes.specs.declared.Outcome.{Outcome}
 use Rattle.outcomes.specs.declared.Outcome.the-variants.{Skipped, Filled, Discarded, Placed}
 use Rattle.addressing.specs.declared.Access.{Access}
 use Rattle.addressing.specs.declared.Located.{Located}
+use Rattle.addressing.specs.Rules.{elementsOf}
 use Rattle.stops.specs.Stops.{stopAt}
 use Rattle.stops.specs.declared.Stop.{Stop}
 use Rattle.accesses.specs.declared.Survey.{Survey}
@@ -110,6 +111,7 @@ entries-same (Placed x) (Placed y) n m =
 -- The first m elements of an access, passed up to k without a refusal
 pub record Passed (f : ℕ → Located) (m k placed : ℕ) (entries : List ℕ) : Type 0 where
   pub inside : k ≤ m
+  pub most : m ≤ 256
   pub room : length entries ≡ 256
   pub few : placed ≤ k
   pub stop : firstRefused f k (m - k) ≡ firstRefused f 0 m
@@ -136,22 +138,23 @@ module _ (f : ℕ → Located) where
   unfolding placedCount
   count-more k = rw add-one
 
-  pub passed-none : (m : ℕ) (entries : List ℕ) → length entries ≡ 256 → Passed f m 0 0 entries
+  pub passed-none : (m : ℕ) (entries : List ℕ) → m ≤ 256 → length entries ≡ 256 → Passed f m 0 0 entries
   unfolding placedCount
-  passed-none m entries e =
-      record { inside = zero-le; room = e; few = zero-le; stop = rw sub-zero; count = refl; each = λ i h. absurd (not-suc-le-zero h) }
+  passed-none m entries most e =
+      record { inside = zero-le; most = most; room = e; few = zero-le; stop = rw sub-zero; count = refl; each = λ i h. absurd (not-suc-le-zero h) }
 
   -- a turn at k, where element k is r
   module _ {m k placed : ℕ} {entries : List ℕ} (inv : Passed f m k placed entries) (r : Located) (h : k < m) (er : r ≡ f k) where
     pub passed-stop : (r .refusal ≡ 0 → ⊥) → stopAt (r .refusal) k ≡ firstRefused f 0 m
     passed-stop n = rw er (sym (stop-here k (m - k) (omega arith) (rw er at n)) ∙ inv .stop)
 
-    pub passed-more : {x y : ℕ} → m ≤ 256 → r .refusal ≡ 0 → x ≡ entryOf (r .outcome) → y ≡ placedOne (r .outcome) → y ≤ 1
+    pub passed-more : {x y : ℕ} → r .refusal ≡ 0 → x ≡ entryOf (r .outcome) → y ≡ placedOne (r .outcome) → y ≤ 1
         → Passed f m (k + 1) (placed + y) (set entries k x)
-    passed-more {x} {y} room e ex ey one =
+    passed-more {x} {y} e ex ey one =
         let s : m - (k + 1) ≡ m - k - 1 = omega arith in
         record {
           inside = omega arith;
+          most = inv .most;
           room = length-set entries k x ∙ inv .room;
           few = omega (arith, inv .few);
           stop = rw s (stop-next k (m - k) (omega arith) (rw er at e) ∙ inv .stop);
@@ -159,7 +162,7 @@ module _ (f : ℕ → Located) where
           each = λ i l.
               by-test (eqb i k)
               (λ t. let q : i ≡ k = eqb-true i k t in
-              rw (q, getD-set-same entries k x 0 (omega (arith, inv .room)), ex, er))
+              rw (q, getD-set-same entries k x 0 (omega (arith, inv .room, inv .most)), ex, er))
               (λ t. let q : i ≡ k → ⊥ = eqb-false i k t in getD-set-other entries k i x 0 q ∙ inv .each i (omega arith));
         }
 
@@ -194,22 +197,22 @@ module _ (load : Bool) (f : ℕ → Located) (m : ℕ) {s : Stop} (e : s ≡ fir
       checked-apart h c = rw (← e, z, t, ← clash, le-ltb i m h) (ap (checkedBy (stopAt 0 0)) c)
 
 -- Refusals 9 to 11
-module _ (a : Access) (rows n : ℕ) where
-  pub access-nine : misplaced a ≡ true → checkedBy (stopAt 9 0) 0 ≡ checkedAccess a rows n
+module _ (a : Access) where
+  pub access-nine : misplaced a ≡ true → checkedBy (stopAt 9 0) 0 ≡ checkedAccess a
   unfolding accessRefusal checked pick
   access-nine e = rw e
 
   module _ (nine : misplaced a ≡ false) where
-    pub access-ten : ranksDiffer a ≡ true → checkedBy (stopAt 10 0) 0 ≡ checkedAccess a rows n
+    pub access-ten : ranksDiffer a ≡ true → checkedBy (stopAt 10 0) 0 ≡ checkedAccess a
     unfolding accessRefusal checked pick
     access-ten e = rw (nine, e)
 
     module _ (ten : ranksDiffer a ≡ false) where
-      pub access-eleven : storeBlocked a ≡ true → checkedBy (stopAt 11 0) 0 ≡ checkedAccess a rows n
+      pub access-eleven : storeBlocked a ≡ true → checkedBy (stopAt 11 0) 0 ≡ checkedAccess a
       unfolding accessRefusal checked pick
       access-eleven e = rw (nine, ten, e)
 
       pub access-elements : storeBlocked a ≡ false
-          → checked (elementOutcome a n) (rows * n) (elementsRefusal (a .load) (elementOutcome a n) (rows * n)) ≡ checkedAccess a rows n
+          → checked (elementOutcome a) (elementsOf a) (elementsRefusal (a .load) (elementOutcome a) (elementsOf a)) ≡ checkedAccess a
       unfolding accessRefusal pick
       access-elements e = rw (nine, ten, e)

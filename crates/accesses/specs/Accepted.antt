@@ -13,33 +13,34 @@ use Rattle.outcomes.specs.declared.Outcome.{Outcome}
 use Rattle.outcomes.specs.declared.Outcome.the-variants.{Skipped, Filled, Discarded, Placed}
 use Rattle.addressing.specs.declared.Access.{Access}
 use Rattle.addressing.specs.declared.Located.{Located}
+use Rattle.addressing.specs.Rules.{elementsOf}
 use Rattle.addressing.specs.Valid.{SizedAccess, ValidAccess}
 use Rattle.addressing.specs.Sound.{Sound, located-sound, low-bits-fit}
 use Rattle.stops.specs.Stops.{stopAt}
 use Rattle.stops.specs.declared.Stop.{Stop}
 use Rattle.accesses.specs.Refusals.{elementOutcome, misplaced, ranksDiffer, storeBlocked, firstRefused, sameAt, meets, clashFrom, clashRefusal, elementsRefusal, accessRefusal, placedOne, placedCount}
 
-pub element-sound : (a : Access) (n k : ℕ) → Sound a (elementOutcome a n k .outcome)
+pub element-sound : (a : Access) (k : ℕ) → Sound a (elementOutcome a k .outcome)
 unfolding elementOutcome
-element-sound a n k = located-sound a n (k / n) (k % n)
+element-sound a k = located-sound a (k / a .columns) (k % a .columns)
 
--- Of any access, element k of a matrix of n columns:
-module _ (a : Access) (n k : ℕ) where
+-- Of element k of any access:
+module _ (a : Access) (k : ℕ) where
   -- an element's bytes lie in memory
-  pub placed-inside : {byte : ℕ} → elementOutcome a n k .outcome ≡ Placed byte → byte + a .size ≤ a .memory
-  placed-inside e = (rw e at (element-sound a n k)) .0
+  pub placed-inside : {byte : ℕ} → elementOutcome a k .outcome ≡ Placed byte → byte + a .size ≤ a .memory
+  placed-inside e = (rw e at (element-sound a k)) .0
 
   -- a store fills no element
-  pub store-not-filled : {bits : ℕ} → a .load ≡ false → elementOutcome a n k .outcome ≡ Filled bits → ⊥
-  store-not-filled s e = true≢false (sym ((rw e at (element-sound a n k)) .0) ∙ s)
+  pub store-not-filled : {bits : ℕ} → a .load ≡ false → elementOutcome a k .outcome ≡ Filled bits → ⊥
+  store-not-filled s e = true≢false (sym ((rw e at (element-sound a k)) .0) ∙ s)
 
   -- a load discards no element
-  pub load-not-discarded : a .load ≡ true → elementOutcome a n k .outcome ≡ Discarded → ⊥
-  load-not-discarded l e = true≢false (sym l ∙ (rw e at (element-sound a n k)))
+  pub load-not-discarded : a .load ≡ true → elementOutcome a k .outcome ≡ Discarded → ⊥
+  load-not-discarded l e = true≢false (sym l ∙ (rw e at (element-sound a k)))
 
   -- a filled element's bits are below 2 to its width
-  pub filled-fits : {bits : ℕ} → elementOutcome a n k .outcome ≡ Filled bits → bits < 2 ^ (8 * a .size)
-  filled-fits e = rw ((rw e at (element-sound a n k)) .1) (low-bits-fit a)
+  pub filled-fits : {bits : ℕ} → elementOutcome a k .outcome ≡ Filled bits → bits < 2 ^ (8 * a .size)
+  filled-fits e = rw ((rw e at (element-sound a k)) .1) (low-bits-fit a)
 
 one-most : (o : Outcome) → placedOne o ≤ 1
 one-most Skipped = zero-le
@@ -98,58 +99,58 @@ pub ranks-agree : (a : Access) → ranksDiffer a ≡ false → a .viewed ≡ tru
 unfolding ranksDiffer both pick
 ranks-agree a e v s = eqb-true (a .view .rank) (a .layout .rank) (not-false _ (rw (v, s) at e))
 
--- Of an access to a matrix of rows by n that is not refused:
-module _ (a : Access) (rows n : ℕ) (ok : accessRefusal a rows n .number ≡ 0) where
+-- Of an access that is not refused:
+module _ (a : Access) (ok : accessRefusal a .number ≡ 0) where
   abbrev count : ℕ
-  count = rows * n
+  count = elementsOf a
 
-  past-nine : pick (ranksDiffer a) (stopAt 10 0) (pick (storeBlocked a) (stopAt 11 0) (elementsRefusal (a .load) (elementOutcome a n) count)) .number ≡ 0
+  past-nine : pick (ranksDiffer a) (stopAt 10 0) (pick (storeBlocked a) (stopAt 11 0) (elementsRefusal (a .load) (elementOutcome a) count)) .number ≡ 0
   unfolding accessRefusal
   past-nine = past (misplaced a) (stopAt 9 0) _ (λ e. omega arith) ok .1
 
   ranks-same : ranksDiffer a ≡ false
   ranks-same = past (ranksDiffer a) (stopAt 10 0) _ (λ e. omega arith) past-nine .0
 
-  past-eleven : elementsRefusal (a .load) (elementOutcome a n) count .number ≡ 0
+  past-eleven : elementsRefusal (a .load) (elementOutcome a) count .number ≡ 0
   past-eleven = past (storeBlocked a) (stopAt 11 0) _ (λ e. omega arith) (past (ranksDiffer a) (stopAt 10 0) _ (λ e. omega arith) past-nine .1) .1
 
-  first-clear : firstRefused (elementOutcome a n) 0 count .number ≡ 0
+  first-clear : firstRefused (elementOutcome a) 0 count .number ≡ 0
   unfolding elementsRefusal pick
   first-clear =
-      by-test (eqb (firstRefused (elementOutcome a n) 0 count .number) 0) (λ t. eqb-true _ _ t)
+      by-test (eqb (firstRefused (elementOutcome a) 0 count .number) 0) (λ t. eqb-true _ _ t)
       (λ t. absurd (eqb-false _ _ t (rw t at past-eleven)))
 
   -- no element is refused
-  pub element-accepted : (k : ℕ) → k < rows * n → elementOutcome a n k .refusal ≡ 0
-  element-accepted k h = none-refused (elementOutcome a n) 0 count first-clear k (omega arith) (omega arith)
+  pub element-accepted : (k : ℕ) → k < elementsOf a → elementOutcome a k .refusal ≡ 0
+  element-accepted k h = none-refused (elementOutcome a) 0 count first-clear k (omega arith) (omega arith)
 
   -- a view without dimensions has the layout's dimension count, so the elements can be looked at again
   pub accepted-valid : SizedAccess a → ValidAccess a
   accepted-valid s = record { sized = s; ranks = ranks-agree a ranks-same }
 
   module _ (store : a .load ≡ false) where
-    search-clear : count ≤ clashFrom (sameAt (elementOutcome a n)) 0 count
+    search-clear : count ≤ clashFrom (sameAt (elementOutcome a)) 0 count
     unfolding elementsRefusal clashRefusal pick
     search-clear =
-        by-test (ltb (clashFrom (sameAt (elementOutcome a n)) 0 count) count)
+        by-test (ltb (clashFrom (sameAt (elementOutcome a)) 0 count) count)
         (λ t. let z : _≡_ {A = ℕ} 15 0 = rw (t, first-clear, store) at past-eleven in absurd (omega arith)) (λ t. ltb-false _ _ t)
 
-    other-byte : (i j x y : ℕ) → j < i → i < count → elementOutcome a n i .outcome ≡ Placed x → elementOutcome a n j .outcome ≡ Placed y
+    other-byte : (i j x y : ℕ) → j < i → i < count → elementOutcome a i .outcome ≡ Placed x → elementOutcome a j .outcome ≡ Placed y
         → x ≡ y → ⊥
     other-byte i j x y h l ex ey e =
-        let same = sameAt (elementOutcome a n) in
+        let same = sameAt (elementOutcome a) in
         let apart : same j i ≡ false =
         meets-none-of same i i (none-clash same 0 count (omega (arith, search-clear)) i (omega arith) (omega arith)) j h in
         let z : eqb y x ≡ false = rw (ex, ey) at apart in
         eqb-false y x z (sym e)
 
     -- two elements of a store never share a byte: all bytes of one lie before all bytes of the other
-    pub placed-apart : (i j : ℕ) {x y : ℕ} → i < rows * n → j < rows * n → (i ≡ j → ⊥)
-        → elementOutcome a n i .outcome ≡ Placed x → elementOutcome a n j .outcome ≡ Placed y
+    pub placed-apart : (i j : ℕ) {x y : ℕ} → i < elementsOf a → j < elementsOf a → (i ≡ j → ⊥)
+        → elementOutcome a i .outcome ≡ Placed x → elementOutcome a j .outcome ≡ Placed y
         → (x + a .size ≤ y) ⊎ (y + a .size ≤ x)
     placed-apart i j {x} {y} hi hj d ex ey =
-        let sx : Sound a (Placed x) = rw ex at (element-sound a n i) in
-        let sy : Sound a (Placed y) = rw ey at (element-sound a n j) in
+        let sx : Sound a (Placed x) = rw ex at (element-sound a i) in
+        let sy : Sound a (Placed y) = rw ey at (element-sound a j) in
         let t = sx .1 .0 in
         let u = sy .1 .0 in
         let differ : x ≡ y → ⊥ =

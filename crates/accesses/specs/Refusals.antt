@@ -10,14 +10,14 @@ use Rattle.outcomes.specs.declared.Outcome.{Outcome}
 use Rattle.outcomes.specs.declared.Outcome.the-variants.{Skipped, Filled, Discarded, Placed}
 use Rattle.addressing.specs.declared.Access.{Access}
 use Rattle.addressing.specs.declared.Located.{Located}
-use Rattle.addressing.specs.Rules.{located}
+use Rattle.addressing.specs.Rules.{elementsOf, located}
 use Rattle.stops.specs.Stops.{stopAt}
 use Rattle.stops.specs.declared.Stop.{Stop}
 use Rattle.accesses.specs.declared.Checked.{Checked}
 
--- what becomes of element number k of a matrix of n columns: its row is k / n, its column k mod n
-unfoldable pub elementOutcome : Access → ℕ → ℕ → Located
-elementOutcome a n k = located a n (k / n) (k % n)
+-- what becomes of element number k: of N columns its row is k / N, its column k mod N
+unfoldable pub elementOutcome : Access → ℕ → Located
+elementOutcome a k = located a (k / a .columns) (k % a .columns)
 
 -- Refusal 9: base not a multiple of 16
 abbrev pub misplaced : Access → Bool
@@ -75,13 +75,13 @@ elementsRefusal load f m =
     (pick load (stopAt 0 0) (clashRefusal m (clashFrom (sameAt f) 0 m)))
     (firstRefused f 0 m)
 
--- Refusals 9 to 15 of an access to a matrix of rows by n
-unfoldable pub accessRefusal : Access → ℕ → ℕ → Stop
-accessRefusal a rows n =
+-- Refusals 9 to 15
+unfoldable pub accessRefusal : Access → Stop
+accessRefusal a =
     pick (misplaced a) (stopAt 9 0)
     (pick (ranksDiffer a) (stopAt 10 0)
     (pick (storeBlocked a) (stopAt 11 0)
-    (elementsRefusal (a .load) (elementOutcome a n) (rows * n))))
+    (elementsRefusal (a .load) (elementOutcome a) (elementsOf a))))
 
 -- 1 for an element with a byte
 abbrev pub placedOne : Outcome → ℕ
@@ -102,5 +102,5 @@ checkedBy s placed = record { stop = s; placed = placed }
 unfoldable pub checked : (ℕ → Located) → ℕ → Stop → Checked
 checked f m s = checkedBy s (pick (eqb (s .number) 0) (placedCount f m) 0)
 
-abbrev pub checkedAccess : Access → ℕ → ℕ → Checked
-checkedAccess a rows n = checked (elementOutcome a n) (rows * n) (accessRefusal a rows n)
+abbrev pub checkedAccess : Access → Checked
+checkedAccess a = checked (elementOutcome a) (elementsOf a) (accessRefusal a)

@@ -24,8 +24,6 @@ use Rattle.accesses.specs.Refusals
 -- a step, with what is wanted of each element and of the step
 pub record Strip : Type 0 where
   pub access : Access
-  pub rows : ℕ
-  pub columns : ℕ
   pub wanted : List Located
   pub answer : Checked
 
@@ -34,16 +32,13 @@ pub record Result : Type 0 where
   pub answer : Checked
 
 -- the outcomes of `count` elements from number k on
-abbrev pub outcomesFrom : Access → ℕ → ℕ → ℕ → List Located
-outcomesFrom a n k zero = []
-outcomesFrom a n k (suc count) = Refusals.elementOutcome a n k ∷ outcomesFrom a n (suc k) count
+abbrev pub outcomesFrom : Access → ℕ → ℕ → List Located
+outcomesFrom a k zero = []
+outcomesFrom a k (suc count) = Refusals.elementOutcome a k ∷ outcomesFrom a (suc k) count
 
 abbrev pub found : Strip → Result
 found s =
-    record {
-      elements = outcomesFrom (s .access) (s .columns) 0 (s .rows * s .columns);
-      answer = Refusals.checkedAccess (s .access) (s .rows) (s .columns);
-    }
+    record { elements = outcomesFrom (s .access) 0 (Rules.elementsOf (s .access)); answer = Refusals.checkedAccess (s .access) }
 
 abbrev pub expected : Strip → Result
 expected s = record { elements = s .wanted; answer = s .answer }
@@ -98,50 +93,46 @@ viewOf rank permutation columns =
       columns = columns;
     }
 
--- u8 elements at base 0 of a memory of 65,536
-plain : Bool → Layout → Access
-plain load l = record { load = load; layout = l; viewed = false; view = noView; base = 0; size = 1; memory = 65536 }
+-- u8 elements at base 0 of a memory of 65,536: a matrix of one row, and one by a view
+plain : Bool → Layout → ℕ → Access
+plain load l columns =
+    record { load = load; layout = l; viewed = false; view = noView; base = 0; size = 1; memory = 65536; rows = 1; columns = columns }
 
-viewed : Layout → View → Access
-viewed l v = record { load = true; layout = l; viewed = true; view = v; base = 0; size = 1; memory = 65536 }
+viewed : Layout → View → ℕ → ℕ → Access
+viewed l v rows columns =
+    record { load = true; layout = l; viewed = true; view = v; base = 0; size = 1; memory = 65536; rows = rows; columns = columns }
 
-eight : Access → List Located → Checked → Strip
-eight a wanted answer = record { access = a; rows = 1; columns = 8; wanted = wanted; answer = answer }
+eight : Bool → Layout → List Located → Checked → Strip
+eight load l wanted answer = record { access = plain load l 8; wanted = wanted; answer = answer }
 
 -- strip 10: stride 0
 still : ℕ → List Located → Checked → Strip
 still n wanted answer =
-    record { access = plain false (layoutOf Undefined 0 1 (one (dimension 8 0 0 8))); rows = 1; columns = n; wanted = wanted; answer = answer }
+    record { access = plain false (layoutOf Undefined 0 1 (one (dimension 8 0 0 8))) n; wanted = wanted; answer = answer }
 
 pub strips : List Strip
 strips =
-    eight (plain true (shifted Constant 9 4)) (bits 9 ∷ bits 9 ∷ byte 0 ∷ byte 1 ∷ byte 2 ∷ byte 3 ∷ bits 9 ∷ bits 9 ∷ []) (accepted 4)
-    ∷ eight (plain true (shifted ClampToEdge 0 4)) (byte 0 ∷ byte 0 ∷ byte 0 ∷ byte 1 ∷ byte 2 ∷ byte 3 ∷ byte 3 ∷ byte 3 ∷ []) (accepted 8)
-    ∷ eight (plain true (shifted Repeat 0 4)) (byte 2 ∷ byte 3 ∷ byte 0 ∷ byte 1 ∷ byte 2 ∷ byte 3 ∷ byte 0 ∷ byte 1 ∷ []) (accepted 8)
-    ∷ eight (plain true (shifted MirrorRepeat 0 4)) (byte 2 ∷ byte 1 ∷ byte 0 ∷ byte 1 ∷ byte 2 ∷ byte 3 ∷ byte 2 ∷ byte 1 ∷ []) (accepted 8)
-    ∷ eight (plain true (shifted MirrorRepeat 0 1)) (byte 0 ∷ byte 0 ∷ byte 0 ∷ byte 0 ∷ byte 0 ∷ byte 0 ∷ byte 0 ∷ byte 0 ∷ []) (accepted 8)
-    ∷ eight (plain true (shifted Undefined 0 4)) (bad ∷ bad ∷ byte 0 ∷ byte 1 ∷ byte 2 ∷ byte 3 ∷ bad ∷ bad ∷ []) (refusedAt 13 0)
-    ∷ eight (plain false (shifted ClampToEdge 0 4)) (gone ∷ gone ∷ byte 0 ∷ byte 1 ∷ byte 2 ∷ byte 3 ∷ gone ∷ gone ∷ []) (accepted 4)
+    eight true (shifted Constant 9 4) (bits 9 ∷ bits 9 ∷ byte 0 ∷ byte 1 ∷ byte 2 ∷ byte 3 ∷ bits 9 ∷ bits 9 ∷ []) (accepted 4)
+    ∷ eight true (shifted ClampToEdge 0 4) (byte 0 ∷ byte 0 ∷ byte 0 ∷ byte 1 ∷ byte 2 ∷ byte 3 ∷ byte 3 ∷ byte 3 ∷ []) (accepted 8)
+    ∷ eight true (shifted Repeat 0 4) (byte 2 ∷ byte 3 ∷ byte 0 ∷ byte 1 ∷ byte 2 ∷ byte 3 ∷ byte 0 ∷ byte 1 ∷ []) (accepted 8)
+    ∷ eight true (shifted MirrorRepeat 0 4) (byte 2 ∷ byte 1 ∷ byte 0 ∷ byte 1 ∷ byte 2 ∷ byte 3 ∷ byte 2 ∷ byte 1 ∷ []) (accepted 8)
+    ∷ eight true (shifted MirrorRepeat 0 1) (byte 0 ∷ byte 0 ∷ byte 0 ∷ byte 0 ∷ byte 0 ∷ byte 0 ∷ byte 0 ∷ byte 0 ∷ []) (accepted 8)
+    ∷ eight true (shifted Undefined 0 4) (bad ∷ bad ∷ byte 0 ∷ byte 1 ∷ byte 2 ∷ byte 3 ∷ bad ∷ bad ∷ []) (refusedAt 13 0)
+    ∷ eight false (shifted ClampToEdge 0 4) (gone ∷ gone ∷ byte 0 ∷ byte 1 ∷ byte 2 ∷ byte 3 ∷ gone ∷ gone ∷ []) (accepted 4)
     ∷ record {
-      access = viewed (layoutOf Undefined 0 2 (dimension 2 3 0 2 ∷ dimension 3 1 0 3 ∷ noDimension ∷ noDimension ∷ noDimension ∷ [])) (viewOf 2 (1 ∷ 0 ∷ 0 ∷ 0 ∷ 0 ∷ []) unclipped);
-      rows = 3;
-      columns = 2;
+      access = viewed (layoutOf Undefined 0 2 (dimension 2 3 0 2 ∷ dimension 3 1 0 3 ∷ noDimension ∷ noDimension ∷ noDimension ∷ [])) (viewOf 2 (1 ∷ 0 ∷ 0 ∷ 0 ∷ 0 ∷ []) unclipped) 3 2;
       wanted = byte 0 ∷ byte 3 ∷ byte 1 ∷ byte 4 ∷ byte 2 ∷ byte 5 ∷ [];
       answer = accepted 6;
     }
     ∷ record {
-      access = viewed (layoutOf Undefined 0 1 (one (dimension 8 1 0 8))) (viewOf 1 (0 ∷ 0 ∷ 0 ∷ 0 ∷ 0 ∷ []) (record { offset = 2; span = 65535 }));
-      rows = 2;
-      columns = 4;
+      access = viewed (layoutOf Undefined 0 1 (one (dimension 8 1 0 8))) (viewOf 1 (0 ∷ 0 ∷ 0 ∷ 0 ∷ 0 ∷ []) (record { offset = 2; span = 65535 })) 2 4;
       wanted = kept ∷ kept ∷ byte 0 ∷ byte 1 ∷ kept ∷ kept ∷ byte 4 ∷ byte 5 ∷ [];
       answer = accepted 4;
     }
     ∷ record {
       access =
           viewed (layoutOf Undefined 0 5 (dimension 4096 0 0 4096 ∷ dimension 4096 0 0 4096 ∷ dimension 4096 0 0 4096 ∷ dimension 4096 0 0 4096 ∷ dimension 4096 0 0 4096 ∷ []))
-          (viewOf 5 (1 ∷ 2 ∷ 3 ∷ 4 ∷ 0 ∷ []) unclipped);
-      rows = 1;
-      columns = 2;
+          (viewOf 5 (1 ∷ 2 ∷ 3 ∷ 4 ∷ 0 ∷ []) unclipped) 1 2;
       wanted = byte 0 ∷ Rules.refused 12 ∷ [];
       answer = refusedAt 12 1;
     }

@@ -10,14 +10,14 @@ use Rattle.outcomes.specs.declared.Outcome.the-variants.{Skipped, Filled, Disca
 use Rattle.addressing.specs.declared.Access.{Access}
 use Rattle.addressing.specs.declared.Located.{Located}
 use Rattle.addressing.specs.declared.Plan.{Plan}
-use Rattle.addressing.specs.Rules.{lowBits}
+use Rattle.addressing.specs.Rules.{elementsOf, lowBits}
 use Rattle.addressing.specs.Valid.{SizedAccess, Planned, plan-fill}
 use Rattle.addressing.specs.Sound.{Sound}
 use Rattle.stops.specs.declared.Stop.{Stop}
 use Rattle.accesses.specs.declared.Survey.{Survey}
-use Rattle.accesses.specs.Refusals.{elementOutcome, firstRefused}
+use Rattle.accesses.specs.Refusals.{elementOutcome, firstRefused, accessRefusal}
 use Rattle.accesses.specs.Entries.{Near, entryOf, entryOutcome, Surveyed}
-use Rattle.accesses.specs.Accepted.{element-sound}
+use Rattle.accesses.specs.Accepted.{element-sound, element-accepted}
 
 sound-near : (a : Access) → SizedAccess a → (o : Outcome) → Sound a o → Near o
 sound-near a ok Skipped h = tt
@@ -26,8 +26,8 @@ sound-near a ok Discarded h = tt
 sound-near a ok (Placed b) h = omega (arith, h .0, ok .some, ok .memory)
 
 -- a byte of an element is a byte of memory
-pub element-near : (a : Access) → SizedAccess a → (n k : ℕ) → Near (elementOutcome a n k .outcome)
-element-near a ok n k = sound-near a ok (elementOutcome a n k .outcome) (element-sound a n k)
+pub element-near : (a : Access) → SizedAccess a → (k : ℕ) → Near (elementOutcome a k .outcome)
+element-near a ok k = sound-near a ok (elementOutcome a k .outcome) (element-sound a k)
 
 -- an entry stands for its outcome
 sound-entry : (a : Access) → SizedAccess a → (o : Outcome) → Sound a o → entryOutcome (lowBits a) (entryOf o) ≡ o
@@ -45,11 +45,11 @@ unfolding firstRefused pick
 none-first f i zero h = refl
 none-first f i (suc m) h = rw (eq-eqb (f i .refusal) 0 (h i (omega arith))) (none-first f (suc i) m (λ k l. h k (omega arith)))
 
--- the entries of a survey of elements of which none is refused stand for their outcomes
-pub surveyed-outcome : (p : Plan) → Planned p → {m : ℕ} {r : Survey} → Surveyed (elementOutcome (p .access) (p .columns)) m r
-    → ((k : ℕ) → k < m → elementOutcome (p .access) (p .columns) k .refusal ≡ 0) → (k : ℕ) → k < m
-    → entryOutcome (p .fill) (getD (r .entries) k 0) ≡ elementOutcome (p .access) (p .columns) k .outcome
-surveyed-outcome p ok {m} s h k l =
-    let f = elementOutcome (p .access) (p .columns) in
-    let z = ap (λ (x : Stop). x .number) (s .stop) ∙ none-first f 0 m (λ i g. h i (omega arith)) in
-    rw (plan-fill p ok, s .entries z k l) (sound-entry (p .access) (ok .valid .sized) (f k .outcome) (element-sound (p .access) (p .columns) k))
+-- the entries of a survey of an access that is not refused stand for its elements' outcomes
+pub surveyed-outcome : (p : Plan) → Planned p → {r : Survey} → Surveyed (elementOutcome (p .access)) (elementsOf (p .access)) r
+    → accessRefusal (p .access) .number ≡ 0 → (k : ℕ) → k < elementsOf (p .access)
+    → entryOutcome (p .fill) (getD (r .entries) k 0) ≡ elementOutcome (p .access) k .outcome
+surveyed-outcome p ok s h k l =
+    let a = p .access in
+    let z = ap (λ (x : Stop). x .number) (s .stop) ∙ none-first (elementOutcome a) 0 (elementsOf a) (λ i g. element-accepted a h i (omega arith)) in
+    rw (plan-fill p ok, s .entries z k l) (sound-entry a (ok .valid .sized) (elementOutcome a k .outcome) (element-sound a k))

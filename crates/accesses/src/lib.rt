@@ -1,9 +1,10 @@
 // All elements of a load or a store: refusals 9 to 15, and how many elements have a byte.
 ghost use mathlib.Core.Path.{_≡_};
 ghost use mathlib.Core.Bool.{true};
-ghost use Prim.Native.Nat.{_*_, _≤_, _<_};
+ghost use Prim.Native.Nat.{_≤_, _<_};
 ghost use Rattle.stops.specs.Stops.{stopAt};
 ghost use Rattle.sheet.specs.Layouts.{theDimension, layoutOk};
+ghost use Rattle.addressing.specs.Rules.{elementsOf};
 ghost use Rattle.addressing.specs.Valid.{SizedAccess, Planned};
 ghost use Rattle.accesses.specs.Refusals.{elementOutcome, ranksDiffer, blocksOne, storeBlocked, clashFrom, elementsRefusal, placedOne, checkedBy, checked, checkedAccess};
 ghost use Rattle.accesses.specs.Entries.{Near, entryOf, entryOutcome, hits, sameEntry, Surveyed};
@@ -76,10 +77,11 @@ fn placed_one(o: Outcome) -> usize
 }
 
 // The elements in order, up to the first that is refused.
-pub fn survey_of(p: Plan, count: usize) -> Survey
-    requires { ⌜ Planned p × (0 < p .columns) × (p .columns < 256) × (count ≤ 256) ⌝ }
-    ensures { λ r. ⌜ Surveyed (elementOutcome (p .access) (p .columns)) count r ⌝ }
+pub fn survey_of(p: Plan) -> Survey
+    requires { ⌜ Planned p ⌝ }
+    ensures { λ r. ⌜ Surveyed (elementOutcome (p .access)) (elementsOf (p .access)) r ⌝ }
 {
+    let count = p.count;
     let v = p.access.view;
     let permutation = v.permutation;
     let sizes = p.sizes;
@@ -169,11 +171,12 @@ fn accept(placed: usize) -> Checked
 }
 
 // Refusals 12 to 15.
-fn check_elements(p: Plan, count: usize) -> Checked
-    requires { ⌜ Planned p × (0 < p .columns) × (p .columns < 256) × (count ≤ 256) ⌝ }
-    ensures { λ r. ⌜ r ≡ checked (elementOutcome (p .access) (p .columns)) count (elementsRefusal (p .access .load) (elementOutcome (p .access) (p .columns)) count) ⌝ }
+fn check_elements(p: Plan) -> Checked
+    requires { ⌜ Planned p ⌝ }
+    ensures { λ r. ⌜ r ≡ checked (elementOutcome (p .access)) (elementsOf (p .access)) (elementsRefusal (p .access .load) (elementOutcome (p .access)) (elementsOf (p .access))) ⌝ }
 {
-    let s = survey_of(p, count);
+    let count = p.count;
+    let s = survey_of(p);
     let stop = s.stop;
     if stop.number != 0 {
         return refuse(stop.number, stop.element);
@@ -240,10 +243,10 @@ fn store_blocked(a: Access) -> bool
     !blocks_one(l)
 }
 
-// Refusals 9 to 15 of a load or a store of a matrix of `rows` by `columns`, in order, and how many of its elements have a byte.
-pub fn check_access(a: Access, rows: u32, columns: u32) -> Checked
-    requires { ⌜ SizedAccess a × (0 < columns) × (columns < 256) × (rows * columns ≤ 256) ⌝ }
-    ensures { λ r. ⌜ r ≡ checkedAccess a rows columns ⌝ }
+// Refusals 9 to 15 of a load or a store, in order, and how many of its elements have a byte.
+pub fn check_access(a: Access) -> Checked
+    requires { ⌜ SizedAccess a ⌝ }
+    ensures { λ r. ⌜ r ≡ checkedAccess a ⌝ }
 {
     if a.base % 16 != 0 {
         return refuse(9, 0);
@@ -254,6 +257,6 @@ pub fn check_access(a: Access, rows: u32, columns: u32) -> Checked
     if store_blocked(a) {
         return refuse(11, 0);
     }
-    let p = addressing::plan_of(a, columns);
-    check_elements(p, (rows * columns) as usize)
+    let p = addressing::plan_of(a);
+    check_elements(p)
 }

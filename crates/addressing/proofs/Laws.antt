@@ -3,7 +3,7 @@ use Prim.Native.Nat.{ℕ, zero, suc, _+_, _-_, _*_, _/_, _%_, _^_, _<_, _≤_, z
 use mathlib.Core.Path.{_≡_, refl, sym, ap, _∙_}
 use mathlib.Core.Bool.{Bool, true, false, true≢false}
 use mathlib.Core.Logic.{_⊎_, ⊎-elim}
-use native.Mathlib.Nat.{mul-le-mul, pow-suc, pow-le-pow-right, le-trans, not-suc-le-zero, div-le-self}
+use native.Mathlib.Nat.{mul-le-mul, pow-suc, pow-le-pow-right, le-trans, not-suc-le-zero, div-le-self, div-add-mod', zero-mul, suc-mul}
 use native.Mathlib.Numerals.{add-one}
 use native.Mathlib.Omega.{arith}
 use lib.Dec.{ltb, leb, eqb, lit<, lit≤}
@@ -50,9 +50,17 @@ module _ (v : View) (row col : ℕ) (e : outsideView v row col ≡ false) where
       pick-case (λ (b : Bool). b ≡ false → outsideClip (v .columns) col ≡ false) (outsideClip (v .rows) row) true (outsideClip (v .columns) col)
       (λ t q. absurd (true≢false q)) (λ t q. q) e
 
--- the product of two sides
-pub sides : (a b : ℕ) → a < 256 → b < 256 → a * b ≤ 65025
-sides a b g h = mul-le-mul {n₁ = a} {m₁ = b} {n₂ = 255} {m₂ = 255} (omega arith) (omega arith)
+-- the product of a row and a width
+pub sides : (a b : ℕ) → a < 256 → b ≤ 256 → a * b ≤ 65280
+sides a b g h = mul-le-mul {n₁ = a} {m₁ = b} {n₂ = 255} {m₂ = 256} (omega arith) (omega arith)
+
+-- an element's row, its column and the columns are no more than the elements
+pub column-few : (k n : ℕ) → k % n ≤ k
+column-few k n = omega (arith, div-add-mod' k n)
+
+pub columns-few : (rows n k : ℕ) → k < rows * n → n ≤ rows * n
+columns-few zero n k h = absurd (not-suc-le-zero (rw zero-mul at h))
+columns-few (suc rows) n k h = rw (suc-mul rows n) (omega arith)
 
 -- Rule 2: the row-major stride of dimension i of n
 module _ (span : ℕ → ℕ) (i : ℕ) where
@@ -200,7 +208,7 @@ numbers-dimension l (suc (suc (suc (suc (suc d))))) h = absurd (omega arith)
 
 -- the parts of a plan
 module _ (p : Plan) (ok : Planned p) where
-  pub plan-width : p .width ≡ clipWidth (p .access .view) (p .columns)
+  pub plan-width : p .width ≡ clipWidth (p .access .view) (p .access .columns)
   unfolding planned
   plan-width = ap (λ (q : Plan). q .width) (ok .same)
 

@@ -26,6 +26,10 @@ use Rattle.addressing.specs.declared.Clamped.{Clamped}
 use Rattle.addressing.specs.declared.Clamped.the-variants.{Refused, Discarded, Filled, At}
 use Rattle.addressing.specs.declared.Located.{Located}
 
+-- an M by N matrix has M*N elements
+abbrev pub elementsOf : Access → ℕ
+elementsOf a = a .rows * a .columns
+
 -- Rule 1: outside the clip: below its offset, or at or past offset plus span
 unfoldable pub outsideClip : Clip → ℕ → Bool
 outsideClip c x = pick (ltb x (c .offset)) true (leb (c .offset + c .span) x)
@@ -194,22 +198,22 @@ reached a index =
     pick (leb (2 ^ 32) index) (refused 12)
     (settled a (tensorIndex (a .load) (a .layout) (spanCoordinates (a .layout) index) (a .layout .rank)))
 
--- Rules 1 and 2: the index of element (row, col) of a matrix of n columns; without a view it is row*N+col
-unfoldable pub indexed : Access → ℕ → ℕ → ℕ → Indexed
-indexed a n row col =
+-- Rules 1 and 2: the index of element (row, col); without a view it is row*N+col
+unfoldable pub indexed : Access → ℕ → ℕ → Indexed
+indexed a row col =
     pick (a .viewed)
     (pick (outsideView (a .view) row col) Skipped
-    (Index (viewIndex (a .view) (viewSizes (a .layout) (a .view)) (viewStrides (a .layout) (a .view)) (clipIndex (a .view) (clipWidth (a .view) n) row col))))
-    (Index (row * n + col))
+    (Index (viewIndex (a .view) (viewSizes (a .layout) (a .view)) (viewStrides (a .layout) (a .view)) (clipIndex (a .view) (clipWidth (a .view) (a .columns)) row col))))
+    (Index (row * a .columns + col))
 
 -- Rules 3 to 5, for what rules 1 and 2 give
 abbrev pub landed : Access → Indexed → Located
 landed a Skipped = answered outcome.Skipped
 landed a (Index i) = reached a i
 
--- Rules 1 to 5: element (row, col) of a matrix of n columns
-unfoldable pub located : Access → ℕ → ℕ → ℕ → Located
-located a n row col = landed a (indexed a n row col)
+-- Rules 1 to 5: element (row, col)
+unfoldable pub located : Access → ℕ → ℕ → Located
+located a row col = landed a (indexed a row col)
 
 -- the numbers of a dimension, written from a place on, and read
 abbrev pub withDimension : List ℕ → ℕ → Dimension → List ℕ
@@ -234,13 +238,13 @@ unfoldable pub layoutNumbers : Layout → List ℕ
 layoutNumbers l =
     dimensionPut l (dimensionPut l (dimensionPut l (dimensionPut l (dimensionPut l (replicate 25 0) 0) 1) 2) 3) 4
 
--- what the elements of an access to a matrix of n columns share
-unfoldable pub planned : Access → ℕ → Plan
-planned a n =
+-- what the elements of an access share
+unfoldable pub planned : Access → Plan
+planned a =
     record {
       access = a;
-      columns = n;
-      width = clipWidth (a .view) n;
+      count = elementsOf a;
+      width = clipWidth (a .view) (a .columns);
       fill = lowBits a;
       sizes = viewSizes (a .layout) (a .view);
       strides = viewStrides (a .layout) (a .view);

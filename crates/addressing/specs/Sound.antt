@@ -111,9 +111,9 @@ module _ (a : Access) where
   landed-sound Skipped = tt
   landed-sound (Index i) = reached-sound i
 
-  pub located-sound : (n row col : ℕ) → Sound a (located a n row col .outcome)
+  pub located-sound : (row col : ℕ) → Sound a (located a row col .outcome)
   unfolding located
-  located-sound n row col = landed-sound (indexed a n row col)
+  located-sound row col = landed-sound (indexed a row col)
 
 -- the low bits of the clamp value are an element's
 pub low-bits-fit : (a : Access) → lowBits a < 2 ^ (8 * a .size)

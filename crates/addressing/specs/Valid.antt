@@ -9,9 +9,9 @@ use Rattle.addressing.specs.declared.Access.{Access}
 use Rattle.addressing.specs.declared.Plan.{Plan}
 use Rattle.addressing.specs.declared.Clamped.{Clamped}
 use Rattle.addressing.specs.declared.Clamped.the-variants.{Refused, Discarded, Filled, At}
-use Rattle.addressing.specs.Rules.{lowBits, planned}
+use Rattle.addressing.specs.Rules.{elementsOf, lowBits, planned}
 
--- the layout, the view and the memory keep to Sizes, and an element is 1, 2 or 4 bytes
+-- the layout, the view and the memory keep to Sizes, an element is 1, 2 or 4 bytes, and the matrix has columns and at most a register's elements
 pub record SizedAccess (a : Access) : Type 0 where
   pub layout : layoutOk (a .layout) ≡ true
   pub view : a .viewed ≡ true → viewOk (a .view) ≡ true
@@ -19,25 +19,28 @@ pub record SizedAccess (a : Access) : Type 0 where
   pub most : a .size ≤ 4
   pub odd : a .size ≡ 3 → ⊥
   pub memory : a .memory ≤ 65536
+  pub wide : 0 < a .columns
+  pub area : elementsOf a ≤ 256
 
 -- besides, a view without dimensions has the layout's dimension count (no refusal 10)
 pub record ValidAccess (a : Access) : Type 0 where
   pub sized : SizedAccess a
   pub ranks : a .viewed ≡ true → a .view .sized ≡ false → a .view .rank ≡ a .layout .rank
 
--- a plan is what its access and its columns make; a stride is a 16-bit number, or a product of at most four spans
+-- a plan is what its access makes; a stride is a 16-bit number, or a product of at most four spans
 pub record Planned (p : Plan) : Type 0 where
   pub valid : ValidAccess (p .access)
-  pub same : p ≡ planned (p .access) (p .columns)
+  pub same : p ≡ planned (p .access)
+  pub few : p .count ≤ 256
   pub strides : (i : ℕ) → getD (p .strides) i 0 ≤ 4096 ^ 4
 
-pub planned-access : (a : Access) (n : ℕ) {p : Plan} → p ≡ planned a n → p .access ≡ a
+pub planned-access : (a : Access) {p : Plan} → p ≡ planned a → p .access ≡ a
 unfolding planned
-planned-access a n e = ap (λ (q : Plan). q .access) e
+planned-access a e = ap (λ (q : Plan). q .access) e
 
-pub planned-columns : (a : Access) (n : ℕ) {p : Plan} → p ≡ planned a n → p .columns ≡ n
+pub plan-count : (p : Plan) → Planned p → p .count ≡ elementsOf (p .access)
 unfolding planned
-planned-columns a n e = ap (λ (q : Plan). q .columns) e
+plan-count p ok = ap (λ (q : Plan). q .count) (ok .same)
 
 pub plan-fill : (p : Plan) → Planned p → p .fill ≡ lowBits (p .access)
 unfolding planned

@@ -1,7 +1,7 @@
 // Where one element of a load or a store goes (document 01, "Where an element goes").
 ghost use mathlib.Core.Path.{_≡_};
 ghost use Prim.Native.Nat.{_*_, _/_, _^_, _%_, _≤_, _<_, min};
-ghost use Rattle.addressing.specs.Rules.{lowBits, layoutNumbers, addressed, reached, indexed, located, refused, answered, planned};
+ghost use Rattle.addressing.specs.Rules.{elementsOf, lowBits, layoutNumbers, addressed, reached, indexed, located, refused, answered, planned};
 ghost use Rattle.addressing.specs.Valid.{ValidAccess, Planned};
 
 pub mod clamps;
@@ -16,7 +16,7 @@ use sheet::View;
 // 2 to the 32nd, from which on an index gets 12.
 const INDEX_LIMIT: u64 = 4294967296;
 
-// A load or a store: its layout, its view where it is `viewed`, its base, the bytes of an element and of memory.
+// A load or a store of a matrix: its layout, its view where it is `viewed`, its base, the bytes of an element and of memory, the sides.
 pub struct Access {
     pub load: bool,
     pub layout: Layout,
@@ -25,13 +25,15 @@ pub struct Access {
     pub base: u32,
     pub size: usize,
     pub memory: usize,
+    pub rows: u32,
+    pub columns: u32,
 }
 
-// What the elements of an access to a matrix of `columns` columns share: rule 1's width, rule 2's sizes and strides, rule 4's bits of
-// the clamp value, and the layout's numbers for rules 3 to 5.
+// What the elements of an access share: how many there are, rule 1's width, rule 2's sizes and strides, rule 4's bits of the clamp
+// value, and the layout's numbers for rules 3 to 5.
 pub struct Plan {
     pub access: Access,
-    pub columns: u32,
+    pub count: usize,
     pub width: u32,
     pub fill: u32,
     pub sizes: [u32; 5],
@@ -98,21 +100,22 @@ fn low_bits(value: u32, size: usize) -> u32
     value
 }
 
-// What is found out once for all elements of an access to a matrix of `columns` columns.
-pub fn plan_of(a: Access, columns: u32) -> Plan
+// What is found out once for all elements of an access.
+pub fn plan_of(a: Access) -> Plan
     requires { ⌜ ValidAccess a ⌝ }
-    ensures { λ r. ⌜ (r ≡ planned a columns) × Planned r ⌝ }
+    ensures { λ r. ⌜ (r ≡ planned a) × Planned r ⌝ }
 {
     let l = a.layout;
     let v = a.view;
     let clip = v.columns;
+    let count = (a.rows * a.columns) as usize;
     let sizes = views::view_sizes(l, v);
     let strides = views::view_strides(l, v);
     let numbers = tensors::layout_numbers(l);
     Plan {
         access: a,
-        columns,
-        width: smaller(columns, wide(clip.span)),
+        count,
+        width: smaller(a.columns, wide(clip.span)),
         fill: low_bits(l.clamp, a.size),
         sizes,
         strides,
@@ -187,16 +190,16 @@ fn reach(a: Access, numbers: &[u16; 25], fill: u32, index: u64) -> Located
 
 // Rules 1 and 2: element number k. Without a view the index is that number.
 fn index_of(p: Plan, permutation: &[u8; 5], sizes: &[u32; 5], strides: &[u64; 5], k: u32) -> Indexed
-    requires { ⌜ Planned p × (0 < p .columns) × (p .columns < 256) × (k < 256 * p .columns) ⌝ }
+    requires { ⌜ Planned p × (k < elementsOf (p .access)) ⌝ }
     requires { ⌜ (now permutation ≡ p .access .view .permutation) × (now sizes ≡ p .sizes) × (now strides ≡ p .strides) ⌝ }
-    ensures { λ r. ⌜ r ≡ indexed (p .access) (p .columns) (k / p .columns) (k % p .columns) ⌝ }
+    ensures { λ r. ⌜ r ≡ indexed (p .access) (k / p .access .columns) (k % p .access .columns) ⌝ }
 {
     if !p.access.viewed {
         return Indexed::Index(k as u64);
     }
     let v = p.access.view;
-    let row = k / p.columns;
-    let col = k % p.columns;
+    let row = k / p.access.columns;
+    let col = k % p.access.columns;
     if clips::outside_view(v, row, col) {
         return Indexed::Skipped;
     }
@@ -213,9 +216,9 @@ pub fn locate(
     numbers: &[u16; 25],
     k: u32,
 ) -> Located
-    requires { ⌜ Planned p × (0 < p .columns) × (p .columns < 256) × (k < 256 * p .columns) ⌝ }
+    requires { ⌜ Planned p × (k < elementsOf (p .access)) ⌝ }
     requires { ⌜ (now permutation ≡ p .access .view .permutation) × (now sizes ≡ p .sizes) × (now strides ≡ p .strides) × (now numbers ≡ p .numbers) ⌝ }
-    ensures { λ r. ⌜ r ≡ located (p .access) (p .columns) (k / p .columns) (k % p .columns) ⌝ }
+    ensures { λ r. ⌜ r ≡ located (p .access) (k / p .access .columns) (k % p .access .columns) ⌝ }
 {
     match index_of(p, permutation, sizes, strides, k) {
         Indexed::Skipped => answer(Outcome::Skipped),

@@ -1,11 +1,11 @@
 // Elements between registers and memory.
 ghost use mathlib.Core.Path.{_≡_};
-ghost use Prim.Native.Nat.{ℕ, _<_, _≤_, _^_};
+ghost use Prim.Native.Nat.{_<_, _^_};
 ghost use Rattle.addressing.specs.Valid.{Planned};
 ghost use lib.ListN.{length};
 ghost use Rattle.kinds.specs.Laws.{ElementSize};
 ghost use Rattle.registers.specs.Registers.{room};
-ghost use Rattle.accesses.specs.Refusals.{elementOutcome};
+ghost use Rattle.accesses.specs.Refusals.{accessRefusal};
 ghost use Rattle.transfers.specs.Acts.{state, loaded, stored, Inside};
 ghost use Rattle.transfers.specs.Transfers.{loadedElements, storedElements};
 use addressing::Plan;
@@ -68,23 +68,23 @@ pub fn store_element(
     }
 }
 
-// The first `n` elements of a load, of which none is refused. The answer is the count with each element that had a byte.
+// The elements of a load that is not refused. The answer is the count with each element that had a byte.
 pub fn load_elements(
     elements: &mut [u32; 1024],
     memory: &[u8],
     p: Plan,
     register: u8,
-    n: usize,
     counted: usize,
 ) -> usize
-    requires { ⌜ Planned p × (0 < p .columns) × (p .columns < 256) × (p .access .memory ≡ length (now memory)) ⌝ }
-    requires { ⌜ (register < 4) × (n ≤ room) × (counted < 2 ^ 31) × ((k : ℕ) → k < n → elementOutcome (p .access) (p .columns) k .refusal ≡ 0) ⌝ }
-    ensures { λ r. ⌜ now (elements .exit) ≡ loadedElements (p .access) (p .columns) register n (state (now (elements .entry)) (now (memory .entry)) counted) .elements ⌝ }
-    ensures { λ r. ⌜ r ≡ loadedElements (p .access) (p .columns) register n (state (now (elements .entry)) (now (memory .entry)) counted) .count ⌝ }
+    requires { ⌜ Planned p × (accessRefusal (p .access) .number ≡ 0) × (p .access .memory ≡ length (now memory)) ⌝ }
+    requires { ⌜ (register < 4) × (counted < 2 ^ 31) ⌝ }
+    ensures { λ r. ⌜ now (elements .exit) ≡ loadedElements (p .access) register (state (now (elements .entry)) (now (memory .entry)) counted) .elements ⌝ }
+    ensures { λ r. ⌜ r ≡ loadedElements (p .access) register (state (now (elements .entry)) (now (memory .entry)) counted) .count ⌝ }
 {
     let size = p.access.size;
     let fill = p.fill;
-    let s = accesses::survey_of(p, n);
+    let n = p.count;
+    let s = accesses::survey_of(p);
     let entries = s.entries;
     let mut count = counted;
     let mut k = 0;
@@ -96,23 +96,23 @@ pub fn load_elements(
     count
 }
 
-// The first `n` elements of a store, of which none is refused. The answer is the count with each element that had a byte.
+// The elements of a store that is not refused. The answer is the count with each element that had a byte.
 pub fn store_elements(
     elements: &[u32; 1024],
     memory: &mut [u8],
     p: Plan,
     register: u8,
-    n: usize,
     counted: usize,
 ) -> usize
-    requires { ⌜ Planned p × (0 < p .columns) × (p .columns < 256) × (p .access .memory ≡ length (now memory)) ⌝ }
-    requires { ⌜ (register < 4) × (n ≤ room) × (counted < 2 ^ 31) × ((k : ℕ) → k < n → elementOutcome (p .access) (p .columns) k .refusal ≡ 0) ⌝ }
-    ensures { λ r. ⌜ now (memory .exit) ≡ storedElements (p .access) (p .columns) register n (state (now (elements .entry)) (now (memory .entry)) counted) .memory ⌝ }
-    ensures { λ r. ⌜ r ≡ storedElements (p .access) (p .columns) register n (state (now (elements .entry)) (now (memory .entry)) counted) .count ⌝ }
+    requires { ⌜ Planned p × (accessRefusal (p .access) .number ≡ 0) × (p .access .memory ≡ length (now memory)) ⌝ }
+    requires { ⌜ (register < 4) × (counted < 2 ^ 31) ⌝ }
+    ensures { λ r. ⌜ now (memory .exit) ≡ storedElements (p .access) register (state (now (elements .entry)) (now (memory .entry)) counted) .memory ⌝ }
+    ensures { λ r. ⌜ r ≡ storedElements (p .access) register (state (now (elements .entry)) (now (memory .entry)) counted) .count ⌝ }
 {
     let size = p.access.size;
     let fill = p.fill;
-    let s = accesses::survey_of(p, n);
+    let n = p.count;
+    let s = accesses::survey_of(p);
     let entries = s.entries;
     let mut count = counted;
     let mut k = 0;

@@ -1,7 +1,7 @@
 use mathlib.Core.Path.{_∙_}
 use borrow.Author.Needs.{needs}
 use Rattle.numbers.specs.Choice.{went, tests}
-use Rattle.addressing.specs.Valid.{planned-access, planned-columns}
+use Rattle.addressing.specs.Valid.{planned-access}
 use Rattle.accesses.specs.Accepted.{ranks-agree}
 use Rattle.accesses.proofs.Laws.{access-nine, access-ten, access-eleven, access-elements}
 use Rattle.accesses.proofs.check_access.Statement.{statement}
@@ -11,7 +11,7 @@ refuse-requires : tie.Need-refuse-requires
 refuse-requires c κs = search needs
 
 returns : tie.Need-returns
-returns c = c .refuse .ensures ∙ access-nine _ _ _ (search tests)
+returns c = c .refuse .ensures ∙ access-nine _ (search tests)
 
 ranks-differ-requires : tie.Need-ranks-differ-requires
 ranks-differ-requires c κs = search needs
@@ -20,7 +20,7 @@ refuse-requires-2 : tie.Need-refuse-requires-2
 refuse-requires-2 c κs = search needs
 
 returns-2 : tie.Need-returns-2
-returns-2 c = c .refuse2 .ensures ∙ access-ten _ _ _ (search tests) (search tests)
+returns-2 c = c .refuse2 .ensures ∙ access-ten _ (search tests) (search tests)
 
 store-blocked-requires : tie.Need-store-blocked-requires
 store-blocked-requires c κs = search needs
@@ -29,31 +29,20 @@ refuse-requires-3 : tie.Need-refuse-requires-3
 refuse-requires-3 c κs = search needs
 
 returns-3 : tie.Need-returns-3
-returns-3 c = c .refuse3 .ensures ∙ access-eleven _ _ _ (search tests) (search tests) (search tests)
+returns-3 c = c .refuse3 .ensures ∙ access-eleven _ (search tests) (search tests) (search tests)
 
 plan-of-requires : tie.Need-plan-of-requires
 plan-of-requires c κs =
     record {
-      sized = c .before .before .before .before .before .before .pre .0;
+      sized = c .before .before .before .before .before .before .pre;
       ranks = ranks-agree _ (went (c .before .before .before .ranks-differ .ensures) (c .before .before .if2 .left));
     }
 
-mul-check-elements : tie.Need-mul-check-elements
-mul-check-elements c = search needs
-
-cast-check-elements : tie.Need-cast-check-elements
-cast-check-elements c = search needs
-
 check-elements-requires : tie.Need-check-elements-requires
-check-elements-requires c κs =
-    let s = c .before .before .before .before .before .before .before in
-    let e = planned-columns _ _ (c .plan-of .ensures .0) in
-    (c .plan-of .ensures .1, rw e (s .pre .1), rw e (s .pre .2), s .pre .3)
+check-elements-requires c κs = search needs
 
 returns-4 : tie.Need-returns-4
-returns-4 c =
-    let e = c .before .plan-of .ensures .0 in
-    (rw (planned-access _ _ e, planned-columns _ _ e) at (c .check-elements .ensures)) ∙ access-elements _ _ _ (search tests) (search tests) (search tests)
+returns-4 c = (rw (planned-access _ (c .before .plan-of .ensures .0)) at (c .check-elements .ensures)) ∙ access-elements _ (search tests) (search tests) (search tests)
 
 pub check-access-spec : {M : Type 1} → statement M
 check-access-spec =
@@ -68,7 +57,5 @@ check-access-spec =
     refuse-requires-3
     returns-3
     plan-of-requires
-    mul-check-elements
-    cast-check-elements
     check-elements-requires
     returns-4)

@@ -1,5 +1,6 @@
 use mathlib.Core.Path.{_∙_}
 use borrow.Author.Needs.{needs}
+use Rattle.addressing.specs.Valid.{plan-count}
 use Rattle.accesses.specs.Surveys.{element-near}
 use Rattle.accesses.proofs.Laws.{clash-surveyed, checked-refused, checked-load, checked-clash, checked-apart}
 use Rattle.accesses.proofs.check_elements.Statement.{statement}
@@ -34,11 +35,12 @@ refuse-requires-2 c κs = search needs
 returns-3 : tie.Need-returns-3
 returns-3 c =
     let a = c .before .before .before .before .before .before .before .before .before .before in
+    let e = plan-count (a .args .p) (a .pre) in
     let s = c .before .before .before .before .before .before .before .before .before .survey-of in
     let z = c .before .before .before .before .before .before .if1 .left in
     c .refuse2 .ensures
     ∙ checked-clash _ _ _ (s .ensures .stop) z _ (c .before .before .before .before .if2 .left)
-    (c .before .before .first-clash .ensures ∙ clash-surveyed (element-near (a .args .p .access) (a .pre .0 .valid .sized) (a .args .p .columns)) (s .ensures) z) (c .before .if3 .taken)
+    ((rw e at (c .before .before .first-clash .ensures)) ∙ clash-surveyed (element-near (a .args .p .access) (a .pre .valid .sized)) (s .ensures) z) (rw (← e) (c .before .if3 .taken))
 
 accept-requires-2 : tie.Need-accept-requires-2
 accept-requires-2 c κs = search needs
@@ -46,11 +48,12 @@ accept-requires-2 c κs = search needs
 returns-4 : tie.Need-returns-4
 returns-4 c =
     let a = c .before .before .before .before .before .before .before .before .before .before in
+    let e = plan-count (a .args .p) (a .pre) in
     let s = c .before .before .before .before .before .before .before .before .before .survey-of in
     let z = c .before .before .before .before .before .before .if1 .left in
     c .accept2 .ensures
     ∙ checked-apart _ _ _ (s .ensures .stop) z _ (c .before .before .before .before .if2 .left)
-    (c .before .before .first-clash .ensures ∙ clash-surveyed (element-near (a .args .p .access) (a .pre .0 .valid .sized) (a .args .p .columns)) (s .ensures) z) (c .before .if3 .left) (s .ensures .placed z)
+    ((rw e at (c .before .before .first-clash .ensures)) ∙ clash-surveyed (element-near (a .args .p .access) (a .pre .valid .sized)) (s .ensures) z) (rw (← e) (c .before .if3 .left)) (s .ensures .placed z)
 
 pub check-elements-spec : {M : Type 1} → statement M
 check-elements-spec =

@@ -1,4 +1,5 @@
 use Rattle.accesses.proofs.Laws.{Passed, passed-none, passed-stop, passed-more, passed-end}
+use Rattle.addressing.specs.Valid.{plan-count}
 use Rattle.accesses.specs.Surveys.{element-near}
 use Rattle.accesses.specs.Refusals.{elementOutcome, placedCount}
 use mathlib.Core.Path.{refl, ap, _∙_}
@@ -9,25 +10,27 @@ use Rattle.accesses.proofs.survey_of.Statement.{statement}
 use Rattle.accesses.proofs.survey_of.Tie as tie
 
 abbrev Inv-loop : tie.InvT-loop
-Inv-loop p count permutation sizes strides numbers entries₀ placed₀ k₀ entries placed k = Passed (elementOutcome (p .access) (p .columns)) count k placed entries
+Inv-loop p count permutation sizes strides numbers entries₀ placed₀ k₀ entries placed k = Passed (elementOutcome (p .access)) (p .count) k placed entries
 
 abbrev μ-loop : tie.MeasureT-loop
 μ-loop p count permutation sizes strides numbers entries₀ placed₀ k₀ entries placed k = count - k
 
 loop-holds : tie.Need-loop-holds Inv-loop μ-loop
-loop-holds c = passed-none _ _ _ refl
+loop-holds c = let s = c .before .before .before .before .before in passed-none _ _ _ (s .pre .few) refl
 
 cast-locate : tie.Need-cast-locate Inv-loop μ-loop
 cast-locate c = search needs
 
 locate-requires : tie.Need-locate-requires Inv-loop μ-loop
 locate-requires c κs = let s = c .before .before .before .before .before .before .before .before .before .before .before in
-    ((s .pre .0, s .pre .1, s .pre .2, omega (arith, s .pre .1, s .pre .3)), (refl, refl, refl, refl))
+    ((s .pre, rw (← plan-count (s .args .p) (s .pre)) (c .before .before .before .before .loop-test .taken)), (refl, refl, refl, refl))
 
 returns : tie.Need-returns Inv-loop μ-loop
 unfolding elementOutcome
 returns c = let i = c .before .before .before .before .before .before .before .before .loop in
     let e = c .before .before .locate in
+    let s = c .before .before .before .before .before .before .before .before .before .before .before .before .before .before in
+    rw (← plan-count (s .args .p) (s .pre))
     record {
       stop = passed-stop _ (i .inv) (e .result) (c .before .before .before .before .before .before .before .loop-test .taken) (e .ensures) (c .if1 .taken);
       placed = λ z. absurd (c .if1 .taken z);
@@ -37,7 +40,7 @@ returns c = let i = c .before .before .before .before .before .before .before .b
 entry-requires : tie.Need-entry-requires Inv-loop μ-loop
 unfolding elementOutcome
 entry-requires c κs = let s = c .before .before .before .before .before .before .before .before .before .before .before .before .before .before in
-    rw (c .before .before .locate .ensures) (element-near (s .args .p .access) (s .pre .0 .valid .sized) (s .args .p .columns) (c .before .before .before .before .before .before .before .before .loop .k))
+    rw (c .before .before .locate .ensures) (element-near (s .args .p .access) (s .pre .valid .sized) (c .before .before .before .before .before .before .before .before .loop .k))
 
 mul-entries : tie.Need-mul-entries Inv-loop μ-loop
 mul-entries c = search needs
@@ -61,10 +64,12 @@ loop-again : tie.Need-loop-again Inv-loop μ-loop
 unfolding elementOutcome
 loop-again c = let i = c .before .before .before .before .before .before .before .before .before .before .loop in
     let e = c .before .before .before .before .locate in
-    passed-more _ (i .inv) (e .result) (c .before .before .before .before .before .before .before .before .before .loop-test .taken) (e .ensures) (c .before .before .before .before .before .before .before .before .before .before .before .before .before .before .before .before .pre .3) (search needs) (c .before .entry .ensures) (c .placed-one .ensures .0) (c .placed-one .ensures .1)
+    passed-more _ (i .inv) (e .result) (c .before .before .before .before .before .before .before .before .before .loop-test .taken) (e .ensures) (search needs) (c .before .entry .ensures) (c .placed-one .ensures .0) (c .placed-one .ensures .1)
 
 returns-2 : tie.Need-returns-2 Inv-loop μ-loop
 returns-2 c = let i = c .before .loop in
+    let s = c .before .before .before .before .before .before .before in
+    rw (← plan-count (s .args .p) (s .pre))
     record {
       stop = passed-end _ (i .inv) (c .loop-test .left);
       placed = λ z. i .inv .count ∙ ap (placedCount _) (omega (arith, i .inv .inside));

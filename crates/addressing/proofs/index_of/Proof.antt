@@ -1,8 +1,8 @@
-use Rattle.addressing.proofs.Laws.{view-sizes-in, plan-width, plan-sizes, plan-strides}
+use Rattle.addressing.proofs.Laws.{view-sizes-in, plan-width, plan-sizes, plan-strides, column-few, columns-few}
 use Rattle.addressing.specs.Rules.{indexed}
 use Rattle.addressing.specs.declared.Indexed.the-variants.{Index}
 use Rattle.numbers.specs.Choice.{taken, left, tests}
-use native.Mathlib.Nat.{min-le-left, div-lt-iff-lt-mul, mod-lt, div-add-mod'}
+use native.Mathlib.Nat.{min-le-left, div-le-self, div-add-mod'}
 use mathlib.Core.Path.{_≡_, refl, ap, sym, _∙_}
 use mathlib.Core.Bool.{true}
 use native.Mathlib.Omega.{arith}
@@ -29,7 +29,10 @@ returns-2 c = taken _ (search tests) (taken _ (search tests) refl)
 
 clip-index-requires : tie.Need-clip-index-requires
 clip-index-requires c κs = let s = c .before .before .before .before .before .before .before in
-    (rw (plan-width (s .args .p) (s .pre .0 .0)) (omega (arith, min-le-left (s .args .p .columns) (s .args .p .access .view .columns .span), s .pre .0 .2)), div-lt-iff-lt-mul (s .pre .0 .1) .1 (s .pre .0 .3), omega (arith, mod-lt (s .args .k) (s .pre .0 .1), s .pre .0 .2), search tests)
+    let a = s .args .p .access in
+    let k = s .args .k in
+    let area = s .pre .0 .0 .valid .sized .area in
+    (rw (plan-width (s .args .p) (s .pre .0 .0)) (omega (arith, min-le-left (a .columns) (a .view .columns .span), columns-few (a .rows) (a .columns) k (s .pre .0 .1), area)), omega (arith, div-le-self k (a .columns), area, s .pre .0 .1), omega (arith, column-few k (a .columns), area, s .pre .0 .1), search tests)
 
 view-index-requires : tie.Need-view-index-requires
 view-index-requires c κs = let s = c .before .before .before .before .before .before .before .before in

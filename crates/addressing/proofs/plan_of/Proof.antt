@@ -1,8 +1,14 @@
+use borrow.Author.Needs.{needs}
 use Rattle.addressing.specs.Rules.{planned}
 use Rattle.addressing.proofs.Laws.{and-so}
-use borrow.Author.Needs.{needs}
 use Rattle.addressing.proofs.plan_of.Statement.{statement}
 use Rattle.addressing.proofs.plan_of.Tie as tie
+
+mul-count : tie.Need-mul-count
+mul-count c = search needs
+
+cast-count : tie.Need-cast-count
+cast-count c = search needs
 
 view-sizes-requires : tie.Need-view-sizes-requires
 view-sizes-requires c κs = search needs
@@ -24,13 +30,15 @@ low-bits-requires c κs = search needs
 
 returns : tie.Need-returns
 unfolding planned
-returns c = let s = c .before .before .before .before .before .before .before .before .before in
-    and-so (cc) (λ e. record { valid = s .pre; same = e; strides = c .before .before .before .before .view-strides .ensures .1 })
+returns c = let s = c .before .before .before .before .before .before .before .before .before .before in
+    and-so (cc) (λ e. record { valid = s .pre; same = e; few = s .pre .sized .area; strides = c .before .before .before .before .view-strides .ensures .1 })
 
 pub plan-of-spec : {M : Type 1} → statement M
 plan-of-spec =
     tie.close
     (tie.spec
+    mul-count
+    cast-count
     view-sizes-requires
     view-strides-requires
     layout-numbers-requires

@@ -1,6 +1,8 @@
 use Rattle.transfers.specs.Laws.{store-turn, stored-count, stored-length, transferred-none, transferred-same, sound-inside, access-size}
 use Rattle.transfers.specs.Transfers.{transferred, outcomeOf}
 use Rattle.transfers.specs.Acts.{State, state, stored}
+use Rattle.addressing.specs.Rules.{elementsOf}
+use Rattle.addressing.specs.Valid.{plan-count}
 use Rattle.accesses.specs.Surveys.{surveyed-outcome}
 use Rattle.accesses.specs.Entries.{entryOutcome}
 use Rattle.accesses.specs.Accepted.{element-sound}
@@ -14,13 +16,13 @@ use Rattle.transfers.proofs.store_elements.Statement.{statement}
 use Rattle.transfers.proofs.store_elements.Tie as tie
 
 abbrev Inv-loop : tie.InvT-loop
-Inv-loop elements memory₀ register n counted size fill entries count₀ k₀ memory count k = (k ≤ n) × (count ≤ counted + k) × (length memory ≡ length memory₀) × (state elements memory count ≡ transferred (stored size register) (λ (j : ℕ). entryOutcome fill (getD entries j 0)) k (state elements memory₀ counted))
+Inv-loop elements memory₀ register counted size fill n entries count₀ k₀ memory count k = (k ≤ n) × (count ≤ counted + k) × (length memory ≡ length memory₀) × (state elements memory count ≡ transferred (stored size register) (λ (j : ℕ). entryOutcome fill (getD entries j 0)) k (state elements memory₀ counted))
 
 abbrev μ-loop : tie.MeasureT-loop
-μ-loop elements memory₀ register n counted size fill entries count₀ k₀ memory count k = n - k
+μ-loop elements memory₀ register counted size fill n entries count₀ k₀ memory count k = n - k
 
 survey-of-requires : tie.Need-survey-of-requires Inv-loop μ-loop
-survey-of-requires c κs = let q = c .before .pre in (q .0 .0, q .0 .1, q .0 .2, q .1 .1)
+survey-of-requires c κs = search needs
 
 loop-holds : tie.Need-loop-holds Inv-loop μ-loop
 loop-holds c = (search needs, search needs, refl, sym (transferred-none _ _ _))
@@ -38,9 +40,9 @@ store-element-requires : tie.Need-store-element-requires Inv-loop μ-loop
 store-element-requires c κs = let s = c .before .before .before .before .before .before .before in
     let i = c .before .before .before .loop in
     let p = s .args .p in
-    let o = surveyed-outcome p (s .pre .0 .0) (c .before .before .before .before .before .survey-of .ensures) (s .pre .1 .3) (i .k) (c .before .before .loop-test .taken) in (
-      (s .pre .1 .0, omega (arith, s .pre .1 .1), omega (arith, s .pre .1 .1, s .pre .1 .2, i .inv .1), access-size (p .access) (s .pre .0 .0 .valid .sized)),
-      rw (i .inv .2, c .before .outcome-of .ensures, o, ← s .pre .0 .3) (sound-inside (p .access) (outcomeOf (p .access) (p .columns) (i .k)) (element-sound (p .access) (p .columns) (i .k))),
+    let o = surveyed-outcome p (s .pre .0 .0) (c .before .before .before .before .before .survey-of .ensures) (s .pre .0 .1) (i .k) (rw (← plan-count p (s .pre .0 .0)) (c .before .before .loop-test .taken)) in (
+      (s .pre .1 .0, omega (arith, s .pre .0 .0 .few), omega (arith, s .pre .0 .0 .few, s .pre .1 .1, i .inv .1), access-size (p .access) (s .pre .0 .0 .valid .sized)),
+      rw (i .inv .2, c .before .outcome-of .ensures, o, ← s .pre .0 .2) (sound-inside (p .access) (outcomeOf (p .access) (i .k)) (element-sound (p .access) (i .k))),
     )
 
 add-k : tie.Need-add-k Inv-loop μ-loop
@@ -66,8 +68,8 @@ returns : tie.Need-returns Inv-loop μ-loop
 returns c = let i = c .before .loop in
     let s = c .before .before .before .before .before in
     let a = s .args in
-    let e : i .k ≡ a .n = omega arith in
-    let d = (rw e at (i .inv .3)) ∙ transferred-same _ (a .n) _ (surveyed-outcome (a .p) (s .pre .0 .0) (c .before .before .before .survey-of .ensures) (s .pre .1 .3)) in
+    let e : i .k ≡ elementsOf (a .p .access) = omega (arith, plan-count (a .p) (s .pre .0 .0)) in
+    let d = (rw e at (i .inv .3)) ∙ transferred-same _ (elementsOf (a .p .access)) _ (surveyed-outcome (a .p) (s .pre .0 .0) (c .before .before .before .survey-of .ensures) (s .pre .0 .1)) in
     (ap (λ (x : State). x .memory) d, ap (λ (x : State). x .count) d)
 
 pub store-elements-spec : {M : Type 1} → statement M
