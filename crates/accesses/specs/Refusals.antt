@@ -11,8 +11,8 @@ use Rattle.outcomes.specs.declared.Outcome.the-variants.{Skipped, Filled, Disca
 use Rattle.addressing.specs.declared.Access.{Access}
 use Rattle.addressing.specs.declared.Located.{Located}
 use Rattle.addressing.specs.Rules.{elementsOf, located}
-use Rattle.stops.specs.Stops.{stopAt}
-use Rattle.stops.specs.declared.Stop.{Stop}
+use Rattle.refusals.specs.Refusals.{stopAt}
+use Rattle.refusals.specs.declared.Stop.{Stop}
 use Rattle.accesses.specs.declared.Checked.{Checked}
 
 -- what becomes of element number k: of N columns its row is k / N, its column k mod N

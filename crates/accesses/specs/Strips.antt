@@ -17,7 +17,7 @@ use Rattle.outcomes.specs.declared.Outcome.the-variants.{Skipped, Filled, Disca
 use Rattle.addressing.specs.declared.Access.{Access}
 use Rattle.addressing.specs.declared.Located.{Located}
 use Rattle.addressing.specs.Rules
-use Rattle.stops.specs.Stops.{stopAt}
+use Rattle.refusals.specs.Refusals.{stopAt}
 use Rattle.accesses.specs.declared.Checked.{Checked}
 use Rattle.accesses.specs.Refusals
 

@@ -2,7 +2,7 @@
 ghost use mathlib.Core.Path.{_≡_};
 ghost use mathlib.Core.Bool.{true};
 ghost use Prim.Native.Nat.{_≤_, _<_};
-ghost use Rattle.stops.specs.Stops.{stopAt};
+ghost use Rattle.refusals.specs.Refusals.{stopAt};
 ghost use Rattle.sheet.specs.Layouts.{theDimension, layoutOk};
 ghost use Rattle.addressing.specs.Rules.{elementsOf};
 ghost use Rattle.addressing.specs.Valid.{SizedAccess, Planned};
@@ -11,8 +11,8 @@ ghost use Rattle.accesses.specs.Entries.{Near, entryOf, entryOutcome, hi
 use addressing::Access;
 use addressing::Plan;
 use outcomes::Outcome;
+use refusals::Stop;
 use sheet::Layout;
-use stops::Stop;
 
 // The most elements of a matrix.
 const ELEMENTS: usize = 256;

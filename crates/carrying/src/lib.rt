@@ -6,9 +6,9 @@ ghost use mathlib.Core.Path.{_≡_};
 ghost use Rattle.registers.specs.Registers.{emptyRegisters};
 ghost use Rattle.carrying.specs.Carrying.{carryAnswer, carried, carriedMemory};
 use checking::checks;
+use refusals::Refusal;
 use registers::MatrixType;
 use registers::Registers;
-use sheet::Refusal;
 
 // The answer of carrying out: a refusal with empty registers and a count of 0, or the registers and how many elements of loads and
 // stores had a byte.

@@ -5,7 +5,7 @@ use lib.Dec.{eqb, leb}
 use Rattle.numbers.specs.Choice.{pick}
 use Rattle.sheet.specs.Steps.{theStep}
 use Rattle.sheet.specs.declared.Sheet.{Sheet}
-use Rattle.sheet.specs.declared.Refusal.{Refusal}
+use Rattle.refusals.specs.declared.Refusal.{Refusal}
 use Rattle.sheet_reader.specs.Reading.{readSheet}
 use Rattle.registers.specs.Registers.{emptyRegisters}
 use Rattle.registers.specs.declared.MatrixType.{MatrixType}

@@ -5,7 +5,7 @@ use mathlib.Core.Bool.{Bool, true, false, not}
 use lib.Dec.{eqb}
 use Rattle.numbers.specs.Choice.{pick}
 use Rattle.kinds.specs.Widths.{bytesOf}
-use Rattle.stops.specs.Stops.{stopAt}
+use Rattle.refusals.specs.Refusals.{stopAt}
 use Rattle.sheet.specs.Layouts.{theLayout}
 use Rattle.sheet.specs.Views.{theView, noView}
 use Rattle.sheet.specs.declared.View.{View}

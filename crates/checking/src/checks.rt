@@ -11,13 +11,13 @@ ghost use Rattle.checking.specs.Checking.{refusalAt, checkRefused, check
 use super::CheckAnswer;
 use super::StepCheck;
 use super::memory_steps;
+use refusals::Refusal;
+use refusals::Stop;
 use registers::MatrixType;
-use sheet::Refusal;
 use sheet::Sheet;
 use sheet::Step;
 use sheet::WholeStep;
 use sheet::sizes;
-use stops::Stop;
 
 pub fn refusal_at(number: u8, place: usize, element: usize) -> Refusal
     ensures { λ r. ⌜ r ≡ refusalAt number place element ⌝ }

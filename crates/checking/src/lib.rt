@@ -5,11 +5,11 @@ pub mod memory_steps;
 ghost use mathlib.Core.Path.{_≡_};
 ghost use Rattle.sheet_reader.specs.Reading.{readSheet};
 ghost use Rattle.checking.specs.Checking.{checkRefused, checkedSheet};
+use refusals::Refusal;
+use refusals::Stop;
 use registers::MatrixType;
-use sheet::Refusal;
 use sheet::Sheet;
 use sheet::sheets;
-use stops::Stop;
 
 // The largest memory.
 pub const MEMORY_LIMIT: usize = 65_536;

@@ -10,13 +10,13 @@ ghost use Rattle.checking.specs.Steps.{viewNamed, accessOf, stepCheck, l
 ghost use Rattle.checking.specs.Checking.{memoryLimit};
 use super::StepCheck;
 use addressing::Access;
+use refusals::EMPTY_REGISTER;
+use refusals::Stop;
 use registers::MatrixType;
 use sheet::Sheet;
 use sheet::View;
 use sheet::sizes;
 use sheet::views;
-use stops::EMPTY;
-use stops::Stop;
 
 // The view that a step names, or the unused one for none.
 fn view_named(sheet: Sheet, view: u8) -> View
@@ -83,7 +83,7 @@ pub fn check_load(
     ensures { λ r. ⌜ r ≡ loadCheck sheet types memory register t layout view base ⌝ }
 {
     if registers::is_empty(t) {
-        return refused(EMPTY, types);
+        return refused(EMPTY_REGISTER, types);
     }
     let a = access_of(sheet, true, layout, view, base, t, memory);
     let c = accesses::check_access(a, t.rows as u32, t.columns as u32);
@@ -110,7 +110,7 @@ pub fn check_store(
     ensures { λ r. ⌜ r ≡ storeCheck sheet types memory t layout view base ⌝ }
 {
     if registers::is_empty(t) {
-        return refused(EMPTY, types);
+        return refused(EMPTY_REGISTER, types);
     }
     let a = access_of(sheet, false, layout, view, base, t, memory);
     let c = accesses::check_access(a, t.rows as u32, t.columns as u32);

@@ -14,8 +14,8 @@ ghost use Rattle.judging.specs.Judging.{tapeRecord, decodedOk, decodedTy
 use checking::checks;
 use records::Decoded;
 use records::Record;
+use refusals::Refusal;
 use registers::MatrixType;
-use sheet::Refusal;
 use sheet::Sheet;
 use sheet::Step;
 

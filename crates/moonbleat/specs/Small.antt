@@ -12,7 +12,7 @@ use lib.ListN.{length}
 use Rattle.numbers.specs.Choice.{pick, pick-case}
 use Rattle.sheet.specs.Sheets.{emptySheet, writable}
 use Rattle.sheet.specs.Steps.{theStep}
-use Rattle.sheet.specs.declared.Refusal.{Refusal}
+use Rattle.refusals.specs.declared.Refusal.{Refusal}
 use Rattle.sheet.specs.declared.Sheet.{Sheet}
 use Rattle.sheet.specs.declared.Step.{Step}
 use Rattle.sheet.specs.declared.Step.the-variants.{Nothing, Load, Store, Whole}
@@ -32,7 +32,7 @@ use Rattle.addressing.specs.declared.Access.{Access}
 use Rattle.addressing.specs.declared.Located.{Located}
 use Rattle.accesses.specs.Refusals as accesses
 use Rattle.accesses.specs.Refusals.{elementOutcome, misplaced, ranksDiffer, storeBlocked, firstRefused, sameAt, clashFrom, clashRefusal, elementsRefusal, accessRefusal}
-use Rattle.stops.specs.declared.Stop.{Stop}
+use Rattle.refusals.specs.declared.Stop.{Stop}
 use Rattle.whole_steps.specs.Within.{refusal-element}
 use Rattle.checking.specs.Steps.{accessOf, objectOf, loadCheck, storeCheck, checkedStep}
 use Rattle.carrying.specs.Steps.{Machine}

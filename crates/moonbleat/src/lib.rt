@@ -9,8 +9,8 @@ ghost use Rattle.carrying.specs.Carrying.{carried, carriedMemory};
 ghost use Rattle.translating.specs.Translating.{translated, translatedRoom};
 ghost use Rattle.running.specs.Running.{runTape, ranMemory};
 ghost use Rattle.moonbleat.specs.Rows.{answerRow, countsRow, typesRow, rewritten, rewrittenRoom};
+use refusals::Refusal;
 use registers::Registers;
-use sheet::Refusal;
 
 // Numbers of an answer: number, place, second place, byte-elements.
 const ANSWER: usize = 4;

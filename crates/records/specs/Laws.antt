@@ -10,7 +10,9 @@ use borrow.Author.Tests.{le-leb, leb-true}
 use lib.ListN.{length, getD, length-append}
 use lib.IntN.{ℤ, pos}
 use Rattle.numbers.specs.Choice.{pick, both-true, both-left, both-right}
-use Rattle.sheet.specs.Sizes.{recordLimit}
+use Rattle.sheet.specs.Sizes.{recordPlaces}
+use Rattle.sheet.specs.Editions.{limits}
+use Rattle.sheet.specs.Laws.Editions.{limits-records}
 use Rattle.signed.specs.Numbers.{rise, fall, is, atLeast, difference, signedOf}
 use Rattle.signed.specs.Laws.{spans-true, rise-difference, fall-difference, bits-signed}
 use Rattle.records.specs.declared.Record.{Record}
@@ -126,9 +128,11 @@ tape-append (r ∷ rs) qs = rw (tape-append rs qs, append-assoc)
 
 -- so many records fit: they are few, and the room holds their numbers
 module _ (edition room records : ℕ) (e : recordsFit edition room records ≡ true) where
-  pub fit-few : records ≤ 1024
-  unfolding recordsFit recordLimit
-  fit-few = leb-true _ _ (both-left _ _ e)
+  pub fit-few : records ≤ recordPlaces
+  unfolding recordsFit
+  fit-few =
+      let h : records ≤ limits edition .records = leb-true _ _ (both-left _ _ e) in
+      omega (arith, h, limits-records edition)
 
   pub fit-room : records * 6 ≤ room
   unfolding recordsFit

@@ -10,7 +10,7 @@ ghost use Rattle.signed.specs.Numbers.{number, rise};
 ghost use Rattle.records.specs.Records.{registerOk, moved, bytesNumbers, recordNumbers, fields, copyOk, bytesOk, fillOk, wholeOk, copyOf, bytesOf, fillOf, wholeOf, recordAt};
 ghost use Rattle.records.specs.Ranges.{Elements, Bytes, Within, Sound};
 ghost use Rattle.records.specs.Room.{recordsFit};
-use sheet::sizes;
+use sheet::editions;
 
 // The byte step of a take or a put is up - down, of which one is 0.
 pub enum Record {
@@ -63,7 +63,8 @@ const STEP: usize = 65_535;
 pub fn records_fit(edition: u8, room: usize, records: usize) -> bool
     ensures { λ r. ⌜ r ≡ recordsFit edition room records ⌝ }
 {
-    if sizes::record_limit(edition) < records {
+    let most = editions::limits(edition);
+    if most.records < records {
         return false;
     }
     records * NUMBERS <= room

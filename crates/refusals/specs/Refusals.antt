@@ -1,6 +1,7 @@
 -- Document 01's refusal numbers by name, in its table's order, and a refusal with its place.
 use Prim.Native.Nat.{ℕ}
 use Rattle.refusals.specs.declared.Refusal.{Refusal}
+use Rattle.refusals.specs.declared.Stop.{Stop}
 
 abbrev pub cutShort : ℕ
 cutShort = 1
@@ -65,3 +66,7 @@ refusalAt number place element = record { number = number; place = place; elemen
 
 abbrev pub notRefused : Refusal
 notRefused = refusalAt 0 0 0
+
+-- the refusal of a step: its number, and its element where it names one
+abbrev pub stopAt : ℕ → ℕ → Stop
+stopAt number element = record { number = number; element = element }

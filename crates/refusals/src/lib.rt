@@ -1,6 +1,6 @@
 // Refusals: document 01's numbers by name, and where one was given.
 ghost use mathlib.Core.Path.{_≡_};
-ghost use Rattle.refusals.specs.Refusals.{refusalAt, notRefused};
+ghost use Rattle.refusals.specs.Refusals.{refusalAt, notRefused, stopAt};
 
 // A field's head or content runs past the end.
 pub const CUT_SHORT: u8 = 1;
@@ -68,4 +68,16 @@ pub fn not_refused() -> Refusal
     ensures { λ r. ⌜ r ≡ notRefused ⌝ }
 {
     refusal_at(0, 0, 0)
+}
+
+// Why and where a step is refused: a number and its element, 0 where it names none. All zero: not refused.
+pub struct Stop {
+    pub number: u8,
+    pub element: usize,
+}
+
+pub fn stop_at(number: u8, element: usize) -> Stop
+    ensures { λ r. ⌜ r ≡ stopAt number element ⌝ }
+{
+    Stop { number, element }
 }

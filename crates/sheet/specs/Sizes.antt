@@ -21,6 +21,10 @@ registerCount = 4
 abbrev pub stepPlaces : ℕ
 stepPlaces = 32
 
+-- the most records of a tape, whatever its edition
+abbrev pub recordPlaces : ℕ
+recordPlaces = 1024
+
 -- a layout or a view has 1 to 5 dimensions
 abbrev pub rankOk : ℕ → Bool
 rankOk rank = between 1 rankPlaces rank

@@ -22,7 +22,7 @@ pub fn limits(edition: u8) -> SizeLimits
     SizeLimits {
         side: 16,
         steps: sizes::STEPS,
-        records: 1024,
+        records: sizes::RECORDS,
     }
 }
 

@@ -15,6 +15,9 @@ pub const REGISTERS: usize = 4;
 // The places that a sheet has for steps, whatever its edition.
 pub const STEPS: usize = 32;
 
+// The most records of a tape, whatever its edition.
+pub const RECORDS: usize = 1024;
+
 // The largest block size, dimension and span.
 const SIZE: u16 = 4096;
 

@@ -7,7 +7,7 @@ use lib.ListN.{length}
 use lib.Seq.{sets}
 use lib.Dec.{eqb}
 use Rattle.numbers.specs.Choice.{pick}
-use Rattle.sheet.specs.declared.Refusal.{Refusal}
+use Rattle.refusals.specs.declared.Refusal.{Refusal}
 use Rattle.sheet_reader.specs.Reading.{readSheet}
 use Rattle.checking.specs.Checking.{refusalAt, checkedSheet}
 use Rattle.records.specs.Records.{tapeNumbers}

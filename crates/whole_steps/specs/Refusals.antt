@@ -11,8 +11,8 @@ use Rattle.sheet.specs.declared.ReduceMode.{ReduceMode}
 use Rattle.sheet.specs.declared.ReduceMode.the-variants.{Row, Column, Both, TwoByTwo}
 use Rattle.sheet.specs.declared.WholeStep.{WholeStep}
 use Rattle.sheet.specs.declared.WholeStep.the-variants.{Fill, Reduce, Transpose, MultiplyAdd}
-use Rattle.stops.specs.Stops.{stopAt}
-use Rattle.stops.specs.declared.Stop.{Stop}
+use Rattle.refusals.specs.Refusals.{stopAt}
+use Rattle.refusals.specs.declared.Stop.{Stop}
 
 -- mode 1 rows, mode 2 columns are the source's; mode 4 has no odd side, and a result of half the sides
 abbrev pub reduceAgrees : MatrixType → ℕ → ℕ → ReduceMode → Bool

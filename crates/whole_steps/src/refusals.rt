@@ -5,13 +5,13 @@ ghost use lib.Dec.{eqb};
 ghost use Rattle.sheet.specs.declared.ReduceMode.the-variants.{TwoByTwo};
 ghost use Rattle.whole_steps.specs.Refusals.{reduceAgrees, multiplyAgrees, reduceRefusal, transposeRefusal, multiplyRefusal, wholeRefusal};
 ghost use Rattle.whole_steps.specs.Within.{WholeOk};
+use refusals::EMPTY_REGISTER;
+use refusals::SHAPES_DISAGREE;
+use refusals::Stop;
+use refusals::stop_at;
 use registers::MatrixType;
 use sheet::ReduceMode;
 use sheet::WholeStep;
-use stops::EMPTY;
-use stops::SHAPES;
-use stops::Stop;
-use stops::stop_at;
 
 // A source side is even, and twice the result's.
 fn twice(side: u8, half: u8) -> bool
@@ -59,19 +59,19 @@ fn reduce_refusal(t: MatrixType, rows: u8, columns: u8, mode: ReduceMode) -> u8
     ensures { λ r. ⌜ r ≡ reduceRefusal t rows columns mode ⌝ }
 {
     if registers::is_empty(t) {
-        return EMPTY;
+        return EMPTY_REGISTER;
     }
     if reduce_agrees(t, rows, columns, mode) {
         return 0;
     }
-    SHAPES
+    SHAPES_DISAGREE
 }
 
 fn transpose_refusal(t: MatrixType) -> u8
     ensures { λ r. ⌜ r ≡ transposeRefusal t ⌝ }
 {
     if registers::is_empty(t) {
-        return EMPTY;
+        return EMPTY_REGISTER;
     }
     0
 }
@@ -80,18 +80,18 @@ fn multiply_refusal(a: MatrixType, b: MatrixType, c: MatrixType) -> u8
     ensures { λ r. ⌜ r ≡ multiplyRefusal a b c ⌝ }
 {
     if registers::is_empty(a) {
-        return EMPTY;
+        return EMPTY_REGISTER;
     }
     if registers::is_empty(b) {
-        return EMPTY;
+        return EMPTY_REGISTER;
     }
     if registers::is_empty(c) {
-        return EMPTY;
+        return EMPTY_REGISTER;
     }
     if multiply_agrees(a, b, c) {
         return 0;
     }
-    SHAPES
+    SHAPES_DISAGREE
 }
 
 // By the edition, the registers' types and the memory's length.

@@ -3,7 +3,7 @@ use Rattle.checking.specs.Laws.Readable.{sheet-readable}
 use Rattle.checking.specs.declared.CheckAnswer.{CheckAnswer}
 use Rattle.carrying.specs.Carrying.{started, performed, carryAnswer}
 use Rattle.sheet.specs.declared.Sheet.{Sheet}
-use Rattle.sheet.specs.declared.Refusal.{Refusal}
+use Rattle.refusals.specs.declared.Refusal.{Refusal}
 use lib.ListN.{length}
 use denote.Ref.{now}
 use mathlib.Core.Path.{_≡_, sym, ap, _∙_}

@@ -26,7 +26,7 @@ use Rattle.sheet.specs.declared.Step.the-variants.{Load, Store, Whole}
 use Rattle.sheet.specs.declared.WholeStep.the-variants.{Fill, Reduce}
 use Rattle.sheet.specs.declared.Cell.{Cell}
 use Rattle.sheet.specs.declared.Sheet.{Sheet}
-use Rattle.sheet.specs.declared.Refusal.{Refusal}
+use Rattle.refusals.specs.declared.Refusal.{Refusal}
 use Rattle.memory.specs.Elements.{elementAt, withElement}
 use Rattle.registers.specs.Registers.{emptyRegisters, elementOf}
 use Rattle.combines.specs.Combining

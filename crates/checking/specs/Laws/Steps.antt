@@ -8,7 +8,7 @@ use borrow.Author.Tests.{eq-eqb}
 use lib.Dec.{eqb}
 use lib.ListN.{length, length-set}
 use Rattle.numbers.specs.Choice.{pick, pick-case}
-use Rattle.stops.specs.declared.Stop.{Stop}
+use Rattle.refusals.specs.declared.Stop.{Stop}
 use Rattle.sheet.specs.Steps.{stepOk}
 use Rattle.sheet.specs.declared.Sheet.{Sheet}
 use Rattle.sheet.specs.declared.Step.{Step}

@@ -7,7 +7,7 @@ use borrow.Author.Tests.{le-leb, lt-leb, eq-eqb, ne-eqb}
 use lib.IntN.{ℤ}
 use lib.ListN.{length}
 use Rattle.numbers.specs.Choice.{pick}
-use Rattle.sheet.specs.declared.Refusal.{Refusal}
+use Rattle.refusals.specs.declared.Refusal.{Refusal}
 use Rattle.sheet_reader.specs.Reading.{readSheet}
 use Rattle.registers.specs.Registers.{emptyRegisters}
 use Rattle.registers.specs.declared.Registers.{Registers}

@@ -7,7 +7,7 @@ use native.Mathlib.Omega.{arith}
 use lib.ListN.{length, replicate}
 use Rattle.numbers.specs.Choice.{pick, pick-case}
 use Rattle.sheet.specs.declared.Sheet.{Sheet}
-use Rattle.sheet.specs.declared.Refusal.{Refusal}
+use Rattle.refusals.specs.declared.Refusal.{Refusal}
 use Rattle.round_trip.specs.Sheets.{Within}
 use Rattle.registers.specs.Types.{noType}
 use Rattle.registers.specs.Registers.{emptyRegisters}

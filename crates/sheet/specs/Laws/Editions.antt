@@ -5,7 +5,7 @@ use mathlib.Core.Bool.{true}
 use native.Mathlib.Nat.{le-refl}
 use native.Mathlib.Omega.{arith}
 use borrow.Author.Tests.{eqb-true}
-use Rattle.sheet.specs.Sizes.{stepPlaces}
+use Rattle.sheet.specs.Sizes.{stepPlaces, recordPlaces}
 use Rattle.sheet.specs.Editions.{editionOk, limits}
 
 pub edition-some : (edition : ℕ) → editionOk edition ≡ true → 0 < edition
@@ -14,3 +14,7 @@ edition-some edition e = let q = eqb-true edition 1 e in omega arith
 pub limits-steps : (edition : ℕ) → limits edition .steps ≤ stepPlaces
 unfolding limits
 limits-steps edition = le-refl stepPlaces
+
+pub limits-records : (edition : ℕ) → limits edition .records ≤ recordPlaces
+unfolding limits
+limits-records edition = le-refl recordPlaces

@@ -5,7 +5,7 @@ use Rattle.records.specs.Records.{tapeNumbers}
 use Rattle.checking.specs.declared.CheckAnswer.{CheckAnswer}
 use Rattle.checking.specs.Laws.Readable.{sheet-readable}
 use Rattle.sheet.specs.declared.Sheet.{Sheet}
-use Rattle.sheet.specs.declared.Refusal.{Refusal}
+use Rattle.refusals.specs.declared.Refusal.{Refusal}
 use Rattle.numbers.specs.Choice.{went-not, went-past}
 use lib.Seq.{sets}
 use lib.ListN.{length}
