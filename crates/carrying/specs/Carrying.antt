@@ -6,18 +6,19 @@ use lib.Dec.{eqb}
 use Rattle.numbers.specs.Choice.{pick}
 use Rattle.sheet.specs.Steps.{theStep}
 use Rattle.sheet.specs.declared.Sheet.{Sheet}
+use Rattle.refusals.specs.Refusals.{notRefused}
 use Rattle.refusals.specs.declared.Refusal.{Refusal}
 use Rattle.sheet_reader.specs.Reading.{readSheet}
 use Rattle.registers.specs.Registers.{emptyRegisters}
 use Rattle.registers.specs.declared.Registers.{Registers}
-use Rattle.checking.specs.Checking.{refusalAt, checkedSheet}
+use Rattle.checking.specs.Checking.{checkedSheet}
 use Rattle.carrying.specs.Steps.{performedStep, Machine, machine}
 use Rattle.carrying.specs.declared.CarryAnswer.{CarryAnswer}
 
 -- n steps more, the next of which is number k
 unfoldable pub performedFrom : ℕ → Sheet → ℕ → Machine → Machine
 performedFrom zero sh k m = m
-performedFrom (suc n) sh k m = performedFrom n sh (k + 1) (performedStep sh (theStep (sh .step) k) m)
+performedFrom (suc n) sh k m = performedFrom n sh (k + 1) (performedStep (sh .tensors) (theStep (sh .step) k) m)
 
 -- the steps in order
 unfoldable pub performed : Sheet → Machine → Machine
@@ -34,7 +35,7 @@ carryAnswer r registers count = record { refusal = r; count = count; registers =
 unfoldable pub carried : List ℕ → List ℕ → CarryAnswer
 carried s memory =
     pick (eqb (checkedSheet s (length memory) .refusal .number) 0)
-    (let m = performed (readSheet s .sheet) (started memory) in carryAnswer (refusalAt 0 0 0) (m .registers) (m .count))
+    (let m = performed (readSheet s .sheet) (started memory) in carryAnswer notRefused (m .registers) (m .count))
     (carryAnswer (checkedSheet s (length memory) .refusal) emptyRegisters 0)
 
 -- memory afterwards: unchanged where the sheet is refused

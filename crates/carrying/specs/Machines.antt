@@ -1,6 +1,10 @@
 -- A machine that is well formed, and a step that is accepted on it.
+use Prim.Native.Nat.{ℕ}
 use mathlib.Core.Path.{_≡_}
 use lib.ListN.{length}
+use Rattle.sheet.specs.Sizes.{registerCount}
+use Rattle.sheet.specs.Steps.{theStep}
+use Rattle.sheet.specs.declared.Tensors.{Tensors}
 use Rattle.sheet.specs.declared.Sheet.{Sheet}
 use Rattle.sheet.specs.declared.Step.{Step}
 use Rattle.registers.specs.Sized.{Sized}
@@ -9,14 +13,21 @@ use Rattle.checking.specs.declared.StepCheck.{StepCheck}
 use Rattle.carrying.specs.Steps.{Machine}
 
 -- the check of a step on a machine, and that it does not refuse
-abbrev pub checkOn : Sheet → Step → Machine → StepCheck
-checkOn sh step m = checkedStep sh (m .registers .types) (length (m .memory)) step
+abbrev pub checkOn : ℕ → Tensors → Step → Machine → StepCheck
+checkOn edition tensors step m = checkedStep edition tensors (m .registers .types) (length (m .memory)) step
 
-abbrev pub Accepted : Sheet → Step → Machine → Type 0
-Accepted sh step m = checkOn sh step m .stop .number ≡ 0
+abbrev pub Accepted : ℕ → Tensors → Step → Machine → Type 0
+Accepted edition tensors step m = checkOn edition tensors step m .stop .number ≡ 0
+
+-- the same of step k of a sheet
+abbrev pub stepOn : Sheet → ℕ → Machine → StepCheck
+stepOn sh k m = checkOn (sh .edition) (sh .tensors) (theStep (sh .step) k) m
+
+abbrev pub AcceptedStep : Sheet → ℕ → Machine → Type 0
+AcceptedStep sh k m = Accepted (sh .edition) (sh .tensors) (theStep (sh .step) k) m
 
 -- four registers of 256 places, with types within Sizes
 pub record Formed (m : Machine) : Type 0 where
-  pub registers : length (m .registers .types) ≡ 4
+  pub registers : length (m .registers .types) ≡ registerCount
   pub sized : Sized (m .registers .types)
   pub places : length (m .registers .elements) ≡ 1024

@@ -1,11 +1,12 @@
 -- What one step does to a machine.
-use Prim.Native.Nat.{ℕ, _*_}
+use Prim.Native.Nat.{ℕ}
 use mathlib.Core.List.{List}
 use mathlib.Core.Bool.{true, false}
 use lib.ListN.{length}
-use lib.Dec.{eqb}
-use Rattle.numbers.specs.Choice.{pick}
-use Rattle.sheet.specs.declared.Sheet.{Sheet}
+use Rattle.sheet.specs.declared.Object.{Object}
+use Rattle.sheet.specs.declared.Object.the-variants.{Kept, Register}
+use Rattle.sheet.specs.declared.Window.{Window}
+use Rattle.sheet.specs.declared.Tensors.{Tensors}
 use Rattle.sheet.specs.declared.Step.{Step}
 use Rattle.sheet.specs.declared.Step.the-variants.{Nothing, Load, Store, Whole}
 use Rattle.sheet.specs.declared.WholeStep.{WholeStep}
@@ -37,35 +38,32 @@ registersOf types elements = record { types = types; elements = elements }
 abbrev pub machineOf : List MatrixType → State → Machine
 machineOf types s = machine (registersOf types (s .elements)) (s .memory) (s .count)
 
--- the elements of a load into a register that its object was copied to, and of a store
-unfoldable pub loadDone : Sheet → ℕ → ℕ → ℕ → ℕ → Machine → Machine
-loadDone sh register layout view base m =
-    let t = theType (m .registers .types) register in
-    machineOf (m .registers .types)
-    (loadedElements (accessOf sh true layout view base t (length (m .memory))) (t .columns) register (t .rows * t .columns) (stateOf m))
-
-unfoldable pub storeDone : Sheet → ℕ → ℕ → ℕ → ℕ → Machine → Machine
-storeDone sh register layout view base m =
-    let t = theType (m .registers .types) register in
-    machineOf (m .registers .types)
-    (storedElements (accessOf sh false layout view base t (length (m .memory))) (t .columns) register (t .rows * t .columns) (stateOf m))
-
 -- a load first gives its register the object, type and elements
-unfoldable pub objectDone : ℕ → ℕ → Machine → Machine
-objectDone register object m =
-    pick (eqb object 255) m (machine (copied (m .registers) register object) (m .memory) (m .count))
+unfoldable pub withObject : ℕ → Object → Registers → Registers
+withObject register Kept g = g
+withObject register (Register object) g = copied g register object
 
--- the registers that it leaves
-unfoldable pub objectRegisters : ℕ → ℕ → Registers → Registers
-objectRegisters register object g = pick (eqb object 255) g (copied g register object)
+abbrev pub objectDone : ℕ → Object → Machine → Machine
+objectDone register object m = machine (withObject register object (m .registers)) (m .memory) (m .count)
+
+-- then its elements, and the elements of a store
+unfoldable pub loadDone : Tensors → ℕ → Window → Machine → Machine
+loadDone tensors register window m =
+    let t = theType (m .registers .types) register in
+    machineOf (m .registers .types) (loadedElements (accessOf tensors true window t (length (m .memory))) register (stateOf m))
+
+unfoldable pub storeDone : Tensors → ℕ → Window → Machine → Machine
+storeDone tensors register window m =
+    let t = theType (m .registers .types) register in
+    machineOf (m .registers .types) (storedElements (accessOf tensors false window t (length (m .memory))) register (stateOf m))
 
 -- a whole step reads memory, and leaves it as it was
 abbrev pub wholeStepDone : WholeStep → Machine → Machine
 wholeStepDone w m = machine (wholeDone (m .registers) (m .memory) w) (m .memory) (m .count)
 
 -- what a step does
-unfoldable pub performedStep : Sheet → Step → Machine → Machine
-performedStep sh Nothing m = m
-performedStep sh (Load register object layout view base) m = loadDone sh register layout view base (objectDone register object m)
-performedStep sh (Store register layout view base) m = storeDone sh register layout view base m
-performedStep sh (Whole whole) m = wholeStepDone whole m
+unfoldable pub performedStep : Tensors → Step → Machine → Machine
+performedStep tensors Nothing m = m
+performedStep tensors (Load register object window) m = loadDone tensors register window (objectDone register object m)
+performedStep tensors (Store register window) m = storeDone tensors register window m
+performedStep tensors (Whole whole) m = wholeStepDone whole m

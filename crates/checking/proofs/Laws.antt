@@ -14,7 +14,8 @@ use Rattle.sheet_reader.specs.Reading.{readSheet}
 use Rattle.registers.specs.Registers.{emptyRegisters}
 use Rattle.registers.specs.declared.MatrixType.{MatrixType}
 use Rattle.checking.specs.Steps.{checkedStep}
-use Rattle.checking.specs.Checking.{refusalAt, memoryLimit, checkRefused, checkedFrom, checked, checkedSheet}
+use Rattle.refusals.specs.Refusals.{memoryTooLarge, refusalAt, notRefused}
+use Rattle.checking.specs.Checking.{memoryLimit, checkRefused, checkedFrom, checked, checkedSheet}
 use Rattle.checking.specs.Laws.Turns.{one-less}
 use Rattle.checking.specs.declared.StepCheck.{StepCheck}
 use Rattle.checking.specs.declared.CheckAnswer.{CheckAnswer}
@@ -25,11 +26,11 @@ checked-start sh len = let e : sh .steps - 0 ≡ sh .steps = omega arith in rw e
 
 -- a turn: the check of step k goes on or refuses; after the last step the count is the answer
 module _ (n : ℕ) (sh : Sheet) (len k : ℕ) (ts : List MatrixType) (count : ℕ) where
-  pub checked-end : n ≤ k → record { refusal = refusalAt 0 0 0; count = count } ≡ checkedFrom (n - k) sh len k ts count
+  pub checked-end : n ≤ k → record { refusal = notRefused; count = count } ≡ checkedFrom (n - k) sh len k ts count
   unfolding checkedFrom
   checked-end h = let e : n - k ≡ 0 = omega arith in rw e
 
-  module _ (c : StepCheck) (is : c ≡ checkedStep sh ts len (theStep (sh .step) k)) (h : k < n) where
+  module _ (c : StepCheck) (is : c ≡ checkedStep (sh .edition) (sh .tensors) ts len (theStep (sh .step) k)) (h : k < n) where
     pub checked-go : c .stop .number ≡ 0 → checkedFrom (n - (k + 1)) sh len (k + 1) (c .types) (count + c .placed) ≡ checkedFrom (n - k) sh len k ts count
     unfolding checkedFrom pick
     checked-go e = rw (one-less n k h, ← is, eq-eqb (c .stop .number) 0 e)
@@ -41,7 +42,7 @@ module _ (n : ℕ) (sh : Sheet) (len k : ℕ) (ts : List MatrixType) (count : �
 
 -- which answer a sheet gets, by the ways that the code takes
 module _ (s : List ℕ) (len : ℕ) where
-  pub large : memoryLimit < len → checkedSheet s len ≡ checkRefused (refusalAt 18 0 0)
+  pub large : memoryLimit < len → checkedSheet s len ≡ checkRefused (refusalAt memoryTooLarge 0 0)
   unfolding checkedSheet pick
   large h = rw (lt-leb len memoryLimit h)
 

@@ -5,15 +5,13 @@ use lib.Dec.{eqb, leb}
 use Rattle.numbers.specs.Choice.{pick}
 use Rattle.sheet.specs.Steps.{theStep}
 use Rattle.sheet.specs.declared.Sheet.{Sheet}
+use Rattle.refusals.specs.Refusals.{memoryTooLarge, refusalAt, notRefused}
 use Rattle.refusals.specs.declared.Refusal.{Refusal}
 use Rattle.sheet_reader.specs.Reading.{readSheet}
 use Rattle.registers.specs.Registers.{emptyRegisters}
 use Rattle.registers.specs.declared.MatrixType.{MatrixType}
 use Rattle.checking.specs.Steps.{checkedStep}
 use Rattle.checking.specs.declared.CheckAnswer.{CheckAnswer}
-
-abbrev pub refusalAt : ℕ → ℕ → ℕ → Refusal
-refusalAt number place element = record { number = number; place = place; element = element }
 
 -- the largest memory
 abbrev pub memoryLimit : ℕ
@@ -24,9 +22,9 @@ checkRefused r = record { refusal = r; count = 0 }
 
 -- n steps more, the next of which is number k, from the types and the count that the steps before left
 unfoldable pub checkedFrom : ℕ → Sheet → ℕ → ℕ → List MatrixType → ℕ → CheckAnswer
-checkedFrom zero sh len k ts count = record { refusal = refusalAt 0 0 0; count = count }
+checkedFrom zero sh len k ts count = record { refusal = notRefused; count = count }
 checkedFrom (suc n) sh len k ts count =
-    let c = checkedStep sh ts len (theStep (sh .step) k) in
+    let c = checkedStep (sh .edition) (sh .tensors) ts len (theStep (sh .step) k) in
     pick (eqb (c .stop .number) 0)
     (checkedFrom n sh len (k + 1) (c .types) (count + c .placed))
     (checkRefused (refusalAt (c .stop .number) k (c .stop .element)))
@@ -42,4 +40,4 @@ checkedSheet s len =
     (pick (eqb (readSheet s .refusal .number) 0)
     (checked (readSheet s .sheet) len)
     (checkRefused (readSheet s .refusal)))
-    (checkRefused (refusalAt 18 0 0))
+    (checkRefused (refusalAt memoryTooLarge 0 0))

@@ -9,4 +9,4 @@ use Rattle.accesses.specs.Refusals.{accessRefusal}
 -- a load or a store that its check does not refuse: the register is not empty, and no refusal 9 to 15
 pub record Clear (t : MatrixType) (a : Access) : Type 0 where
   pub filled : isEmpty t ≡ false
-  pub clear : accessRefusal a (t .rows) (t .columns) .number ≡ 0
+  pub clear : accessRefusal a .number ≡ 0

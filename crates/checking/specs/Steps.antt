@@ -1,15 +1,19 @@
 -- The check of one step: when it is refused, and the types that it leaves.
 use Prim.Native.Nat.{ℕ}
 use mathlib.Core.List.{List}
-use mathlib.Core.Bool.{Bool, true, false, not}
-use lib.Dec.{eqb}
+use mathlib.Core.Bool.{Bool, true, false}
 use Rattle.numbers.specs.Choice.{pick}
 use Rattle.kinds.specs.Widths.{bytesOf}
-use Rattle.refusals.specs.Refusals.{stopAt}
+use Rattle.refusals.specs.Refusals.{emptyRegister, stopAt}
 use Rattle.sheet.specs.Layouts.{theLayout}
 use Rattle.sheet.specs.Views.{theView, noView}
 use Rattle.sheet.specs.declared.View.{View}
-use Rattle.sheet.specs.declared.Sheet.{Sheet}
+use Rattle.sheet.specs.declared.Object.{Object}
+use Rattle.sheet.specs.declared.Object.the-variants.{Kept, Register}
+use Rattle.sheet.specs.declared.Viewing.{Viewing}
+use Rattle.sheet.specs.declared.Viewing.the-variants.{Plain, Through}
+use Rattle.sheet.specs.declared.Window.{Window}
+use Rattle.sheet.specs.declared.Tensors.{Tensors}
 use Rattle.sheet.specs.declared.Step.{Step}
 use Rattle.sheet.specs.declared.Step.the-variants.{Nothing, Load, Store, Whole}
 use Rattle.sheet.specs.declared.WholeStep.{WholeStep}
@@ -22,61 +26,66 @@ use Rattle.accesses.specs.Refusals.{checkedAccess}
 use Rattle.accesses.specs.declared.Checked.{Checked}
 use Rattle.checking.specs.declared.StepCheck.{StepCheck}
 
--- the view that a step names, 255 being none
-abbrev pub viewed : ℕ → Bool
-viewed view = not (eqb view 255)
+abbrev pub isViewed : Viewing → Bool
+isViewed Plain = false
+isViewed (Through view) = true
 
-abbrev pub viewNamed : Sheet → ℕ → View
-viewNamed sh view = pick (viewed view) (theView (sh .view) view) noView
+abbrev pub viewNamed : Tensors → Viewing → View
+viewNamed tensors Plain = noView
+viewNamed tensors (Through view) = theView (tensors .view) view
 
--- a load or a store of a matrix of a type, in a memory of a length
-abbrev pub accessOf : Sheet → Bool → ℕ → ℕ → ℕ → MatrixType → ℕ → Access
-accessOf sh load layout view base t len =
+-- a load or a store of a matrix of a type through a window, in a memory of a length
+abbrev pub accessOf : Tensors → Bool → Window → MatrixType → ℕ → Access
+accessOf tensors load window t len =
     record {
       load = load;
-      layout = theLayout (sh .layout) layout;
-      viewed = viewed view;
-      view = viewNamed sh view;
-      base = base;
+      layout = theLayout (tensors .layout) (window .layout);
+      viewed = isViewed (window .view);
+      view = viewNamed tensors (window .view);
+      base = window .base;
       size = bytesOf (t .kind);
       memory = len;
+      rows = t .rows;
+      columns = t .columns;
     }
 
--- with object 255 the register is its own object
-abbrev pub objectOf : ℕ → ℕ → ℕ
-objectOf register object = pick (eqb object 255) register object
+-- the register that a load's object is in; without an object the register is its own
+abbrev pub objectRegister : ℕ → Object → ℕ
+objectRegister register Kept = register
+objectRegister register (Register object) = object
 
-abbrev pub stepCheck : ℕ → ℕ → List MatrixType → ℕ → StepCheck
-stepCheck number element types placed = record { stop = stopAt number element; types = types; placed = placed }
+abbrev pub stepCheck : ℕ → List MatrixType → ℕ → StepCheck
+stepCheck number types placed = record { stop = stopAt number 0; types = types; placed = placed }
 
-abbrev pub accessCheck : List MatrixType → Checked → StepCheck
-accessCheck types c = record { stop = c .stop; types = types; placed = c .placed }
+abbrev pub movedCheck : List MatrixType → Checked → StepCheck
+movedCheck types c = record { stop = c .stop; types = types; placed = c .placed }
 
--- refusal 7 of a load or a store, then 9 to 15; the types that it leaves, and how many of its elements have a byte
-unfoldable pub loadCheck : Sheet → List MatrixType → ℕ → ℕ → MatrixType → ℕ → ℕ → ℕ → StepCheck
-loadCheck sh ts len register t layout view base =
-    pick (isEmpty t) (stepCheck 7 0 ts 0)
-    (accessCheck (withType ts register t) (checkedAccess (accessOf sh true layout view base t len) (t .rows) (t .columns)))
+-- refusal 7 of a load or a store of a matrix of type t, then 9 to 15; the types before and after it, and how many of its elements have a byte
+unfoldable pub accessCheck : List MatrixType → List MatrixType → MatrixType → Access → StepCheck
+accessCheck before after t a = pick (isEmpty t) (stepCheck emptyRegister before 0) (movedCheck after (checkedAccess a))
 
-unfoldable pub storeCheck : Sheet → List MatrixType → ℕ → MatrixType → ℕ → ℕ → ℕ → StepCheck
-storeCheck sh ts len t layout view base =
-    pick (isEmpty t) (stepCheck 7 0 ts 0)
-    (accessCheck ts (checkedAccess (accessOf sh false layout view base t len) (t .rows) (t .columns)))
+-- load gives its register the object's type
+abbrev pub loadCheck : Tensors → List MatrixType → ℕ → ℕ → MatrixType → Window → StepCheck
+loadCheck tensors types len register t window = accessCheck types (withType types register t) t (accessOf tensors true window t len)
+
+abbrev pub storeCheck : Tensors → List MatrixType → ℕ → MatrixType → Window → StepCheck
+storeCheck tensors types len t window = accessCheck types types t (accessOf tensors false window t len)
 
 abbrev pub wholeCheck : ℕ → List MatrixType → ℕ → WholeStep → StepCheck
-wholeCheck edition ts len w = record { stop = wholeRefusal edition ts len w; types = wholeTypes ts w; placed = 0 }
+wholeCheck edition types len whole =
+    record { stop = wholeRefusal edition types len whole; types = wholeTypes types whole; placed = 0 }
 
--- refusals 7 to 15 of a step, over the registers' types and the memory's length; load gives its register the object's type
-unfoldable pub checkedStep : Sheet → List MatrixType → ℕ → Step → StepCheck
-checkedStep sh ts len Nothing = stepCheck 0 0 ts 0
-checkedStep sh ts len (Load register object layout view base) =
-    loadCheck sh ts len register (theType ts (objectOf register object)) layout view base
-checkedStep sh ts len (Store register layout view base) = storeCheck sh ts len (theType ts register) layout view base
-checkedStep sh ts len (Whole whole) = wholeCheck (sh .edition) ts len whole
+-- refusals 7 to 15 of a step, over the registers' types and the memory's length
+unfoldable pub checkedStep : ℕ → Tensors → List MatrixType → ℕ → Step → StepCheck
+checkedStep edition tensors types len Nothing = stepCheck 0 types 0
+checkedStep edition tensors types len (Load register object window) =
+    loadCheck tensors types len register (theType types (objectRegister register object)) window
+checkedStep edition tensors types len (Store register window) = storeCheck tensors types len (theType types register) window
+checkedStep edition tensors types len (Whole whole) = wholeCheck edition types len whole
 
 -- the types that a step leaves where it is not refused
 abbrev pub stepTypes : List MatrixType → Step → List MatrixType
-stepTypes ts Nothing = ts
-stepTypes ts (Load register object layout view base) = withType ts register (theType ts (objectOf register object))
-stepTypes ts (Store register layout view base) = ts
-stepTypes ts (Whole whole) = wholeTypes ts whole
+stepTypes types Nothing = types
+stepTypes types (Load register object window) = withType types register (theType types (objectRegister register object))
+stepTypes types (Store register window) = types
+stepTypes types (Whole whole) = wholeTypes types whole

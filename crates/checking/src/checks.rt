@@ -2,32 +2,29 @@
 ghost use mathlib.Core.Path.{_≡_};
 ghost use mathlib.Core.Bool.{true};
 ghost use Prim.Native.Nat.{ℕ, _≤_, _<_};
-ghost use Rattle.sheet.specs.Steps.{stepOk};
-ghost use Rattle.registers.specs.Sized.{Sized};
+ghost use Rattle.sheet.specs.Steps.{windowOk, stepOk};
+ghost use Rattle.sheet.specs.Laws.Within.{TensorsWithin, Within};
+ghost use Rattle.registers.specs.Sized.{Sized, SizedType};
 ghost use Rattle.whole_steps.specs.Within.{WholeOk};
-ghost use Rattle.round_trip.specs.Sheets.{Within};
-ghost use Rattle.checking.specs.Steps.{objectOf, stepCheck, wholeCheck, stepTypes, checkedStep};
-ghost use Rattle.checking.specs.Checking.{refusalAt, checkRefused, checked, memoryLimit};
+ghost use Rattle.accesses.specs.Clashes.{noMarks};
+ghost use Rattle.checking.specs.Steps.{accessOf, objectRegister, stepCheck, accessCheck, wholeCheck, stepTypes, checkedStep};
+ghost use Rattle.checking.specs.Checking.{checkRefused, checked, memoryLimit};
 use super::CheckAnswer;
 use super::StepCheck;
-use super::memory_steps;
+use super::windows;
+use accesses::ELEMENTS;
+use accesses::clashes;
+use accesses::clashes::MARKS;
+use refusals::EMPTY_REGISTER;
 use refusals::Refusal;
-use refusals::Stop;
 use registers::MatrixType;
+use sheet::Object;
 use sheet::Sheet;
 use sheet::Step;
+use sheet::Tensors;
 use sheet::WholeStep;
-use sheet::sizes;
-
-pub fn refusal_at(number: u8, place: usize, element: usize) -> Refusal
-    ensures { λ r. ⌜ r ≡ refusalAt number place element ⌝ }
-{
-    Refusal {
-        number,
-        place,
-        element,
-    }
-}
+use sheet::Window;
+use sheet::sizes::REGISTERS;
 
 pub fn check_refused(refusal: Refusal) -> CheckAnswer
     ensures { λ r. ⌜ r ≡ checkRefused refusal ⌝ }
@@ -35,7 +32,53 @@ pub fn check_refused(refusal: Refusal) -> CheckAnswer
     CheckAnswer { refusal, count: 0 }
 }
 
-fn check_whole(edition: u8, types: [MatrixType; 4], memory: usize, step: WholeStep) -> StepCheck
+// Neither elements with a byte nor an element that is refused.
+fn plain_check(number: u8, types: [MatrixType; REGISTERS]) -> StepCheck
+    ensures { λ r. ⌜ r ≡ stepCheck number types 0 ⌝ }
+{
+    StepCheck {
+        stop: refusals::stop_at(number, 0),
+        types,
+        placed: 0,
+    }
+}
+
+// A load or a store of a matrix of type t, with the types before and after it.
+fn check_window(
+    entries: &mut [u32; ELEMENTS],
+    marks: &mut [u32; MARKS],
+    tensors: Tensors,
+    load: bool,
+    window: Window,
+    before: [MatrixType; REGISTERS],
+    after: [MatrixType; REGISTERS],
+    t: MatrixType,
+    memory: usize,
+) -> StepCheck
+    requires { ⌜ TensorsWithin tensors × (windowOk (tensors .layouts) (tensors .views) window ≡ true) × (memory ≤ memoryLimit) ⌝ }
+    requires { ⌜ SizedType t × (now marks ≡ noMarks) ⌝ }
+    ensures { λ _. ⌜ now (marks .exit) ≡ noMarks ⌝ }
+    ensures { λ r. ⌜ r ≡ accessCheck before after t (accessOf tensors load window t memory) ⌝ }
+{
+    if registers::is_empty(t) {
+        return plain_check(EMPTY_REGISTER, before);
+    }
+    let a = windows::access_of(tensors, load, window, t, memory);
+    let c = accesses::check_access(entries, marks, a);
+    let stop = c.stop;
+    StepCheck {
+        stop,
+        types: after,
+        placed: c.placed,
+    }
+}
+
+fn check_whole(
+    edition: u8,
+    types: [MatrixType; REGISTERS],
+    memory: usize,
+    step: WholeStep,
+) -> StepCheck
     requires { ⌜ WholeOk step ⌝ }
     ensures { λ r. ⌜ r ≡ wholeCheck edition types memory step ⌝ }
 {
@@ -48,62 +91,51 @@ fn check_whole(edition: u8, types: [MatrixType; 4], memory: usize, step: WholeSt
     }
 }
 
-// An unused place: nothing is refused, and nothing changes.
-fn check_nothing(types: [MatrixType; 4]) -> StepCheck
-    ensures { λ r. ⌜ r ≡ stepCheck 0 0 types 0 ⌝ }
+// The register that a load's object is in.
+fn object_register(register: u8, object: Object) -> u8
+    ensures { λ r. ⌜ r ≡ objectRegister register object ⌝ }
 {
-    StepCheck {
-        stop: Stop {
-            number: 0,
-            element: 0,
-        },
-        types,
-        placed: 0,
+    match object {
+        Object::Kept => register,
+        Object::Register(r) => r,
     }
 }
 
-// The register that a load's object is in: with none it is its own.
-fn object_of(register: u8, object: u8) -> u8
-    ensures { λ r. ⌜ r ≡ objectOf register object ⌝ }
-{
-    if object == sizes::NONE {
-        register
-    } else {
-        object
-    }
-}
-
-pub fn check_step(sheet: Sheet, types: [MatrixType; 4], memory: usize, step: Step) -> StepCheck
-    requires { ⌜ Within sheet × (memory ≤ memoryLimit) × Sized types × (stepOk (sheet .edition) (sheet .layouts) (sheet .views) step ≡ true) ⌝ }
-    ensures { λ r. ⌜ r ≡ checkedStep sheet types memory step ⌝ }
+// The arrays that are lent are room to work in; the marks are clear between uses.
+pub fn check_step(
+    entries: &mut [u32; ELEMENTS],
+    marks: &mut [u32; MARKS],
+    edition: u8,
+    tensors: Tensors,
+    types: [MatrixType; REGISTERS],
+    memory: usize,
+    step: Step,
+) -> StepCheck
+    requires { ⌜ TensorsWithin tensors × (memory ≤ memoryLimit) × Sized types × (stepOk edition (tensors .layouts) (tensors .views) step ≡ true) × (now marks ≡ noMarks) ⌝ }
+    ensures { λ _. ⌜ now (marks .exit) ≡ noMarks ⌝ }
+    ensures { λ r. ⌜ r ≡ checkedStep edition tensors types memory step ⌝ }
 {
     match step {
-        Step::Nothing => check_nothing(types),
+        Step::Nothing => plain_check(0, types),
         Step::Load {
             register,
             object,
-            layout,
-            view,
-            base,
+            window,
         } => {
-            let t = registers::the_type(types, object_of(register, object));
-            memory_steps::check_load(sheet, types, memory, register, t, layout, view, base)
+            let t = registers::the_type(types, object_register(register, object));
+            let after = registers::with_type(types, register, t);
+            check_window(entries, marks, tensors, true, window, types, after, t, memory)
         }
-        Step::Store {
-            register,
-            layout,
-            view,
-            base,
-        } => {
+        Step::Store { register, window } => {
             let t = registers::the_type(types, register);
-            memory_steps::check_store(sheet, types, memory, t, layout, view, base)
+            check_window(entries, marks, tensors, false, window, types, types, t, memory)
         }
-        Step::Whole(whole) => check_whole(sheet.edition, types, memory, whole),
+        Step::Whole(whole) => check_whole(edition, types, memory, whole),
     }
 }
 
 // The types that a step leaves where it is not refused.
-pub fn step_types(types: [MatrixType; 4], step: Step) -> [MatrixType; 4]
+pub fn step_types(types: [MatrixType; REGISTERS], step: Step) -> [MatrixType; REGISTERS]
     requires { ⌜ ((edition layouts views : ℕ) × (stepOk edition layouts views step ≡ true)) ⌝ }
     ensures { λ r. ⌜ r ≡ stepTypes types step ⌝ }
 {
@@ -112,18 +144,14 @@ pub fn step_types(types: [MatrixType; 4], step: Step) -> [MatrixType; 4]
         Step::Load {
             register,
             object,
-            layout: _,
-            view: _,
-            base: _,
+            window: _,
         } => {
-            let t = registers::the_type(types, object_of(register, object));
+            let t = registers::the_type(types, object_register(register, object));
             registers::with_type(types, register, t)
         }
         Step::Store {
             register: _,
-            layout: _,
-            view: _,
-            base: _,
+            window: _,
         } => types,
         Step::Whole(whole) => whole_steps::types::whole_types(types, whole),
     }
@@ -135,17 +163,29 @@ pub fn check(sheet: Sheet, memory: usize) -> CheckAnswer
     ensures { λ r. ⌜ r ≡ checked sheet memory ⌝ }
 {
     let none = registers::no_type();
+    let edition = sheet.edition;
+    let tensors = sheet.tensors;
     let steps = sheet.steps;
-    let mut types = [none; 4];
+    let mut entries = [0u32; ELEMENTS];
+    let mut marks = clashes::no_marks();
+    let mut types = [none; REGISTERS];
     let mut count: usize = 0;
     let mut k: usize = 0;
     while k < steps {
         let c = sheet.step[k];
         let step = c.step;
-        let got = check_step(sheet, types, memory, step);
+        let got = check_step(
+            &mut entries,
+            &mut marks,
+            edition,
+            tensors,
+            types,
+            memory,
+            step,
+        );
         let stop = got.stop;
         if 0 < stop.number {
-            return check_refused(refusal_at(stop.number, k, stop.element));
+            return check_refused(refusals::refusal_at(stop.number, k, stop.element));
         }
         let after = got.types;
         types = after;
@@ -153,7 +193,7 @@ pub fn check(sheet: Sheet, memory: usize) -> CheckAnswer
         k += 1;
     }
     CheckAnswer {
-        refusal: refusal_at(0, 0, 0),
+        refusal: refusals::not_refused(),
         count,
     }
 }

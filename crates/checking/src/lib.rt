@@ -1,26 +1,25 @@
 // The check of a sheet, over types and a memory's length: it refuses or accepts, and changes nothing.
 pub mod checks;
-pub mod memory_steps;
+pub mod windows;
 
 ghost use mathlib.Core.Path.{_≡_};
 ghost use Rattle.sheet_reader.specs.Reading.{readSheet};
 ghost use Rattle.checking.specs.Checking.{checkRefused, checkedSheet};
+use refusals::MEMORY_TOO_LARGE;
 use refusals::Refusal;
 use refusals::Stop;
 use registers::MatrixType;
 use sheet::Sheet;
 use sheet::sheets;
+use sheet::sizes::REGISTERS;
 
 // The largest memory.
 pub const MEMORY_LIMIT: usize = 65_536;
 
-// The refusal of a larger one.
-pub const MEMORY_TOO_LARGE: u8 = 18;
-
 // What the check of a step tells: its refusal, or the types that it leaves and how many of its elements have a byte.
 pub struct StepCheck {
     pub stop: Stop,
-    pub types: [MatrixType; 4],
+    pub types: [MatrixType; REGISTERS],
     pub placed: usize,
 }
 
@@ -51,7 +50,7 @@ pub fn judge(sheet: &[u8], memory_len: usize) -> Judged
     ensures { λ r. ⌜ (r .answer .refusal .number ≡ 0 → r .sheet ≡ readSheet (now (sheet .entry)) .sheet) ⌝ }
 {
     if MEMORY_LIMIT < memory_len {
-        return judged_refused(checks::refusal_at(MEMORY_TOO_LARGE, 0, 0));
+        return judged_refused(refusals::refusal_at(MEMORY_TOO_LARGE, 0, 0));
     }
     let read = sheet_reader::read_sheet(sheet);
     let refusal = read.refusal;

@@ -6,13 +6,13 @@ use native.Mathlib.Omega.{arith}
 use lib.ListN.{length}
 use Rattle.sheet.specs.Steps.{theStep}
 use Rattle.sheet.specs.declared.Sheet.{Sheet}
-use Rattle.round_trip.specs.Sheets.{Within}
+use Rattle.sheet.specs.Laws.Within.{Within}
 use Rattle.checking.specs.Checking.{checkedFrom, checked}
 use Rattle.checking.specs.Laws.Turns.{within-step}
 use Rattle.checking.specs.declared.CheckAnswer.{CheckAnswer}
 use Rattle.carrying.specs.Steps.{Machine, performedStep}
 use Rattle.carrying.specs.Carrying.{performedFrom, performed, started}
-use Rattle.carrying.specs.Machines.{checkOn, Formed}
+use Rattle.carrying.specs.Machines.{stepOn, Formed}
 use Rattle.carrying.specs.Laws.Types.{started-formed, step-formed, checkFrom, first-accepted, rest-checked}
 use Rattle.carrying.specs.Laws.Counts.{step-count}
 
@@ -24,10 +24,11 @@ module _ (sh : Sheet) (w : Within sh) where
       let step = theStep (sh .step) k in
       let ok = within-step sh w k (omega arith) in
       let a = first-accepted n sh k m (m .count) h in
-      let c : performedStep sh step m .count ≡ m .count + checkOn sh step m .placed = step-count sh step m (sh .edition) (sh .layouts) (sh .views) ok a f in
-      let e : checkFrom (suc n) sh k m (m .count) ≡ checkFrom n sh (k + 1) (performedStep sh step m) (performedStep sh step m .count) =
+      let next = performedStep (sh .tensors) step m in
+      let c : next .count ≡ m .count + stepOn sh k m .placed = step-count (sh .edition) (sh .tensors) step m (sh .edition) (sh .tensors .layouts) (sh .tensors .views) ok a f in
+      let e : checkFrom (suc n) sh k m (m .count) ≡ checkFrom n sh (k + 1) next (next .count) =
       rest-checked n sh k m (m .count) a ∙ rw c in
-      from-count n (k + 1) (performedStep sh step m) (omega arith) (rw e at h) (step-formed sh step m (sh .edition) (sh .layouts) (sh .views) ok a f)
+      from-count n (k + 1) next (omega arith) (rw e at h) (step-formed (sh .edition) (sh .tensors) step m (sh .edition) (sh .tensors .layouts) (sh .tensors .views) ok a f)
       ∙ ap (λ (r : CheckAnswer). r .count) (sym e)
 
   -- For an accepted sheet, the number of elements of loads and stores that had a byte is what the check counted.

@@ -9,6 +9,7 @@ use lib.Dec.{eqb}
 use lib.ListN.{length, getD}
 use Rattle.numbers.specs.Choice.{pick-case}
 use Rattle.sheet.specs.Steps.{theStep}
+use Rattle.sheet.specs.declared.Tensors.{Tensors}
 use Rattle.sheet.specs.declared.Sheet.{Sheet}
 use Rattle.sheet.specs.declared.Step.{Step}
 use Rattle.sheet.specs.declared.Step.the-variants.{Nothing, Load, Store, Whole}
@@ -19,39 +20,39 @@ use Rattle.transfers.specs.Effects.{transferred-keeps, stores-outside}
 use Rattle.checking.specs.Checking.{checkedSheet}
 use Rattle.carrying.specs.Steps.{Machine, stateOf, loadDone, storeDone, objectDone, performedStep}
 use Rattle.carrying.specs.Carrying.{performedFrom, performed, started, carriedMemory}
-use Rattle.carrying.specs.Laws.Types.{object-memory, sheet-length}
+use Rattle.carrying.specs.Laws.Types.{sheet-length}
 use Rattle.carrying.specs.Bytes.{isStore, Covers, Uncovered}
 
 -- Loads and whole steps never change memory.
-pub step-memory : (sh : Sheet) (step : Step) (m : Machine) → isStore step ≡ false → performedStep sh step m .memory ≡ m .memory
+pub step-memory : (tensors : Tensors) (step : Step) (m : Machine) → isStore step ≡ false → performedStep tensors step m .memory ≡ m .memory
 unfolding performedStep loadDone
-step-memory sh Nothing m e = refl
-step-memory sh (Load register object layout view base) m e =
-    transferred-keeps (λ (s : State). s .memory) _ (loaded-memory _ register) _ _ (stateOf (objectDone register object m)) ∙ object-memory register object m
-step-memory sh (Store register layout view base) m e = absurd (true≢false e)
-step-memory sh (Whole whole) m e = refl
+step-memory tensors Nothing m e = refl
+step-memory tensors (Load register object window) m e =
+    transferred-keeps (λ (s : State). s .memory) _ (loaded-memory _ register) _ _ (stateOf (objectDone register object m))
+step-memory tensors (Store register window) m e = absurd (true≢false e)
+step-memory tensors (Whole whole) m e = refl
 
 -- A byte that a step does not cover is as before.
-pub step-untouched : (sh : Sheet) (step : Step) (m : Machine) (b : ℕ) → (Covers sh step m b → ⊥) → getD (performedStep sh step m .memory) b 0 ≡ getD (m .memory) b 0
+pub step-untouched : (tensors : Tensors) (step : Step) (m : Machine) (b : ℕ) → (Covers tensors step m b → ⊥) → getD (performedStep tensors step m .memory) b 0 ≡ getD (m .memory) b 0
 unfolding performedStep storeDone
-step-untouched sh Nothing m b h = refl
-step-untouched sh (Load register object layout view base) m b h = rw (step-memory sh (Load register object layout view base) m refl)
-step-untouched sh (Store register layout view base) m b h =
+step-untouched tensors Nothing m b h = refl
+step-untouched tensors (Load register object window) m b h = rw (step-memory tensors (Load register object window) m refl)
+step-untouched tensors (Store register window) m b h =
     stores-outside _ register b _ _ (stateOf m) (λ e l p. h (refl, (e, (l, p))))
-step-untouched sh (Whole whole) m b h = refl
+step-untouched tensors (Whole whole) m b h = refl
 
 -- n steps, the next of which is number k: step k + i is performed on the machine that the i steps before it leave
 pub from-untouched : (n : ℕ) (sh : Sheet) (k : ℕ) (m : Machine) (b : ℕ)
-    → ((i : ℕ) → i < n → Covers sh (theStep (sh .step) (k + i)) (performedFrom i sh k m) b → ⊥)
+    → ((i : ℕ) → i < n → Covers (sh .tensors) (theStep (sh .step) (k + i)) (performedFrom i sh k m) b → ⊥)
     → getD (performedFrom n sh k m .memory) b 0 ≡ getD (m .memory) b 0
 unfolding performedFrom
 from-untouched zero sh k m b h = refl
 from-untouched (suc n) sh k m b h =
     let step = theStep (sh .step) k in
-    let first : Covers sh step m b → ⊥ = rw (add-zero k) at (h 0 (omega arith)) in
-    from-untouched n sh (k + 1) (performedStep sh step m) b
+    let first : Covers (sh .tensors) step m b → ⊥ = rw (add-zero k) at (h 0 (omega arith)) in
+    from-untouched n sh (k + 1) (performedStep (sh .tensors) step m) b
     (λ i l c. let e : k + suc i ≡ k + 1 + i = omega arith in h (suc i) (omega arith) (rw e c))
-    ∙ step-untouched sh step m b first
+    ∙ step-untouched (sh .tensors) step m b first
 
 -- A byte that no step of a sheet covers is as before.
 pub sheet-untouched : (sh : Sheet) (m : Machine) (b : ℕ) → Uncovered sh m b → getD (performed sh m .memory) b 0 ≡ getD (m .memory) b 0

@@ -1,75 +1,74 @@
 -- The loads and stores of a sheet that is within Sizes, and what their check tells.
 use Prim.Native.Nat.{ℕ, _*_, _<_, _≤_}
-use mathlib.Core.Path.{_≡_, sym, _∙_}
+use mathlib.Core.Path.{_≡_, refl, sym}
 use mathlib.Core.Bool.{Bool, true, false, true≢false}
 use mathlib.Core.List.{List}
 use mathlib.Core.Logic.{⊎-elim}
-use native.Mathlib.Nat.{mul-le-mul}
 use native.Mathlib.Omega.{arith}
-use borrow.Author.Tests.{ltb-true, eqb-false, not-true}
-use Rattle.numbers.specs.Choice.{pick, pick-inv}
+use borrow.Author.Tests.{ltb-true, eqb-false, eq-eqb}
+use lib.Dec.{eqb}
+use Rattle.numbers.specs.Choice.{pick, pick-case}
 use Rattle.kinds.specs.Widths.{bytesOf}
 use Rattle.kinds.specs.Laws.{bytes-size, bytes-low, bytes-high}
-use Rattle.sheet.specs.Sizes.{optionOk}
-use Rattle.sheet.specs.declared.Sheet.{Sheet}
-use Rattle.round_trip.specs.Sheets.{Within}
+use Rattle.refusals.specs.Refusals.{emptyRegister}
+use Rattle.sheet.specs.Steps.{viewingOk, windowOk}
+use Rattle.sheet.specs.Views.{viewOk}
+use Rattle.sheet.specs.Laws.Within.{TensorsWithin}
+use Rattle.sheet.specs.declared.Viewing.{Viewing}
+use Rattle.sheet.specs.declared.Viewing.the-variants.{Plain, Through}
+use Rattle.sheet.specs.declared.Window.{Window}
+use Rattle.sheet.specs.declared.Tensors.{Tensors}
 use Rattle.registers.specs.Types.{isEmpty}
-use Rattle.registers.specs.Sized.{SizedType}
+use Rattle.registers.specs.Sized.{SizedType, sized-room}
 use Rattle.registers.specs.declared.MatrixType.{MatrixType}
 use Rattle.addressing.specs.Valid.{SizedAccess}
-use Rattle.accesses.specs.Refusals.{checked}
-use Rattle.checking.specs.Steps.{viewed, accessOf, loadCheck, storeCheck}
-use Rattle.checking.specs.Laws.Steps.{load-some, store-some, load-access, store-access}
+use Rattle.addressing.specs.declared.Access.{Access}
+use Rattle.accesses.specs.Refusals.{checked, checkedAccess}
+use Rattle.checking.specs.Steps.{isViewed, viewNamed, accessOf, stepCheck, movedCheck, accessCheck}
+use Rattle.checking.specs.Checking.{memoryLimit}
 use Rattle.checking.specs.Clear.{Clear}
-
--- a view that a step names, and that is one, is among those given
-pub view-given : (count view : ℕ) → optionOk count view ≡ true → viewed view ≡ true → view < count
-unfolding optionOk
-view-given count view e v =
-    ⊎-elim (λ w. absurd (true≢false (sym (w .0) ∙ not-true _ v)))
-    (λ w. ltb-true view count (w .1))
-    (pick-inv _ _ _ e)
+use Rattle.checking.specs.Laws.Names.{window-layout, window-view}
+use Rattle.checking.specs.declared.StepCheck.{StepCheck}
 
 -- the bytes of an element are 1, 2 or 4
 bytes-not-three : (kind : ℕ) → bytesOf kind ≡ 3 → ⊥
 bytes-not-three kind e =
     ⊎-elim (λ p. omega arith) (λ q. ⊎-elim (λ p. omega arith) (λ p. omega arith) q) (bytes-size kind)
 
-module _ (sh : Sheet) (w : Within sh) (load : Bool) (layout view base : ℕ) (t : MatrixType) (len : ℕ) where
-  pub access-sized : layout < sh .layouts → optionOk (sh .views) view ≡ true → len ≤ 65536 → SizedAccess (accessOf sh load layout view base t len)
-  unfolding pick
-  access-sized l o m =
-      record {
-        layout = w .layout .given layout l;
-        view = λ v. rw v (w .view .given view (view-given (sh .views) view o v));
-        some = bytes-low (t .kind);
-        most = bytes-high (t .kind);
-        odd = bytes-not-three (t .kind);
-        memory = m;
-      }
+-- the view that a window goes through is given
+view-named : (tensors : Tensors) → TensorsWithin tensors → (v : Viewing) → viewingOk (tensors .views) v ≡ true → isViewed v ≡ true → viewOk (viewNamed tensors v) ≡ true
+view-named tensors w Plain ok e = absurd (true≢false (sym e))
+view-named tensors w (Through view) ok e = w .view .given view (ltb-true view (tensors .views) ok)
 
--- a matrix that is not empty
-pub record Shaped (t : MatrixType) : Type 0 where
-  pub some : 0 < t .columns
-  pub most : t .columns < 256
-  pub tall : t .rows < 256
-  pub area : t .rows * t .columns ≤ 256
-
-pub shaped : (t : MatrixType) → SizedType t → isEmpty t ≡ false → Shaped t
-shaped t s e =
+-- an access to a matrix through a window that is within Sizes keeps to them
+pub access-sized : (tensors : Tensors) → TensorsWithin tensors → (load : Bool) (window : Window) → windowOk (tensors .layouts) (tensors .views) window ≡ true
+    → (t : MatrixType) → SizedType t → isEmpty t ≡ false → (len : ℕ) → len ≤ memoryLimit → SizedAccess (accessOf tensors load window t len)
+access-sized tensors w load window ok t s e len m =
     let n : t .rows ≡ 0 → ⊥ = eqb-false (t .rows) 0 e in
-    let a : t .rows * t .columns ≤ 16 * 16 = mul-le-mul (s .rows) (s .columns) in
-    record { some = s .some (omega arith); most = omega (arith, s .columns); tall = omega (arith, s .rows); area = a }
+    record {
+      layout = w .layout .given (window .layout) (window-layout _ _ window ok);
+      view = view-named tensors w (window .view) (window-view _ _ window ok);
+      some = bytes-low (t .kind);
+      most = bytes-high (t .kind);
+      odd = bytes-not-three (t .kind);
+      memory = m;
+      wide = s .some (omega arith);
+      area = sized-room t s;
+    }
 
-module _ (sh : Sheet) (ts : List MatrixType) (len register : ℕ) (t : MatrixType) (layout view base : ℕ) where
-  pub load-accepted : loadCheck sh ts len register t layout view base .stop .number ≡ 0 → Clear t (accessOf sh true layout view base t len)
-  unfolding checked
-  load-accepted e =
-      let some = load-some sh ts len register t layout view base e in
-      record { filled = some; clear = rw (load-access sh ts len register t layout view base some) at e }
+module _ (before after : List MatrixType) (t : MatrixType) (a : Access) where
+  -- a load or a store that is not refused is of a register that is not empty
+  not-empty : accessCheck before after t a .stop .number ≡ 0 → isEmpty t ≡ false
+  unfolding accessCheck
+  not-empty =
+      pick-case (λ (r : StepCheck). r .stop .number ≡ 0 → isEmpty t ≡ false) (isEmpty t) (stepCheck emptyRegister before 0) _
+      (λ e h. absurd (omega arith)) (λ e h. e)
 
-  pub store-accepted : storeCheck sh ts len t layout view base .stop .number ≡ 0 → Clear t (accessOf sh false layout view base t len)
+  -- and its check is that of its access
+  pub access-moved : isEmpty t ≡ false → accessCheck before after t a ≡ movedCheck after (checkedAccess a)
+  unfolding accessCheck pick
+  access-moved e = rw e
+
+  pub access-clear : accessCheck before after t a .stop .number ≡ 0 → Clear t a
   unfolding checked
-  store-accepted e =
-      let some = store-some sh ts len t layout view base e in
-      record { filled = some; clear = rw (store-access sh ts len t layout view base some) at e }
+  access-clear h = let e = not-empty h in record { filled = e; clear = rw (access-moved e) at h }

@@ -1,48 +1,50 @@
--- What a load or a store within Sizes names.
+-- What a load or a store within Sizes names: a register, a layout and perhaps a view that are given, and an object in a register.
 use Prim.Native.Nat.{ℕ, _<_}
 use mathlib.Core.Path.{_≡_}
-use mathlib.Core.Bool.{Bool, true, false}
-use lib.Dec.{eqb, ltb}
-use borrow.Author.Tests.{ltb-true, ne-eqb}
-use Rattle.numbers.specs.Choice.{pick, both-left, both-right}
-use Rattle.sheet.specs.Sizes.{optionOk}
-use Rattle.sheet.specs.Steps.{loadOk, storeOk}
-use Rattle.checking.specs.Steps.{objectOf}
+use mathlib.Core.Bool.{true}
+use borrow.Author.Tests.{ltb-true}
+use Rattle.numbers.specs.Choice.{both-left, both-right}
+use Rattle.sheet.specs.Sizes.{registerCount}
+use Rattle.sheet.specs.Steps.{objectOk, viewingOk, windowOk, loadOk, storeOk}
+use Rattle.sheet.specs.declared.Object.{Object}
+use Rattle.sheet.specs.declared.Object.the-variants.{Kept, Register}
+use Rattle.sheet.specs.declared.Window.{Window}
+use Rattle.checking.specs.Steps.{objectRegister}
 
--- a load or a store names a register, a layout that is given, and a view that is given or none
-pub record Names (layouts views register layout view : ℕ) : Type 0 where
-  pub named : register < 4
-  pub given : layout < layouts
-  pub option : optionOk views view ≡ true
+pub window-layout : (layouts views : ℕ) (w : Window) → windowOk layouts views w ≡ true → w .layout < layouts
+unfolding windowOk
+window-layout layouts views w e = ltb-true (w .layout) layouts (both-left _ _ e)
 
-pub store-names : (layouts views register layout view : ℕ) → storeOk layouts views register layout view ≡ true → Names layouts views register layout view
-unfolding storeOk
-store-names layouts views register layout view e =
-    let f = both-right _ _ e in
-    record { named = ltb-true register 4 (both-left _ _ e); given = ltb-true layout layouts (both-left _ _ f); option = both-right _ _ f }
+pub window-view : (layouts views : ℕ) (w : Window) → windowOk layouts views w ≡ true → viewingOk views (w .view) ≡ true
+unfolding windowOk
+window-view layouts views w e = both-right _ _ e
 
-own-small : (register object : ℕ) → register < 4 → (own : Bool) → pick own true (ltb object 4) ≡ true → pick own register object < 4
-unfolding pick
-own-small register object h true e = h
-own-small register object h false e = ltb-true object 4 e
+module _ {layouts views register : ℕ} {window : Window} where
+  pub store-register : storeOk layouts views register window ≡ true → register < registerCount
+  unfolding storeOk
+  store-register e = ltb-true register registerCount (both-left _ _ e)
 
-module _ (layouts views register object layout view : ℕ) where
-  pub load-names : loadOk layouts views register object layout view ≡ true → Names layouts views register layout view
+  pub store-window : storeOk layouts views register window ≡ true → windowOk layouts views window ≡ true
+  unfolding storeOk
+  store-window e = both-right _ _ e
+
+object-small : (register : ℕ) (object : Object) → register < registerCount → objectOk object ≡ true → objectRegister register object < registerCount
+object-small register Kept h e = h
+object-small register (Register object) h e = ltb-true object registerCount e
+
+module _ {layouts views register : ℕ} {object : Object} {window : Window} where
+  pub load-register : loadOk layouts views register object window ≡ true → register < registerCount
   unfolding loadOk
-  load-names e =
-      let f = both-right _ _ (both-right _ _ e) in
-      record { named = ltb-true register 4 (both-left _ _ e); given = ltb-true layout layouts (both-left _ _ f); option = both-right _ _ f }
+  load-register e = ltb-true register registerCount (both-left _ _ e)
 
-  -- a load's object is a register or none
-  pub load-option : loadOk layouts views register object layout view ≡ true → optionOk 4 object ≡ true
+  pub load-window : loadOk layouts views register object window ≡ true → windowOk layouts views window ≡ true
   unfolding loadOk
-  load-option e = both-left _ _ (both-right _ _ e)
+  load-window e = both-right _ _ (both-right _ _ e)
 
-  -- so it is in a register: its own, or another
-  pub load-object : loadOk layouts views register object layout view ≡ true → objectOf register object < 4
-  unfolding optionOk
-  load-object e = own-small register object (load-names e .named) (eqb object 255) (load-option e)
+  pub load-object-ok : loadOk layouts views register object window ≡ true → objectOk object ≡ true
+  unfolding loadOk
+  load-object-ok e = both-left _ _ (both-right _ _ e)
 
-  pub object-few : (object ≡ 255 → ⊥) → loadOk layouts views register object layout view ≡ true → object < 4
-  unfolding pick
-  object-few n e = rw (ne-eqb object 255 n) at (load-object e)
+  -- the object is in a register: its own, or another
+  pub load-object : loadOk layouts views register object window ≡ true → objectRegister register object < registerCount
+  load-object e = object-small register object (load-register e) (load-object-ok e)

@@ -7,8 +7,8 @@ use borrow.Author.Tests.{eqb-true, eqb-false, leb-true}
 use lib.Dec.{eqb, leb}
 use Rattle.numbers.specs.Choice.{pick-case}
 use Rattle.sheet_reader.specs.Reading.{readSheet}
-use Rattle.round_trip.specs.Sheets.{Within}
-use Rattle.round_trip.specs.Theorems.{not-refused, read-within}
+use Rattle.sheet.specs.Laws.Within.{Within}
+use Rattle.sheet_reader.specs.Laws.Growing.{read-within}
 use Rattle.checking.specs.Checking.{memoryLimit, checked, checkedSheet}
 use Rattle.checking.specs.declared.CheckAnswer.{CheckAnswer}
 
@@ -25,7 +25,7 @@ sheet-readable s len =
     (λ l. pick-case P (eqb (readSheet s .refusal .number) 0) _ _
     (λ e h.
     let read = eqb-true (readSheet s .refusal .number) 0 e in
-    record { few = leb-true len memoryLimit l; read = read; within = read-within s _ (not-refused s read); clear = h })
+    record { few = leb-true len memoryLimit l; read = read; within = read-within s read; clear = h })
     (λ e h. absurd (eqb-false (readSheet s .refusal .number) 0 e h)))
     (λ l h. absurd (omega arith))
   where

@@ -9,7 +9,7 @@ use borrow.Author.Tests.{eqb-true, eq-eqb}
 use Rattle.numbers.specs.Choice.{pick, pick-case}
 use Rattle.sheet.specs.Steps.{theStep, stepOk}
 use Rattle.sheet.specs.declared.Sheet.{Sheet}
-use Rattle.round_trip.specs.Sheets.{Within}
+use Rattle.sheet.specs.Laws.Within.{Within}
 use Rattle.registers.specs.Types.{noType}
 use Rattle.registers.specs.Registers.{emptyRegisters}
 use Rattle.registers.specs.declared.MatrixType.{MatrixType}
@@ -30,12 +30,12 @@ empty-types none e = rw e
 -- the types that the check tracks through n steps more, the next of which is number k
 unfoldable pub typesFrom : ℕ → Sheet → ℕ → ℕ → List MatrixType → List MatrixType
 typesFrom zero sh len k ts = ts
-typesFrom (suc n) sh len k ts = typesFrom n sh len (k + 1) (checkedStep sh ts len (theStep (sh .step) k) .types)
+typesFrom (suc n) sh len k ts = typesFrom n sh len (k + 1) (checkedStep (sh .edition) (sh .tensors) ts len (theStep (sh .step) k) .types)
 
 -- where they are accepted, so is the first, and what the check says of them is what it says of the others
 module _ (n : ℕ) (sh : Sheet) (len k : ℕ) (ts : List MatrixType) (count : ℕ) where
   abbrev first : StepCheck
-  first = checkedStep sh ts len (theStep (sh .step) k)
+  first = checkedStep (sh .edition) (sh .tensors) ts len (theStep (sh .step) k)
 
   pub first-clear : checkedFrom (suc n) sh len k ts count .refusal .number ≡ 0 → first .stop .number ≡ 0
   unfolding checkedFrom
@@ -48,5 +48,5 @@ module _ (n : ℕ) (sh : Sheet) (len k : ℕ) (ts : List MatrixType) (count : �
   rest-clear e = rw (eq-eqb (first .stop .number) 0 e)
 
 -- a step of a sheet within Sizes keeps to them
-pub within-step : (sh : Sheet) → Within sh → (k : ℕ) → k < sh .steps → stepOk (sh .edition) (sh .layouts) (sh .views) (theStep (sh .step) k) ≡ true
+pub within-step : (sh : Sheet) → Within sh → (k : ℕ) → k < sh .steps → stepOk (sh .edition) (sh .tensors .layouts) (sh .tensors .views) (theStep (sh .step) k) ≡ true
 within-step sh w k h = w .step .given k h
