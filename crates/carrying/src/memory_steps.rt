@@ -4,7 +4,7 @@ ghost use mathlib.Core.Bool.{true, false};
 ghost use Prim.Native.Nat.{_≤_, _<_, _^_};
 ghost use lib.ListN.{length};
 ghost use Rattle.sheet.specs.Sizes.{optionOk};
-ghost use Rattle.round_trip.specs.Sheets.{Within};
+ghost use Rattle.sheet.specs.Laws.Within.{Within};
 ghost use Rattle.registers.specs.Sized.{Sized};
 ghost use Rattle.registers.specs.Types.{theType};
 ghost use Rattle.transfers.specs.Acts.{state};

@@ -5,7 +5,7 @@ ghost use Prim.Native.Nat.{_≤_, _<_, _^_};
 ghost use lib.ListN.{length};
 ghost use Rattle.sheet.specs.Sizes.{optionOk};
 ghost use Rattle.sheet.specs.Steps.{stepOk};
-ghost use Rattle.round_trip.specs.Sheets.{Within};
+ghost use Rattle.sheet.specs.Laws.Within.{Within};
 ghost use Rattle.transfers.specs.Acts.{state};
 ghost use Rattle.carrying.specs.Steps.{machine, registersOf, machineOf, objectRegisters, performedStep};
 ghost use Rattle.carrying.specs.Carrying.{started, performed};

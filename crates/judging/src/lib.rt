@@ -5,7 +5,7 @@ ghost use Prim.Native.Nat.{ℕ, _+_, _*_, _<_, _≤_, _^_};
 ghost use lib.ListN.{length};
 ghost use Rattle.sheet.specs.Steps.{stepOk};
 ghost use Rattle.registers.specs.Sized.{Sized, SizedType};
-ghost use Rattle.round_trip.specs.Sheets.{Within};
+ghost use Rattle.sheet.specs.Laws.Within.{Within};
 ghost use Rattle.records.specs.Ranges.{Bytes, Sound};
 ghost use Rattle.records.specs.declared.Decoded.the-variants.{Good};
 ghost use Rattle.records.specs.declared.Record.the-variants.{Whole};

@@ -8,7 +8,7 @@ ghost use lib.ListN.{length};
 ghost use Rattle.sheet.specs.Steps.{theStep, stepOk};
 ghost use Rattle.sheet.specs.declared.Sheet.{Sheet};
 ghost use Rattle.registers.specs.Sized.{Sized};
-ghost use Rattle.round_trip.specs.Sheets.{Within};
+ghost use Rattle.sheet.specs.Laws.Within.{Within};
 ghost use Rattle.transfers.specs.Acts.{state};
 ghost use Rattle.carrying.specs.Steps.{machine, machineOf, performedStep};
 ghost use Rattle.carrying.specs.Carrying.{started};

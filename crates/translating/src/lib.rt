@@ -7,7 +7,7 @@ ghost use lib.ListN.{length};
 ghost use lib.Seq.{sets};
 ghost use Rattle.sheet.specs.Sizes.{optionOk};
 ghost use Rattle.sheet.specs.Steps.{stepOk};
-ghost use Rattle.round_trip.specs.Sheets.{Within};
+ghost use Rattle.sheet.specs.Laws.Within.{Within};
 ghost use Rattle.registers.specs.Sized.{Sized, SizedType};
 ghost use Rattle.addressing.specs.Valid.{Planned};
 ghost use Rattle.addressing.specs.Rules.{planned};

@@ -12,7 +12,7 @@ use lib.ListN.{length, getD, length-append}
 use Rattle.numbers.specs.Choice.{both-true, taken}
 use Rattle.sheet.specs.declared.Sheet.{Sheet}
 use Rattle.sheet.specs.Sizes.{recordLimit}
-use Rattle.round_trip.specs.Sheets.{Within}
+use Rattle.sheet.specs.Laws.Within.{Within}
 use Rattle.checking.specs.Checking.{memoryLimit, checked}
 use Rattle.carrying.specs.Carrying.{performed, started}
 use Rattle.carrying.specs.Laws.Types.{started-formed}

@@ -11,7 +11,7 @@ use Rattle.sheet.specs.declared.Sheet.{Sheet}
 use Rattle.sheet.specs.declared.Step.{Step}
 use Rattle.sheet.specs.declared.Step.the-variants as step
 use Rattle.sheet.specs.declared.WholeStep.{WholeStep}
-use Rattle.round_trip.specs.Sheets.{Within}
+use Rattle.sheet.specs.Laws.Within.{Within}
 use Rattle.registers.specs.declared.MatrixType.{MatrixType}
 use Rattle.registers.specs.Types.{theType}
 use Rattle.registers.specs.Sized.{Sized, sized-with}

@@ -8,7 +8,7 @@ use Rattle.numbers.specs.Lists.{length-line}
 use Rattle.kinds.specs.Widths.{bytesOf}
 use Rattle.sheet.specs.Steps.{theStep}
 use Rattle.sheet.specs.declared.Sheet.{Sheet}
-use Rattle.round_trip.specs.Sheets.{Within}
+use Rattle.sheet.specs.Laws.Within.{Within}
 use Rattle.memory.specs.Laws.{length-with}
 use Rattle.registers.specs.Types.{theType}
 use Rattle.registers.specs.Registers.{placeOf, elementOf, room}

@@ -8,7 +8,7 @@ use lib.ListN.{length, replicate}
 use Rattle.numbers.specs.Choice.{pick, pick-case}
 use Rattle.sheet.specs.declared.Sheet.{Sheet}
 use Rattle.refusals.specs.declared.Refusal.{Refusal}
-use Rattle.round_trip.specs.Sheets.{Within}
+use Rattle.sheet.specs.Laws.Within.{Within}
 use Rattle.registers.specs.Types.{noType}
 use Rattle.registers.specs.Registers.{emptyRegisters}
 use Rattle.registers.specs.declared.MatrixType.{MatrixType}
