@@ -9,7 +9,8 @@ use Rattle.numbers.specs.Choice.{pick}
 use Rattle.sheet_reader.specs.Reading.{readSheet}
 use Rattle.registers.specs.Registers.{emptyRegisters}
 use Rattle.registers.specs.declared.Registers.{Registers}
-use Rattle.checking.specs.Checking.{refusalAt, checkedSheet}
+use Rattle.refusals.specs.Refusals.{notRefused}
+use Rattle.checking.specs.Checking.{checkedSheet}
 use Rattle.checking.specs.declared.CheckAnswer.{CheckAnswer}
 use Rattle.carrying.specs.Steps.{machine}
 use Rattle.carrying.specs.Carrying.{started, performed, carryAnswer, carried, carriedMemory}
@@ -25,7 +26,7 @@ module _ (s memory : List ℕ) where
   memory-refused {c} e n = rw (e, ne-eqb (c .refusal .number) 0 (λ q. omega arith))
 
   -- accepted: what the steps leave
-  pub carried-accepted : {registers : Registers} {after : List ℕ} {count : ℕ} → checkedSheet s (length memory) .refusal .number ≡ 0 → machine registers after count ≡ performed (readSheet s .sheet) (started memory) → carryAnswer (refusalAt 0 0 0) registers count ≡ carried s memory
+  pub carried-accepted : {registers : Registers} {after : List ℕ} {count : ℕ} → checkedSheet s (length memory) .refusal .number ≡ 0 → machine registers after count ≡ performed (readSheet s .sheet) (started memory) → carryAnswer notRefused registers count ≡ carried s memory
   unfolding carried pick
   carried-accepted n e = rw (eq-eqb (checkedSheet s (length memory) .refusal .number) 0 n, ← e)
 

@@ -1,14 +1,14 @@
 // Carrying out a sheet: the check, then a performance that cannot fail.
-pub mod memory_steps;
+pub mod moving;
 pub mod performing;
 
 ghost use mathlib.Core.Path.{_≡_};
 ghost use Rattle.registers.specs.Registers.{emptyRegisters};
 ghost use Rattle.carrying.specs.Carrying.{carryAnswer, carried, carriedMemory};
-use checking::checks;
 use refusals::Refusal;
 use registers::MatrixType;
 use registers::Registers;
+use sheet::sizes::REGISTERS;
 
 // The answer of carrying out: a refusal with empty registers and a count of 0, or the registers and how many elements of loads and
 // stores had a byte.
@@ -26,7 +26,7 @@ pub struct Performed {
 
 // The same after a step: the registers' elements are lent too, so that they are not copied for each step.
 pub struct Stepped {
-    pub types: [MatrixType; 4],
+    pub types: [MatrixType; REGISTERS],
     pub count: usize,
 }
 
@@ -56,7 +56,7 @@ pub fn carry_out(sheet: &[u8], memory: &mut [u8]) -> CarryAnswer
     let done = performing::perform(model, memory);
     let registers = done.registers;
     CarryAnswer {
-        refusal: checks::refusal_at(0, 0, 0),
+        refusal: refusals::not_refused(),
         count: done.count,
         registers,
     }

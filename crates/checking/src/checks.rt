@@ -6,7 +6,7 @@ ghost use Rattle.sheet.specs.Steps.{windowOk, stepOk};
 ghost use Rattle.sheet.specs.Laws.Within.{TensorsWithin, Within};
 ghost use Rattle.registers.specs.Sized.{Sized, SizedType};
 ghost use Rattle.whole_steps.specs.Within.{WholeOk};
-ghost use Rattle.accesses.specs.Clashes.{noMarks};
+ghost use Rattle.accesses.specs.Marks.{noMarks};
 ghost use Rattle.checking.specs.Steps.{accessOf, objectRegister, stepCheck, accessCheck, wholeCheck, stepTypes, checkedStep};
 ghost use Rattle.checking.specs.Checking.{checkRefused, checked, memoryLimit};
 use super::CheckAnswer;
@@ -124,11 +124,31 @@ pub fn check_step(
         } => {
             let t = registers::the_type(types, object_register(register, object));
             let after = registers::with_type(types, register, t);
-            check_window(entries, marks, tensors, true, window, types, after, t, memory)
+            check_window(
+                entries,
+                marks,
+                tensors,
+                true,
+                window,
+                types,
+                after,
+                t,
+                memory,
+            )
         }
         Step::Store { register, window } => {
             let t = registers::the_type(types, register);
-            check_window(entries, marks, tensors, false, window, types, types, t, memory)
+            check_window(
+                entries,
+                marks,
+                tensors,
+                false,
+                window,
+                types,
+                types,
+                t,
+                memory,
+            )
         }
         Step::Whole(whole) => check_whole(edition, types, memory, whole),
     }

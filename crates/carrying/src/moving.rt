@@ -1,0 +1,63 @@
+// Loads and stores of a sheet: their performance.
+ghost use mathlib.Core.Path.{_≡_};
+ghost use mathlib.Core.Bool.{true, false};
+ghost use Prim.Native.Nat.{_≤_, _<_, _^_};
+ghost use lib.ListN.{length};
+ghost use Rattle.sheet.specs.Sizes.{registerCount};
+ghost use Rattle.sheet.specs.Steps.{windowOk};
+ghost use Rattle.sheet.specs.Laws.Within.{TensorsWithin};
+ghost use Rattle.registers.specs.Sized.{Sized};
+ghost use Rattle.registers.specs.Types.{theType};
+ghost use Rattle.transfers.specs.Acts.{state};
+ghost use Rattle.checking.specs.Steps.{accessOf};
+ghost use Rattle.checking.specs.Checking.{memoryLimit};
+ghost use Rattle.checking.specs.Clear.{Clear};
+ghost use Rattle.carrying.specs.Steps.{machineOf, loadDone, storeDone};
+use accesses::ELEMENTS;
+use checking::windows;
+use registers::MatrixType;
+use sheet::Tensors;
+use sheet::Window;
+use sheet::sizes::REGISTERS;
+
+// The elements of a load into a register that its object was copied to. The answer is the count with each element that had a byte.
+pub fn perform_load(
+    entries: &mut [u32; ELEMENTS],
+    tensors: Tensors,
+    types: [MatrixType; REGISTERS],
+    elements: &mut [u32; 1024],
+    memory: &[u8],
+    register: u8,
+    window: Window,
+    count: usize,
+) -> usize
+    requires { ⌜ TensorsWithin tensors × Sized types × (register < registerCount) × (length (now memory) ≤ memoryLimit) × (count < 2 ^ 31) ⌝ }
+    requires { ⌜ Clear (theType types register) (accessOf tensors true window (theType types register) (length (now memory))) ⌝ }
+    requires { ⌜ windowOk (tensors .layouts) (tensors .views) window ≡ true ⌝ }
+    ensures { λ r. ⌜ machineOf types (state (now (elements .exit)) (now (memory .entry)) r) ≡ loadDone tensors register window (machineOf types (state (now (elements .entry)) (now (memory .entry)) count)) ⌝ }
+{
+    let t = registers::the_type(types, register);
+    let p = windows::plan_window(tensors, true, window, t, memory.len());
+    transfers::load_elements(elements, memory, entries, p, register, count)
+}
+
+// The elements of a store. The answer is the count with each element that had a byte.
+pub fn perform_store(
+    entries: &mut [u32; ELEMENTS],
+    tensors: Tensors,
+    types: [MatrixType; REGISTERS],
+    elements: &[u32; 1024],
+    memory: &mut [u8],
+    register: u8,
+    window: Window,
+    count: usize,
+) -> usize
+    requires { ⌜ TensorsWithin tensors × Sized types × (register < registerCount) × (length (now memory) ≤ memoryLimit) × (count < 2 ^ 31) ⌝ }
+    requires { ⌜ Clear (theType types register) (accessOf tensors false window (theType types register) (length (now memory))) ⌝ }
+    requires { ⌜ windowOk (tensors .layouts) (tensors .views) window ≡ true ⌝ }
+    ensures { λ r. ⌜ machineOf types (state (now (elements .entry)) (now (memory .exit)) r) ≡ storeDone tensors register window (machineOf types (state (now (elements .entry)) (now (memory .entry)) count)) ⌝ }
+{
+    let t = registers::the_type(types, register);
+    let p = windows::plan_window(tensors, false, window, t, memory.len());
+    transfers::store_elements(elements, memory, entries, p, register, count)
+}
