@@ -17,6 +17,18 @@ viewPlaces = 4
 abbrev pub registerCount : ℕ
 registerCount = 4
 
+-- the most rows and columns of a matrix, whatever its edition
+abbrev pub sidePlaces : ℕ
+sidePlaces = 16
+
+-- the places of a register's matrix: side by side
+abbrev pub matrixPlaces : ℕ
+matrixPlaces = 256
+
+-- the places of all registers' matrices
+abbrev pub elementPlaces : ℕ
+elementPlaces = 1024
+
 -- a sheet has places for so many steps, whatever its edition
 abbrev pub stepPlaces : ℕ
 stepPlaces = 32

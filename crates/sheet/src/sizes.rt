@@ -12,6 +12,15 @@ pub const VIEWS: usize = 4;
 
 pub const REGISTERS: usize = 4;
 
+// The most rows and columns of a matrix, whatever its edition.
+pub const SIDE: usize = 16;
+
+// The places of a register's matrix: side by side.
+pub const PLACES: usize = SIDE * SIDE;
+
+// The places of all registers' matrices.
+pub const ELEMENTS: usize = REGISTERS * PLACES;
+
 // The places that a sheet has for steps, whatever its edition.
 pub const STEPS: usize = 32;
 

@@ -6,6 +6,7 @@ use Prim.Native.Nat.{ℕ, _<_}
 use native.Mathlib.Omega.{arith}
 use borrow.Author.Tests.{eqb-false}
 use Rattle.numbers.specs.Choice.{pick, pick-inv}
+use Rattle.refusals.specs.Refusals.{emptyRegister, shapesDisagree}
 use Rattle.registers.specs.Types.{isEmpty}
 use Rattle.registers.specs.declared.MatrixType.{MatrixType}
 use Rattle.sheet.specs.declared.ReduceMode.{ReduceMode}
@@ -17,12 +18,12 @@ past t n x h e = ⊎-elim (λ w. absurd (omega (arith, w .1))) (λ w. w) (pick-i
 
 pub some-rows : (t : MatrixType) (rows columns : ℕ) (mode : ReduceMode) → reduceRefusal t rows columns mode ≡ 0 → 0 < t .rows
 unfolding reduceRefusal
-some-rows t rows columns mode e = let d : t .rows ≡ 0 → ⊥ = eqb-false _ _ (past (isEmpty t) 7 _ (omega arith) e .0) in omega arith
+some-rows t rows columns mode e = let d : t .rows ≡ 0 → ⊥ = eqb-false _ _ (past (isEmpty t) emptyRegister _ (omega arith) e .0) in omega arith
 
 pub agreed : (a b c : MatrixType) → multiplyRefusal a b c ≡ 0 → multiplyAgrees a b c ≡ true
 unfolding multiplyRefusal
 agreed a b c e =
-    let f = past (isEmpty a) 7 _ (omega arith) e .1 in
-    let g = past (isEmpty b) 7 _ (omega arith) f .1 in
-    let h = past (isEmpty c) 7 _ (omega arith) g .1 in
-    ⊎-elim (λ w. w .0) (λ w. absurd (omega (arith, w .1))) (pick-inv (multiplyAgrees a b c) 0 8 h)
+    let f = past (isEmpty a) emptyRegister _ (omega arith) e .1 in
+    let g = past (isEmpty b) emptyRegister _ (omega arith) f .1 in
+    let h = past (isEmpty c) emptyRegister _ (omega arith) g .1 in
+    ⊎-elim (λ w. w .0) (λ w. absurd (omega (arith, w .1))) (pick-inv (multiplyAgrees a b c) 0 shapesDisagree h)

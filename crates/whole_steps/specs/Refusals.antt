@@ -11,7 +11,7 @@ use Rattle.sheet.specs.declared.ReduceMode.{ReduceMode}
 use Rattle.sheet.specs.declared.ReduceMode.the-variants.{Row, Column, Both, TwoByTwo}
 use Rattle.sheet.specs.declared.WholeStep.{WholeStep}
 use Rattle.sheet.specs.declared.WholeStep.the-variants.{Fill, Reduce, Transpose, MultiplyAdd}
-use Rattle.refusals.specs.Refusals.{stopAt}
+use Rattle.refusals.specs.Refusals.{emptyRegister, shapesDisagree, stopAt}
 use Rattle.refusals.specs.declared.Stop.{Stop}
 
 -- mode 1 rows, mode 2 columns are the source's; mode 4 has no odd side, and a result of half the sides
@@ -30,16 +30,19 @@ multiplyAgrees a b c =
     (between 4 5 (c .kind))))
 
 unfoldable pub reduceRefusal : MatrixType → ℕ → ℕ → ReduceMode → ℕ
-reduceRefusal t rows columns mode = pick (isEmpty t) 7 (pick (reduceAgrees t rows columns mode) 0 8)
+reduceRefusal t rows columns mode = pick (isEmpty t) emptyRegister (pick (reduceAgrees t rows columns mode) 0 shapesDisagree)
 
 unfoldable pub transposeRefusal : MatrixType → ℕ
-transposeRefusal t = pick (isEmpty t) 7 0
+transposeRefusal t = pick (isEmpty t) emptyRegister 0
 
 unfoldable pub multiplyRefusal : MatrixType → MatrixType → MatrixType → ℕ
 multiplyRefusal a b c =
-    pick (isEmpty a) 7 (pick (isEmpty b) 7 (pick (isEmpty c) 7 (pick (multiplyAgrees a b c) 0 8)))
+    pick (isEmpty a) emptyRegister
+    (pick (isEmpty b) emptyRegister
+    (pick (isEmpty c) emptyRegister
+    (pick (multiplyAgrees a b c) 0 shapesDisagree)))
 
--- 7 (a register read is empty), then 8 (shapes disagree), else 0; neither names an element
+-- a register read is empty, then shapes disagree, else 0; neither names an element
 abbrev pub wholeRefusal : ℕ → List MatrixType → ℕ → WholeStep → Stop
 wholeRefusal edition ts len (Fill register rows columns kind value) = stopAt 0 0
 wholeRefusal edition ts len (Reduce result source rows columns mode combine) = stopAt (reduceRefusal (theType ts source) rows columns mode) 0

@@ -11,7 +11,9 @@ use Rattle.numbers.specs.Choice.{both-left, both-right, between-low, between-hi
 use Rattle.registers.specs.Types.{theType}
 use Rattle.registers.specs.Sized.{SizedType, Sized, sized-with}
 use Rattle.registers.specs.declared.MatrixType.{MatrixType}
-use Rattle.sheet.specs.Sizes.{sideLimit, sideOk}
+use Rattle.sheet.specs.Sizes.{sidePlaces}
+use Rattle.sheet.specs.Editions.{limits, sideOk}
+use Rattle.sheet.specs.Laws.Editions.{limits-side}
 use Rattle.sheet.specs.Steps.{fillOk, reduceOk, transposeOk, multiplyOk, wholeOk}
 use Rattle.sheet.specs.declared.WholeStep.{WholeStep}
 use Rattle.sheet.specs.declared.WholeStep.the-variants.{Fill, Reduce, Transpose, MultiplyAdd}
@@ -20,7 +22,7 @@ use Rattle.whole_steps.specs.Whole.{matrixType, transposedType, wholeRes
 
 pub record Side (x : ℕ) : Type 0 where
   pub low : 1 ≤ x
-  pub high : x ≤ 16
+  pub high : x ≤ sidePlaces
 
 -- beside its result: the registers that it reads, its sides and its kind
 abbrev pub WholeParts : WholeStep → Type 0
@@ -34,8 +36,9 @@ pub record WholeOk (w : WholeStep) : Type 0 where
   pub parts : WholeParts w
 
 side : (edition x : ℕ) → sideOk edition x ≡ true → Side x
-unfolding sideLimit
-side edition x e = record { low = between-low 1 16 x e; high = between-high 1 16 x e }
+side edition x e =
+    let most : ℕ = limits edition .side in
+    record { low = between-low 1 most x e; high = omega (arith, between-high 1 most x e, limits-side edition) }
 
 -- a whole step that a sheet may hold
 pub whole-ok : (edition : ℕ) (w : WholeStep) → wholeOk edition w ≡ true → WholeOk w

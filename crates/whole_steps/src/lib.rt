@@ -2,7 +2,7 @@
 pub mod blocks;
 pub mod products;
 pub mod reduces;
-pub mod refusals;
+pub mod stops;
 pub mod types;
 
 ghost use mathlib.Core.Path.{_≡_};

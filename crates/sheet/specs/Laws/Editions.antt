@@ -5,11 +5,15 @@ use mathlib.Core.Bool.{true}
 use native.Mathlib.Nat.{le-refl}
 use native.Mathlib.Omega.{arith}
 use borrow.Author.Tests.{eqb-true}
-use Rattle.sheet.specs.Sizes.{stepPlaces, recordPlaces}
+use Rattle.sheet.specs.Sizes.{sidePlaces, stepPlaces, recordPlaces}
 use Rattle.sheet.specs.Editions.{editionOk, limits}
 
 pub edition-some : (edition : ℕ) → editionOk edition ≡ true → 0 < edition
 edition-some edition e = let q = eqb-true edition 1 e in omega arith
+
+pub limits-side : (edition : ℕ) → limits edition .side ≤ sidePlaces
+unfolding limits
+limits-side edition = le-refl sidePlaces
 
 pub limits-steps : (edition : ℕ) → limits edition .steps ≤ stepPlaces
 unfolding limits

@@ -1,7 +1,7 @@
 use borrow.Author.Needs.{needs}
 use Rattle.numbers.specs.Choice.{tests, stop, pass}
-use Rattle.whole_steps.proofs.refusals.halved.Statement.{statement}
-use Rattle.whole_steps.proofs.refusals.halved.Tie as tie
+use Rattle.whole_steps.proofs.stops.halved.Statement.{statement}
+use Rattle.whole_steps.proofs.stops.halved.Tie as tie
 
 twice-requires : tie.Need-twice-requires
 twice-requires c κs = search needs

@@ -1,8 +1,8 @@
 use mathlib.Core.Path.{subst}
 use Rattle.whole_steps.specs.Within.{WholeParts}
 use borrow.Author.Needs.{needs}
-use Rattle.whole_steps.proofs.refusals.whole_refusal.Statement.{statement}
-use Rattle.whole_steps.proofs.refusals.whole_refusal.Tie as tie
+use Rattle.whole_steps.proofs.stops.whole_refusal.Statement.{statement}
+use Rattle.whole_steps.proofs.stops.whole_refusal.Tie as tie
 
 enum-told : tie.Need-enum-told
 enum-told c = search needs
