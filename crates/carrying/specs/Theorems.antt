@@ -1,4 +1,3 @@
 pub mod Counts
 pub mod Untouched
 pub mod Stores
-pub mod Strips

@@ -1,0 +1,206 @@
+-- Document 01's strips 1 to 11 as one list: sheets as bytes, each with a memory, what is asked and what is wanted.
+use Prim.Native.Nat.{ℕ, zero, suc, _/_, _%_}
+use mathlib.Core.Path.{_≡_, refl}
+use mathlib.Core.List.{List, [], _∷_, _++_, map}
+use lib.Dec.{eqb}
+use lib.ListN.{length, replicate}
+use Rattle.numbers.specs.Choice.{pick, both, between}
+use Rattle.numbers.specs.All.{all}
+use Rattle.numbers.specs.Lists.{line}
+use Rattle.numbers.specs.Little
+use Rattle.kinds.specs.Widths.{width, bytesOf, fits}
+use Rattle.refusals.specs.Refusals.{indexTooLarge, outsideUndefined, byteTwice, refusalAt}
+use Rattle.refusals.specs.declared.Refusal.{Refusal}
+use Rattle.sheet.specs.Sizes
+use Rattle.sheet.specs.Editions
+use Rattle.sheet.specs.Codes
+use Rattle.sheet.specs.Layouts
+use Rattle.sheet.specs.Views
+use Rattle.sheet.specs.Steps as model
+use Rattle.sheet.specs.Sheets
+use Rattle.fields.specs.Fields
+use Rattle.contents.specs.Contents
+use Rattle.sheet_reader.specs.Reading
+use Rattle.memory.specs.Elements.{elementAt, withElement}
+use Rattle.registers.specs.Registers.{emptyRegisters, elementOf}
+use Rattle.combines.specs.Combining
+use Rattle.whole_steps.specs.Grids
+use Rattle.whole_steps.specs.Reducing
+use Rattle.whole_steps.specs.Refusals as whole
+use Rattle.addressing.specs.Rules
+use Rattle.accesses.specs.Refusals as accesses
+use Rattle.transfers.specs.Transfers.{transferred}
+use Rattle.checking.specs.Steps as checks
+use Rattle.checking.specs.Checking.{checkedFrom, checked, checkedSheet}
+use Rattle.carrying.specs.Steps as steps
+use Rattle.carrying.specs.Carrying.{performedFrom, performed, carried, carriedMemory}
+
+-- what is asked of an accepted sheet: the first n elements of a register, or the bytes of memory afterwards
+pub data Question : Type 0 where
+  elements : ℕ → ℕ → Question
+  bytes : Question
+
+-- the refusal with its place (number, step, element), or what was asked
+pub data Answer : Type 0 where
+  refused : Refusal → Answer
+  accepted : List ℕ → Answer
+
+pub record Strip : Type 0 where
+  pub sheet : List ℕ
+  pub memory : List ℕ
+  pub question : Question
+  pub wanted : Answer
+
+-- g k .. g (k + n - 1)
+abbrev pub listed : (ℕ → ℕ) → ℕ → ℕ → List ℕ
+listed g k zero = []
+listed g k (suc n) = g k ∷ listed g (suc k) n
+
+abbrev pub asked : Question → List ℕ → List ℕ → List ℕ
+asked (elements register n) es memory = listed (elementOf es register) 0 n
+asked bytes es memory = memory
+
+abbrev pub found : Strip → Answer
+found s =
+    let r = carried (s .sheet) (s .memory) in
+    pick (eqb (r .refusal .number) 0)
+    (accepted (asked (s .question) (r .registers .elements) (carriedMemory (s .sheet) (s .memory))))
+    (refused (r .refusal))
+
+-- The fields of a sheet: a tag, a length, a content; numbers of two and of four bytes. Here no length is above 255.
+word : ℕ → List ℕ
+word x = x % 256 ∷ x / 256 ∷ []
+
+long : ℕ → List ℕ
+long x = word x ++ 0 ∷ 0 ∷ []
+
+field : ℕ → List ℕ → List ℕ
+field tag content = tag ∷ length content ∷ 0 ∷ content
+
+edition : List ℕ
+edition = field 0x01 (1 ∷ [])
+
+-- a layout of a clamp mode, a clamp value and dimensions
+layout : ℕ → ℕ → List (List ℕ) → List ℕ
+layout mode clamp ds = field 0x10 (length ds ∷ mode ∷ long clamp ++ joined ds)
+  where
+    joined : List (List ℕ) → List ℕ
+    joined [] = []
+    joined (d ∷ ds) = d ++ joined ds
+
+-- block size, dimension, stride, offset (its 16 bits) and span
+dimension : ℕ → ℕ → ℕ → ℕ → ℕ → List ℕ
+dimension block size stride offset span = word block ++ word size ++ word stride ++ word offset ++ word span
+
+-- a view without dimensions, rows unclipped, by its permutation and clip column offset
+view : List ℕ → ℕ → List ℕ
+view permutation offset = field 0x11 (length permutation ∷ 0 ∷ permutation ++ word 0 ++ word 65535 ++ word offset ++ word 65535)
+
+-- register 0 filled with a value, rows by columns, u8
+fill : ℕ → ℕ → ℕ → List ℕ
+fill rows columns value = field 0x20 (0 ∷ rows ∷ columns ∷ 0 ∷ long value)
+
+-- register 1 loaded with object 0 by a layout and a view, or 255 for none, from a base
+load : ℕ → ℕ → ℕ → List ℕ
+load layout view base = field 0x21 (1 ∷ 0 ∷ layout ∷ view ∷ long base)
+
+-- a register stored by layout 0, no view, base 0
+store : ℕ → List ℕ
+store register = field 0x22 (register ∷ 0 ∷ 255 ∷ long 0)
+
+-- the modes
+Undefined : ℕ
+Undefined = 0
+
+Constant : ℕ
+Constant = 1
+
+ClampToEdge : ℕ
+ClampToEdge = 2
+
+Repeat : ℕ
+Repeat = 3
+
+MirrorRepeat : ℕ
+MirrorRepeat = 4
+
+-- 64 bytes of which byte i holds i, as those from k on are
+countingFrom : ℕ → ℕ → List ℕ
+countingFrom k n = listed (λ (i : ℕ). i) k n
+
+counting : List ℕ
+counting = countingFrom 0 64
+
+-- register 0 is filled, register 1 is loaded with object 0 from byte 0, and n of its elements are asked
+loadStrip : List ℕ → List ℕ → ℕ → ℕ → ℕ → ℕ → Answer → Strip
+loadStrip layouts views through rows columns n wanted =
+    record {
+      sheet = edition ++ layouts ++ views ++ fill rows columns 100 ++ load 0 through 0;
+      memory = counting;
+      question = elements 1 n;
+      wanted = wanted;
+    }
+
+-- register 0 is filled and stored at byte 0
+storeStrip : List ℕ → ℕ → ℕ → Answer → Strip
+storeStrip layouts rows columns wanted =
+    record { sheet = edition ++ layouts ++ fill rows columns 100 ++ store 0; memory = counting; question = bytes; wanted = wanted }
+
+-- strips 1 to 6: one layout of n, stride 1, block 1, offset -2, span 8
+edged : ℕ → ℕ → ℕ → List ℕ
+edged mode clamp n = layout mode clamp (dimension 1 n 1 65534 8 ∷ [])
+
+-- a 1 by 8 load
+edgeStrip : List ℕ → Answer → Strip
+edgeStrip layouts wanted = loadStrip layouts [] 255 1 8 8 wanted
+
+-- one dimension of n, offset 0
+plain : ℕ → ℕ → List ℕ
+plain n stride = layout Undefined 0 (dimension 1 n stride 0 n ∷ [])
+
+pub strips : List Strip
+strips =
+    -- 1: Constant 9
+    edgeStrip (edged Constant 9 4) (accepted (9 ∷ 9 ∷ 0 ∷ 1 ∷ 2 ∷ 3 ∷ 9 ∷ 9 ∷ []))
+    -- 2: ClampToEdge
+    ∷ edgeStrip (edged ClampToEdge 0 4) (accepted (0 ∷ 0 ∷ 0 ∷ 1 ∷ 2 ∷ 3 ∷ 3 ∷ 3 ∷ []))
+    -- 3: Repeat
+    ∷ edgeStrip (edged Repeat 0 4) (accepted (2 ∷ 3 ∷ 0 ∷ 1 ∷ 2 ∷ 3 ∷ 0 ∷ 1 ∷ []))
+    -- 4: MirrorRepeat, and with n 1
+    ∷ edgeStrip (edged MirrorRepeat 0 4) (accepted (2 ∷ 1 ∷ 0 ∷ 1 ∷ 2 ∷ 3 ∷ 2 ∷ 1 ∷ []))
+    ∷ edgeStrip (edged MirrorRepeat 0 1) (accepted (0 ∷ 0 ∷ 0 ∷ 0 ∷ 0 ∷ 0 ∷ 0 ∷ 0 ∷ []))
+    -- 5: Undefined, step 1 at element 0
+    ∷ edgeStrip (edged Undefined 0 4) (refused (refusalAt outsideUndefined 1 0))
+    -- 6: ClampToEdge store of a register that was loaded with 16 to 23: its elements 2 to 5 go to bytes 0 to 3, no other byte changes
+    ∷ record {
+      sheet = edition ++ edged ClampToEdge 0 4 ++ plain 8 1 ++ fill 1 8 100 ++ load 1 255 16 ++ store 1;
+      memory = counting;
+      question = bytes;
+      wanted = accepted (18 ∷ 19 ∷ 20 ∷ 21 ∷ countingFrom 4 60);
+    }
+    -- 7: a layout of 2 by 3 through a permutation, as 3 by 2
+    ∷ loadStrip (layout Undefined 0 (dimension 1 2 3 0 2 ∷ dimension 1 3 1 0 3 ∷ [])) (view (1 ∷ 0 ∷ []) 0) 0 3 2 6
+    (accepted (0 ∷ 3 ∷ 1 ∷ 4 ∷ 2 ∷ 5 ∷ []))
+    -- 8: clip column offset 2: elements (0,2) (0,3) (1,2) (1,3) of 2 by 4 get bytes 0 1 4 5, the rest is kept
+    ∷ loadStrip (plain 8 1) (view (0 ∷ []) 2) 0 2 4 8 (accepted (100 ∷ 100 ∷ 0 ∷ 1 ∷ 100 ∷ 100 ∷ 4 ∷ 5 ∷ []))
+    -- 9: five spans of 4,096 and a permutation: step 1 gets 12 at element 1
+    ∷ loadStrip (layout Undefined 0 (replicate 5 (dimension 1 4096 0 0 4096))) (view (1 ∷ 2 ∷ 3 ∷ 4 ∷ 0 ∷ []) 0) 0 1 2 2
+    (refused (refusalAt indexTooLarge 1 1))
+    -- 10: stride 0 store: 1 by 1 is accepted, 1 by 2 gets 15 in step 1 at element 1
+    ∷ storeStrip (plain 8 0) 1 1 (accepted (100 ∷ countingFrom 1 63))
+    ∷ storeStrip (plain 8 0) 1 2 (refused (refusalAt byteTwice 1 1))
+    -- 11: 2x2 add of a loaded u8 matrix
+    ∷ record {
+      sheet = edition ++ plain 4 1 ++ fill 2 2 0 ++ load 0 255 0 ++ field 0x23 (2 ∷ 1 ∷ 1 ∷ 1 ∷ 4 ∷ 0 ∷ []);
+      memory = 200 ∷ 100 ∷ 1 ∷ 2 ∷ [];
+      question = elements 2 1;
+      wanted = accepted (47 ∷ []);
+    }
+    -- beside document 01's: blocks of 2, each coordinate divided and rounded down
+    ∷ loadStrip (layout Undefined 0 (dimension 2 8 1 0 8 ∷ [])) [] 255 1 8 8 (accepted (0 ∷ 0 ∷ 1 ∷ 1 ∷ 2 ∷ 2 ∷ 3 ∷ 3 ∷ []))
+    ∷ []
+
+-- each strip gives what is wanted
+pub strips-right : map found strips ≡ map (λ (s : Strip). s .wanted) strips
+unfolding strips word long field edition layout dimension view fill load store Undefined Constant ClampToEdge Repeat MirrorRepeat countingFrom counting loadStrip storeStrip edged edgeStrip plain pick both between all line Little.u16At Little.u32At width bytesOf fits elementAt withElement Editions.limits Editions.fillLength Sizes.offsetOk Codes.clampMode Codes.reduceMode Codes.combineOf Codes.objectOf Codes.viewingOf Layouts.noLayout Layouts.dimensionOk Layouts.dimensionUnused Layouts.dimensionAtOk Layouts.layoutOk Layouts.layoutUnused Views.noView Views.fresh Views.entryOk Views.viewDimensionUnused Views.viewDimensionAtOk Views.sizedRank Views.viewOk Views.clipUnused Views.viewUnused model.fillOk model.windowOk model.loadOk model.storeOk model.reduceOk model.transposeOk model.multiplyOk Sheets.noTensors Sheets.emptySheet Fields.fieldAt Contents.dimensionAt Contents.dimensionsAt Contents.layoutAt Contents.layoutLengthOk Contents.layoutHeadOk Contents.permutationAt Contents.viewDimensionAt Contents.viewDimensionsAt Contents.clipAt Contents.viewOf Contents.viewAt Contents.viewLengthOk Contents.viewHeadOk Contents.fillAt Contents.windowAt Contents.loadAt Contents.storeAt Contents.reduceAt Contents.transposeAt Contents.multiplyAt Contents.stepAt Contents.stepLength Reading.layoutMayCome Reading.viewMayCome Reading.stepMayCome Reading.editionRefusal Reading.layoutRefusal Reading.viewRefusal Reading.stepRefusal Reading.fieldRefusal Reading.withField Reading.refusedRead Reading.acceptedRead Reading.endRead Reading.turnField Reading.turn Reading.afterTurn Reading.readFrom Reading.readSheet emptyRegisters Combining.folded Rules.outsideClip Rules.outsideView Rules.indexed Rules.rowMajor Rules.viewSizes Rules.viewStrides Rules.coordinates Rules.viewCoordinates Rules.weighted Rules.viewIndex Rules.spanCoordinates Rules.twos Rules.folded Rules.mirrored Rules.outside Rules.clamped Rules.part Rules.tensorIndex Rules.addressed Rules.reached Rules.located accesses.elementOutcome accesses.ranksDiffer accesses.blocksOne accesses.storeBlocked accesses.firstRefused accesses.meets accesses.clashFrom accesses.clashRefusal accesses.elementsRefusal accesses.accessRefusal accesses.placedCount accesses.checked Grids.blank Grids.block Reducing.reduced whole.reduceRefusal transferred checks.accessCheck checks.checkedStep steps.withObject steps.loadDone steps.storeDone steps.performedStep checkedFrom checked checkedSheet performedFrom performed carried carriedMemory
+strips-right = refl
