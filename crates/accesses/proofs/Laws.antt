@@ -1,27 +1,29 @@
 -- Laws of an access's elements, as the loops go over them.
 use Prim.Native.Nat.{ℕ, zero, suc, _+_, _-_, _<_, _≤_, zero-le}
 use mathlib.Core.Path.{_≡_, refl, sym, ap, _∙_}
-use mathlib.Core.Bool.{Bool, true, false}
+use mathlib.Core.Bool.{Bool, true, false, true≢false, not}
 use mathlib.Core.List.{List}
-use native.Mathlib.Nat.{not-suc-le-zero, sub-zero}
+use native.Mathlib.Nat.{not-suc-le-zero, sub-zero, add-zero}
 use native.Mathlib.Numerals.{add-one}
 use native.Mathlib.Omega.{arith}
 use lib.Dec.{eqb}
 use lib.ListN.{length, getD, set, length-set}
 use lib.Seq.{getD-set-same, getD-set-other}
-use borrow.Author.Tests.{lt-ltb, le-ltb, lt-leb, eq-eqb, ne-eqb, eqb-true, eqb-false}
-use Rattle.numbers.specs.Choice.{pick}
-use Rattle.numbers.specs.Places.{by-test}
+use borrow.Author.Tests.{lt-ltb, le-ltb, eq-eqb, ne-eqb, eqb-true, eqb-false, not-true}
+use Rattle.numbers.specs.Choice.{pick, both}
+use Rattle.numbers.specs.All.{all, all-at, all-true}
+use Rattle.numbers.specs.Places.{by-test, by-order}
 use Rattle.outcomes.specs.declared.Outcome.{Outcome}
 use Rattle.outcomes.specs.declared.Outcome.the-variants.{Skipped, Filled, Discarded, Placed}
 use Rattle.addressing.specs.declared.Access.{Access}
 use Rattle.addressing.specs.declared.Located.{Located}
 use Rattle.addressing.specs.Rules.{elementsOf}
-use Rattle.refusals.specs.Refusals.{stopAt}
-use Rattle.refusals.specs.declared.Stop.{Stop}
-use Rattle.accesses.specs.declared.Survey.{Survey}
-use Rattle.accesses.specs.Refusals.{elementOutcome, firstRefused, sameByte, sameAt, meets, clashFrom, clashRefusal, elementsRefusal, placedOne, placedCount, checkedBy, checked, misplaced, ranksDiffer, storeBlocked, accessRefusal, checkedAccess}
-use Rattle.accesses.specs.Entries.{Near, entryOf, hits, sameEntry, Surveyed}
+use Rattle.stops.specs.Stops.{stopAt}
+use Rattle.stops.specs.declared.Stop.{Stop}
+use Rattle.accesses.specs.declared.Tally.{Tally}
+use Rattle.accesses.specs.Refusals.{elementOutcome, firstRefused, sameByte, sameAt, meets, clashFrom, apart, clashRefusal, elementsRefusal, placedOne, placedCount, checkedBy, checked, misplaced, ranksDiffer, storeBlocked, accessRefusal, checkedAccess}
+use Rattle.accesses.specs.Entries.{Near, entryOf, hasByte, hits, sameEntry, Surveyed}
+use Rattle.addressing.specs.Capacities.{matrixPlaces}
 
 -- The search of refusal 15
 module _ (same : ℕ → ℕ → Bool) where
@@ -81,13 +83,42 @@ module _ (same other : ℕ → ℕ → Bool) (m : ℕ) (agree : (i j : ℕ) → 
   clash-same i zero h = refl
   clash-same i (suc n) h = rw (meets-same i i (omega arith) (omega arith), clash-same (suc i) n (omega arith))
 
+-- the search finds an element where not all are apart, and none where they are
+module _ (same : ℕ → ℕ → Bool) where
+  none-found : (i m : ℕ) → ((k : ℕ) → i ≤ k → k < i + m → meets same k k ≡ false) → clashFrom same i m ≡ i + m
+  unfolding clashFrom pick
+  none-found i zero h = sym (add-zero i)
+  none-found i (suc m) h =
+      rw (h i (omega arith) (omega arith))
+      (none-found (suc i) m (λ k l g. h k (omega arith) (omega arith)) ∙ omega arith)
+
+  pub apart-none : (m : ℕ) → apart same m ≡ true → m ≤ clashFrom same 0 m
+  unfolding apart
+  apart-none m e =
+      omega (arith, none-found 0 m (λ k l g. not-true _ (all-at m (λ (i : ℕ). not (meets same i i)) e k (omega arith))))
+
+  found-before : (i m k : ℕ) → i ≤ k → k < i + m → meets same k k ≡ true → clashFrom same i m ≤ k
+  unfolding clashFrom pick
+  found-before i zero k l g e = absurd (omega arith)
+  found-before i (suc m) k l g e =
+      by-test (meets same i i) (λ t. rw t l)
+      (λ t. let d : k ≡ i → ⊥ = λ q. true≢false (sym e ∙ ap (λ (j : ℕ). meets same j j) q ∙ t) in rw t (found-before (suc i) m k (omega arith) (omega arith) e))
+
+  -- where the search finds none, all are apart
+  pub apart-found : (m : ℕ) → apart same m ≡ false → clashFrom same 0 m < m
+  unfolding apart
+  apart-found m e =
+      by-order (clashFrom same 0 m) m (λ l. l)
+      (λ l. absurd (true≢false (sym (all-true m (λ (i : ℕ). not (meets same i i))
+      (λ k h. by-test (meets same k k) (λ t. let b : clashFrom same 0 m ≤ k = found-before 0 m k (omega arith) (omega arith) t in absurd (omega arith)) (λ t. rw t))) ∙ e)))
+
 -- two entries tell whether their elements have the same byte
 entries-miss : (y b : ℕ) → b < 65536 → (y ≡ b + 1 → ⊥) → hits y (b + 1) ≡ false
-unfolding hits pick
-entries-miss y b h d = rw (ne-eqb (b + 1) 0 (omega arith), lt-leb 65537 (b + 1) (omega arith), ne-eqb y (b + 1) d)
+unfolding hits hasByte both pick
+entries-miss y b h d = rw (ne-eqb (b + 1) 0 (omega arith), lt-ltb (b + 1) 65537 (omega arith), ne-eqb y (b + 1) d)
 
 pub entries-same : (o p : Outcome) → Near o → Near p → hits (entryOf o) (entryOf p) ≡ sameByte o p
-unfolding hits pick
+unfolding hits hasByte both pick
 entries-same Skipped Skipped n m = refl
 entries-same Skipped (Filled b) n m = refl
 entries-same Skipped Discarded n m = refl
@@ -104,15 +135,15 @@ entries-same (Placed x) Skipped n m = refl
 entries-same (Placed x) (Filled b) n m = refl
 entries-same (Placed x) Discarded n m = refl
 entries-same (Placed x) (Placed y) n m =
-    rw (ne-eqb (y + 1) 0 (omega arith), lt-leb 65537 (y + 1) (omega arith))
+    rw (ne-eqb (y + 1) 0 (omega arith), lt-ltb (y + 1) 65537 (omega arith))
     (by-test (eqb x y) (λ t. let e : x ≡ y = eqb-true x y t in rw (t, eq-eqb (x + 1) (y + 1) (omega arith)))
     (λ t. let d : x ≡ y → ⊥ = eqb-false x y t in rw (t, ne-eqb (x + 1) (y + 1) (omega arith))))
 
 -- The first m elements of an access, passed up to k without a refusal
 pub record Passed (f : ℕ → Located) (m k placed : ℕ) (entries : List ℕ) : Type 0 where
   pub inside : k ≤ m
-  pub most : m ≤ 256
-  pub room : length entries ≡ 256
+  pub most : m ≤ matrixPlaces
+  pub room : length entries ≡ matrixPlaces
   pub few : placed ≤ k
   pub stop : firstRefused f k (m - k) ≡ firstRefused f 0 m
   pub count : placed ≡ placedCount f k
@@ -138,7 +169,7 @@ module _ (f : ℕ → Located) where
   unfolding placedCount
   count-more k = rw add-one
 
-  pub passed-none : (m : ℕ) (entries : List ℕ) → m ≤ 256 → length entries ≡ 256 → Passed f m 0 0 entries
+  pub passed-none : (m : ℕ) (entries : List ℕ) → m ≤ matrixPlaces → length entries ≡ matrixPlaces → Passed f m 0 0 entries
   unfolding placedCount
   passed-none m entries most e =
       record { inside = zero-le; most = most; room = e; few = zero-le; stop = rw sub-zero; count = refl; each = λ i h. absurd (not-suc-le-zero h) }
@@ -170,11 +201,11 @@ module _ (f : ℕ → Located) where
   passed-end {m} {k} inv h = sym (stop-end k (m - k) (omega arith)) ∙ inv .stop
 
 -- the search over the entries is the search over the elements
-pub clash-surveyed : {f : ℕ → Located} {m : ℕ} {r : Survey} → ((i : ℕ) → Near (f i .outcome)) → Surveyed f m r → r .stop .number ≡ 0
-    → clashFrom (sameEntry (r .entries)) 0 m ≡ clashFrom (sameAt f) 0 m
-clash-surveyed {f} {m} {r} near s z =
-    clash-same (sameEntry (r .entries)) (sameAt f) m
-    (λ i j h l. rw (s .entries z i h, s .entries z j l) (entries-same (f i .outcome) (f j .outcome) (near i) (near j))) 0 m (omega arith)
+pub clash-surveyed : {f : ℕ → Located} {m : ℕ} {r : Tally} {entries : List ℕ} → ((i : ℕ) → Near (f i .outcome)) → Surveyed f m r entries
+    → r .stop .number ≡ 0 → clashFrom (sameEntry entries) 0 m ≡ clashFrom (sameAt f) 0 m
+clash-surveyed {f} {m} {r} {entries} near s z =
+    clash-same (sameEntry entries) (sameAt f) m
+    (λ i j h l. rw (s .each z i h, s .each z j l) (entries-same (f i .outcome) (f j .outcome) (near i) (near j))) 0 m (omega arith)
 
 -- Refusals 12 to 15, by the way that the code took
 module _ (load : Bool) (f : ℕ → Located) (m : ℕ) {s : Stop} (e : s ≡ firstRefused f 0 m) where

@@ -1,15 +1,16 @@
 -- The table of the elements' outcomes, one number each: by it the code looks for refusal 15, and moves the elements.
 use Prim.Native.Nat.{ℕ, _+_, _-_, _<_}
 use mathlib.Core.Path.{_≡_}
-use mathlib.Core.Bool.{Bool, false}
+use mathlib.Core.Bool.{Bool, not}
 use mathlib.Core.List.{List}
-use lib.Dec.{eqb, ltb, leb}
-use lib.ListN.{getD}
-use Rattle.numbers.specs.Choice.{pick}
+use lib.Dec.{eqb, ltb}
+use lib.ListN.{length, getD}
+use Rattle.numbers.specs.Choice.{pick, both}
 use Rattle.outcomes.specs.declared.Outcome.{Outcome}
 use Rattle.outcomes.specs.declared.Outcome.the-variants.{Skipped, Filled, Discarded, Placed}
 use Rattle.addressing.specs.declared.Located.{Located}
-use Rattle.accesses.specs.declared.Survey.{Survey}
+use Rattle.addressing.specs.Capacities.{matrixPlaces}
+use Rattle.accesses.specs.declared.Tally.{Tally}
 use Rattle.accesses.specs.Refusals.{firstRefused, placedCount}
 
 -- a byte is one of the 65,536 that a memory has at most
@@ -32,16 +33,21 @@ entryOutcome fill x =
     (pick (ltb x 65537) (Placed (x - 1))
     (pick (eqb x 65537) (Filled fill) Discarded))
 
+-- an entry is that of an element with a byte
+unfoldable pub hasByte : ℕ → Bool
+hasByte x = both (not (eqb x 0)) (ltb x 65537)
+
 -- an entry y is the byte of an entry x
 unfoldable pub hits : ℕ → ℕ → Bool
-hits y x = pick (eqb x 0) false (pick (leb 65537 x) false (eqb y x))
+hits y x = both (hasByte x) (eqb y x)
 
 -- which two elements have the same byte, by their entries
 abbrev pub sameEntry : List ℕ → ℕ → ℕ → Bool
 sameEntry entries j i = hits (getD entries j 0) (getD entries i 0)
 
--- the first refusal of m elements, and where there is none, how many have a byte and each one's entry
-pub record Surveyed (f : ℕ → Located) (m : ℕ) (r : Survey) : Type 0 where
+-- the first refusal of m elements, and where there is none, how many have a byte and each one's entry; there is room for a matrix
+pub record Surveyed (f : ℕ → Located) (m : ℕ) (r : Tally) (entries : List ℕ) : Type 0 where
+  pub room : length entries ≡ matrixPlaces
   pub stop : r .stop ≡ firstRefused f 0 m
   pub placed : r .stop .number ≡ 0 → r .placed ≡ placedCount f m
-  pub entries : r .stop .number ≡ 0 → (i : ℕ) → i < m → getD (r .entries) i 0 ≡ entryOf (f i .outcome)
+  pub each : r .stop .number ≡ 0 → (i : ℕ) → i < m → getD entries i 0 ≡ entryOf (f i .outcome)

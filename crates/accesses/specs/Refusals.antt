@@ -60,6 +60,10 @@ unfoldable pub clashFrom : (ℕ → ℕ → Bool) → ℕ → ℕ → ℕ
 clashFrom same i zero = i
 clashFrom same i (suc m) = pick (meets same i i) i (clashFrom same (suc i) m)
 
+-- none of m elements has an earlier one's byte
+unfoldable pub apart : (ℕ → ℕ → Bool) → ℕ → Bool
+apart same m = all m (λ (k : ℕ). not (meets same k k))
+
 -- which two elements have the same byte
 abbrev pub sameAt : (ℕ → Located) → ℕ → ℕ → Bool
 sameAt f j i = sameByte (f j .outcome) (f i .outcome)

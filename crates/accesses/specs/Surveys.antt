@@ -1,6 +1,7 @@
 -- What a survey of an access tells to those who act on its elements.
 use Prim.Native.Nat.{ℕ, zero, suc, _+_, _-_, _<_}
 use mathlib.Core.Path.{_≡_, refl, sym, ap, _∙_}
+use mathlib.Core.List.{List}
 use native.Mathlib.Omega.{arith}
 use lib.ListN.{getD}
 use borrow.Author.Tests.{lt-ltb, ne-eqb, eq-eqb}
@@ -13,8 +14,8 @@ use Rattle.addressing.specs.declared.Plan.{Plan}
 use Rattle.addressing.specs.Rules.{elementsOf, lowBits}
 use Rattle.addressing.specs.Valid.{SizedAccess, Planned, plan-fill}
 use Rattle.addressing.specs.Sound.{Sound}
-use Rattle.refusals.specs.declared.Stop.{Stop}
-use Rattle.accesses.specs.declared.Survey.{Survey}
+use Rattle.stops.specs.declared.Stop.{Stop}
+use Rattle.accesses.specs.declared.Tally.{Tally}
 use Rattle.accesses.specs.Refusals.{elementOutcome, firstRefused, accessRefusal}
 use Rattle.accesses.specs.Entries.{Near, entryOf, entryOutcome, Surveyed}
 use Rattle.accesses.specs.Accepted.{element-sound, element-accepted}
@@ -46,10 +47,10 @@ none-first f i zero h = refl
 none-first f i (suc m) h = rw (eq-eqb (f i .refusal) 0 (h i (omega arith))) (none-first f (suc i) m (λ k l. h k (omega arith)))
 
 -- the entries of a survey of an access that is not refused stand for its elements' outcomes
-pub surveyed-outcome : (p : Plan) → Planned p → {r : Survey} → Surveyed (elementOutcome (p .access)) (elementsOf (p .access)) r
+pub surveyed-outcome : (p : Plan) → Planned p → {r : Tally} {entries : List ℕ} → Surveyed (elementOutcome (p .access)) (elementsOf (p .access)) r entries
     → accessRefusal (p .access) .number ≡ 0 → (k : ℕ) → k < elementsOf (p .access)
-    → entryOutcome (p .fill) (getD (r .entries) k 0) ≡ elementOutcome (p .access) k .outcome
+    → entryOutcome (p .fill) (getD entries k 0) ≡ elementOutcome (p .access) k .outcome
 surveyed-outcome p ok s h k l =
     let a = p .access in
     let z = ap (λ (x : Stop). x .number) (s .stop) ∙ none-first (elementOutcome a) 0 (elementsOf a) (λ i g. element-accepted a h i (omega arith)) in
-    rw (plan-fill p ok, s .entries z k l) (sound-entry a (ok .valid .sized) (elementOutcome a k .outcome) (element-sound a k))
+    rw (plan-fill p ok, s .each z k l) (sound-entry a (ok .valid .sized) (elementOutcome a k .outcome) (element-sound a k))

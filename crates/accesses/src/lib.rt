@@ -2,20 +2,27 @@
 ghost use mathlib.Core.Path.{_≡_};
 ghost use mathlib.Core.Bool.{true};
 ghost use Prim.Native.Nat.{_≤_, _<_};
-ghost use Rattle.refusals.specs.Refusals.{stopAt};
+ghost use lib.ListN.{length};
+ghost use Rattle.stops.specs.Stops.{stopAt};
 ghost use Rattle.sheet.specs.Layouts.{theDimension, layoutOk};
 ghost use Rattle.addressing.specs.Rules.{elementsOf};
 ghost use Rattle.addressing.specs.Valid.{SizedAccess, Planned};
-ghost use Rattle.accesses.specs.Refusals.{elementOutcome, ranksDiffer, blocksOne, storeBlocked, clashFrom, elementsRefusal, placedOne, checkedBy, checked, checkedAccess};
-ghost use Rattle.accesses.specs.Entries.{Near, entryOf, entryOutcome, hits, sameEntry, Surveyed};
+ghost use Rattle.addressing.specs.Capacities.{rankPlaces, matrixPlaces};
+ghost use Rattle.accesses.specs.Refusals.{elementOutcome, ranksDiffer, blocksOne, storeBlocked, elementsRefusal, placedOne, checkedBy, checked, checkedAccess};
+ghost use Rattle.accesses.specs.Entries.{Near, entryOf, entryOutcome, Surveyed};
+ghost use Rattle.accesses.specs.Marks.{Scratch};
+
+pub mod clashes;
+
 use addressing::Access;
 use addressing::Plan;
+use clashes::MARKS;
 use outcomes::Outcome;
 use refusals::Stop;
 use sheet::Layout;
 
 // The most elements of a matrix.
-const ELEMENTS: usize = 256;
+pub const ELEMENTS: usize = 256;
 
 // The entries of a filled element and of a discarded one, past those of the 65,536 bytes.
 const FILLED: u32 = 65_537;
@@ -28,11 +35,10 @@ pub struct Checked {
     pub placed: usize,
 }
 
-// The first refused element and, where there is none, the number of elements with a byte and each element's entry.
-pub struct Survey {
+// The first refused element and, where there is none, the number of elements with a byte.
+pub struct Tally {
     pub stop: Stop,
     pub placed: usize,
-    pub entries: [u32; ELEMENTS],
 }
 
 // An element's entry: 0 for a skipped one, one more than its byte for one that has a byte, and two numbers past all bytes.
@@ -76,10 +82,10 @@ fn placed_one(o: Outcome) -> usize
     }
 }
 
-// The elements in order, up to the first that is refused.
-pub fn survey_of(p: Plan) -> Survey
-    requires { ⌜ Planned p ⌝ }
-    ensures { λ r. ⌜ Surveyed (elementOutcome (p .access)) (elementsOf (p .access)) r ⌝ }
+// The elements in order, up to the first that is refused, and each one's entry.
+pub fn survey(entries: &mut [u32; ELEMENTS], p: Plan) -> Tally
+    requires { ⌜ Planned p × (length (now entries) ≡ matrixPlaces) ⌝ }
+    ensures { λ r. ⌜ Surveyed (elementOutcome (p .access)) (elementsOf (p .access)) r (now (entries .exit)) ⌝ }
 {
     let count = p.count;
     let v = p.access.view;
@@ -87,19 +93,17 @@ pub fn survey_of(p: Plan) -> Survey
     let sizes = p.sizes;
     let strides = p.strides;
     let numbers = p.numbers;
-    let mut entries = [0u32; ELEMENTS];
     let mut placed = 0;
     let mut k = 0;
     while k < count {
         let r = addressing::locate(p, &permutation, &sizes, &strides, &numbers, k as u32);
         if r.refusal != 0 {
-            return Survey {
+            return Tally {
                 stop: Stop {
                     number: r.refusal,
                     element: k,
                 },
                 placed,
-                entries,
             };
         }
         let o = r.outcome;
@@ -107,46 +111,13 @@ pub fn survey_of(p: Plan) -> Survey
         placed += placed_one(o);
         k += 1;
     }
-    Survey {
+    Tally {
         stop: Stop {
             number: 0,
             element: 0,
         },
         placed,
-        entries,
     }
-}
-
-fn same_byte(y: u32, x: u32) -> bool
-    ensures { λ r. ⌜ r ≡ hits y x ⌝ }
-{
-    if x == 0 {
-        return false;
-    }
-    if FILLED <= x {
-        return false;
-    }
-    y == x
-}
-
-// Refusal 15: the first of `count` elements that has an earlier one's byte, or the count.
-fn first_clash(entries: [u32; ELEMENTS], count: usize) -> usize
-    requires { ⌜ count ≤ 256 ⌝ }
-    ensures { λ r. ⌜ r ≡ clashFrom (sameEntry entries) 0 count ⌝ }
-{
-    let mut i = 0;
-    'search: while i < count {
-        let x = entries[i];
-        let mut j = 0;
-        while j < i {
-            if same_byte(entries[j], x) {
-                break 'search;
-            }
-            j += 1;
-        }
-        i += 1;
-    }
-    i
 }
 
 fn refuse(number: u8, element: usize) -> Checked
@@ -170,13 +141,14 @@ fn accept(placed: usize) -> Checked
     }
 }
 
-// Refusals 12 to 15.
-fn check_elements(p: Plan) -> Checked
-    requires { ⌜ Planned p ⌝ }
+// Refusals 12 to 15. The search of 15 is entered where a test that goes once over the elements found a byte twice.
+fn check_elements(entries: &mut [u32; ELEMENTS], marks: &mut [u32; MARKS], p: Plan) -> Checked
+    requires { ⌜ Planned p × Scratch (now entries) (now marks) ⌝ }
+    ensures { λ _. ⌜ Scratch (now (entries .exit)) (now (marks .exit)) ⌝ }
     ensures { λ r. ⌜ r ≡ checked (elementOutcome (p .access)) (elementsOf (p .access)) (elementsRefusal (p .access .load) (elementOutcome (p .access)) (elementsOf (p .access))) ⌝ }
 {
     let count = p.count;
-    let s = survey_of(p);
+    let s = survey(entries, p);
     let stop = s.stop;
     if stop.number != 0 {
         return refuse(stop.number, stop.element);
@@ -185,12 +157,11 @@ fn check_elements(p: Plan) -> Checked
     if a.load {
         return accept(s.placed);
     }
-    let entries = s.entries;
-    let clash = first_clash(entries, count);
-    if clash < count {
-        return refuse(15, clash);
+    if clashes::bytes_apart(marks, entries, count) {
+        return accept(s.placed);
     }
-    accept(s.placed)
+    let clash = clashes::first_clash(entries, count);
+    refuse(15, clash)
 }
 
 // Refusal 10.
@@ -209,7 +180,7 @@ fn ranks_differ(a: Access) -> bool
 }
 
 fn block_at(l: Layout, d: usize) -> u16
-    requires { ⌜ d < 5 ⌝ }
+    requires { ⌜ d < rankPlaces ⌝ }
     ensures { λ r. ⌜ r ≡ theDimension (l .dimensions) d .block ⌝ }
 {
     let x = l.dimensions[d];
@@ -243,9 +214,10 @@ fn store_blocked(a: Access) -> bool
     !blocks_one(l)
 }
 
-// Refusals 9 to 15 of a load or a store, in order, and how many of its elements have a byte.
-pub fn check_access(a: Access) -> Checked
-    requires { ⌜ SizedAccess a ⌝ }
+// Refusals 9 to 15 of a load or a store, in order, and how many of its elements have a byte. The entries and the marks are lent room.
+pub fn check_access(entries: &mut [u32; ELEMENTS], marks: &mut [u32; MARKS], a: Access) -> Checked
+    requires { ⌜ SizedAccess a × Scratch (now entries) (now marks) ⌝ }
+    ensures { λ _. ⌜ Scratch (now (entries .exit)) (now (marks .exit)) ⌝ }
     ensures { λ r. ⌜ r ≡ checkedAccess a ⌝ }
 {
     if a.base % 16 != 0 {
@@ -258,5 +230,5 @@ pub fn check_access(a: Access) -> Checked
         return refuse(11, 0);
     }
     let p = addressing::plan_of(a);
-    check_elements(p)
+    check_elements(entries, marks, p)
 }

@@ -27,7 +27,9 @@ use Rattle.sheet.specs.Layouts.{theDimension}
 use Rattle.addressing.specs.declared.Access.{Access}
 use Rattle.addressing.specs.declared.Clamped.{Clamped}
 use Rattle.addressing.specs.declared.Clamped.the-variants.{Refused, Discarded, Filled, At}
-use Rattle.addressing.specs.Rules.{outsideClip, outsideView, clipWidth, five, rowMajor, viewSizes, viewStrides, layoutNumbers, dimensionAt, planned, coordinates, twos, remainder, folded, mirrored, onLoad, onStore, outside, clamped, scaled, part, tensorIndex, spanOf, spanCoordinates, refused, settled, reached}
+use Rattle.addressing.specs.Capacities.{rankPlaces, matrixPlaces}
+use Rattle.addressing.specs.Plans.{dimensionNumbers, layoutNumbers, dimensionAt, sizesOf, stridesOf, planned}
+use Rattle.addressing.specs.Rules.{outsideClip, outsideView, clipWidth, five, rowMajor, viewSizes, viewStrides, coordinates, twos, remainder, folded, mirrored, onLoad, onStore, outside, clamped, scaled, part, tensorIndex, spanOf, spanCoordinates, refused, settled, reached}
 
 -- Rule 1: inside the clip the offset can be subtracted
 pub clip-low : (c : Clip) (x : ℕ) → outsideClip c x ≡ false → c .offset ≤ x
@@ -51,7 +53,7 @@ module _ (v : View) (row col : ℕ) (e : outsideView v row col ≡ false) where
       (λ t q. absurd (true≢false q)) (λ t q. q) e
 
 -- the product of a row and a width
-pub sides : (a b : ℕ) → a < 256 → b ≤ 256 → a * b ≤ 65280
+pub sides : (a b : ℕ) → a < matrixPlaces → b ≤ matrixPlaces → a * b ≤ 65280
 sides a b g h = mul-le-mul {n₁ = a} {m₁ = b} {n₂ = 255} {m₂ = 256} (omega arith) (omega arith)
 
 -- an element's row, its column and the columns are no more than the elements
@@ -88,7 +90,7 @@ module _ (span : ℕ → ℕ) (i : ℕ) where
       (λ t. pow-le-pow-right {n = 4096} (lit< tt) {i = 0} {j = suc n} zero-le)
 
   -- of at most five dimensions
-  pub row-major-most : (n : ℕ) → 0 < n → n ≤ 5 → ((k : ℕ) → k < n → span k ≤ 4096) → rowMajor span n i ≤ 4096 ^ 4
+  pub row-major-most : (n : ℕ) → 0 < n → n ≤ rankPlaces → ((k : ℕ) → k < n → span k ≤ 4096) → rowMajor span n i ≤ 4096 ^ 4
   row-major-most zero p m h = absurd (not-suc-le-zero p)
   row-major-most (suc n) p m h = le-trans (row-major-le n h) (pow-le-pow-right {n = 4096} (lit< tt) {i = n} {j = 4} (omega arith))
 
@@ -101,7 +103,7 @@ five-most m p q r s t (suc (suc (suc zero))) = s
 five-most m p q r s t (suc (suc (suc (suc zero)))) = t
 five-most m p q r s t (suc (suc (suc (suc (suc i))))) = zero-le
 
-pub five-at : (g : ℕ → ℕ) (i : ℕ) → i < 5 → getD (five g) i 0 ≡ g i
+pub five-at : (g : ℕ → ℕ) (i : ℕ) → i < rankPlaces → getD (five g) i 0 ≡ g i
 five-at g zero h = refl
 five-at g (suc zero) h = refl
 five-at g (suc (suc zero)) h = refl
@@ -191,13 +193,13 @@ pub view-sizes-in : (a : Access) → ValidAccess a → a .viewed ≡ true → (i
     → InSize (getD (viewSizes (a .layout) (a .view)) i 0)
 unfolding viewSizes
 view-sizes-in a ok e i h =
-    let m : i < 5 = omega (arith, view-most (a .view) (ok .sized .view e)) in
+    let m : i < rankPlaces = omega (arith, view-most (a .view) (ok .sized .view e)) in
     pick-case (λ (l : List ℕ). InSize (getD l i 0)) (a .view .sized) _ _
     (λ t. rw (five-at (λ (k : ℕ). theViewDimension (a .view .dimensions) k .size) i m) (view-size (a .view) (ok .sized .view e) i h t))
     (λ t. rw (five-at (spanOf (a .layout)) i m) (layout-span (a .layout) (ok .sized .layout) i (omega (arith, ok .ranks e t))))
 
 -- the numbers of a layout have its dimensions
-pub numbers-dimension : (l : Layout) (d : ℕ) → d < 5 → dimensionAt (layoutNumbers l) (5 * d) ≡ theDimension (l .dimensions) d
+pub numbers-dimension : (l : Layout) (d : ℕ) → d < rankPlaces → dimensionAt (layoutNumbers l) (dimensionNumbers * d) ≡ theDimension (l .dimensions) d
 unfolding layoutNumbers
 numbers-dimension l zero h = refl
 numbers-dimension l (suc zero) h = refl
@@ -212,13 +214,13 @@ module _ (p : Plan) (ok : Planned p) where
   unfolding planned
   plan-width = ap (λ (q : Plan). q .width) (ok .same)
 
-  pub plan-sizes : p .sizes ≡ viewSizes (p .access .layout) (p .access .view)
-  unfolding planned
-  plan-sizes = ap (λ (q : Plan). q .sizes) (ok .same)
+  pub plan-sizes : p .access .viewed ≡ true → p .sizes ≡ viewSizes (p .access .layout) (p .access .view)
+  unfolding planned sizesOf pick
+  plan-sizes e = rw e at (ap (λ (q : Plan). q .sizes) (ok .same))
 
-  pub plan-strides : p .strides ≡ viewStrides (p .access .layout) (p .access .view)
-  unfolding planned
-  plan-strides = ap (λ (q : Plan). q .strides) (ok .same)
+  pub plan-strides : p .access .viewed ≡ true → p .strides ≡ viewStrides (p .access .layout) (p .access .view)
+  unfolding planned stridesOf pick
+  plan-strides e = rw e at (ap (λ (q : Plan). q .strides) (ok .same))
 
   pub plan-numbers : p .numbers ≡ layoutNumbers (p .access .layout)
   unfolding planned

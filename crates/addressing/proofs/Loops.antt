@@ -17,9 +17,11 @@ use Rattle.sheet.specs.declared.ClampMode.{ClampMode}
 use Rattle.sheet.specs.declared.ClampMode.the-variants.{Undefined, Constant, ClampToEdge, Repeat, MirrorRepeat}
 use Rattle.sheet.specs.declared.Dimension.{Dimension}
 use Rattle.sheet.specs.declared.Layout.{Layout}
+use Rattle.addressing.specs.Capacities.{rankPlaces}
 use Rattle.addressing.specs.declared.Clamped.{Clamped}
 use Rattle.addressing.specs.declared.Clamped.the-variants.{Refused, Discarded, Filled, At}
-use Rattle.addressing.specs.Rules.{spanOf, coordinates, weighted, spanCoordinates, twos, onLoad, onStore, outside, clamped, scaled, part, plus, tensorIndex, dimensionAt, layoutNumbers}
+use Rattle.addressing.specs.Rules.{spanOf, coordinates, weighted, spanCoordinates, twos, onLoad, onStore, outside, clamped, scaled, part, plus, tensorIndex}
+use Rattle.addressing.specs.Plans.{dimensionNumbers, dimensionAt, layoutNumbers}
 use Rattle.addressing.proofs.Laws.{coordinates-more, coordinates-end, numbers-dimension}
 
 -- Rule 3: the coordinates of later dimensions are not touched
@@ -126,7 +128,7 @@ tensor-last load l cs zero h = absurd (not-suc-le-zero h)
 tensor-last load l cs (suc d) h = let q : suc d - 1 ≡ d = omega arith in rw q refl
 
 -- a dimension by the layout's numbers
-module _ (l : Layout) {ns : List ℕ} {d : ℕ} {x : Dimension} (n : ns ≡ layoutNumbers l) (h : d < 5) (e : x ≡ dimensionAt ns (5 * d)) where
+module _ (l : Layout) {ns : List ℕ} {d : ℕ} {x : Dimension} (n : ns ≡ layoutNumbers l) (h : d < rankPlaces) (e : x ≡ dimensionAt ns (dimensionNumbers * d)) where
   pub same-dimension : x ≡ theDimension (l .dimensions) d
   same-dimension = e ∙ rw n (numbers-dimension l d h)
 
@@ -142,7 +144,7 @@ pub record Summing (load : Bool) (l : Layout) (index d left sum : ℕ) : Type 0 
   pub few : d ≤ l .rank
   pub small : sum ≤ (l .rank - d) * 2 ^ 28
   pub cs : List ℕ
-  pub long : length cs ≡ 5
+  pub long : length cs ≡ rankPlaces
   pub goes : coordinates (λ (i : ℕ). i) (spanOf l) d left cs ≡ spanCoordinates l index
   pub whole : plus (tensorIndex load l (spanCoordinates l index) d) (At sum) ≡ tensorIndex load l (spanCoordinates l index) (l .rank)
 
@@ -153,7 +155,7 @@ module _ (load : Bool) (l : Layout) (ok : layoutOk l ≡ true) (index : ℕ) whe
       record {
         few = omega arith;
         small = omega arith;
-        cs = replicate 5 0;
+        cs = replicate rankPlaces 0;
         long = refl;
         goes = refl;
         whole = plus-zero _;
@@ -231,10 +233,10 @@ module _ (cs strides : List ℕ) (i x : ℕ) where
       rw (weighted-set n (omega arith) l e, getD-set-other cs i n x 0 r)
       (last-sum (weighted cs strides n) (x * getD strides i 0) (getD cs n 0 * getD strides n 0)))
 
-weighted-zeros : (strides : List ℕ) (n : ℕ) → weighted (replicate 5 0) strides n ≡ 0
+weighted-zeros : (strides : List ℕ) (n : ℕ) → weighted (replicate rankPlaces 0) strides n ≡ 0
 unfolding weighted
 weighted-zeros strides zero = refl
-weighted-zeros strides (suc n) = rw (weighted-zeros strides n, none-all (λ (x : ℕ). x ≡ 0) 5 0 0 refl refl n, zero-mul)
+weighted-zeros strides (suc n) = rw (weighted-zeros strides n, none-all (λ (x : ℕ). x ≡ 0) rankPlaces 0 0 refl refl n, zero-mul)
 
 -- a product of a coordinate and a stride
 pub product-most : (left : ℕ) {size stride : ℕ} → InSize size → stride ≤ 4096 ^ 4 → left % size * stride ≤ 4096 ^ 5
@@ -252,8 +254,8 @@ module _ (permutation sizes strides : List ℕ) (rank index : ℕ) where
     pub few : k ≤ rank
     pub small : sum ≤ (rank - k) * 4096 ^ 5
     pub cs : List ℕ
-    pub long : length cs ≡ 5
-    pub goes : coordinates place size k left cs ≡ coordinates place size rank index (replicate 5 0)
+    pub long : length cs ≡ rankPlaces
+    pub goes : coordinates place size k left cs ≡ coordinates place size rank index (replicate rankPlaces 0)
     pub weighs : sum ≡ weighted cs strides rank
     pub free : (j : ℕ) → j < k → getD cs (place j) 0 ≡ 0
 
@@ -262,11 +264,11 @@ module _ (permutation sizes strides : List ℕ) (rank index : ℕ) where
       record {
         few = omega arith;
         small = omega arith;
-        cs = replicate 5 0;
+        cs = replicate rankPlaces 0;
         long = refl;
         goes = refl;
         weighs = sym (weighted-zeros strides rank);
-        free = λ j h. none-all (λ (x : ℕ). x ≡ 0) 5 0 0 refl refl (place j);
+        free = λ j h. none-all (λ (x : ℕ). x ≡ 0) rankPlaces 0 0 refl refl (place j);
       }
 
   module _ (k left sum : ℕ) (w : Weighing k left sum) (h : 0 < k) where
@@ -276,7 +278,7 @@ module _ (permutation sizes strides : List ℕ) (rank index : ℕ) where
     abbrev x : ℕ
     x = left % size i
 
-    pub weighing-more : rank ≤ 5 → i < rank → InSize (size i) → getD strides i 0 ≤ 4096 ^ 4 → ((j : ℕ) → j < k - 1 → place j ≡ i → ⊥)
+    pub weighing-more : rank ≤ rankPlaces → i < rank → InSize (size i) → getD strides i 0 ≤ 4096 ^ 4 → ((j : ℕ) → j < k - 1 → place j ≡ i → ⊥)
         → Weighing (k - 1) (left / size i) (sum + x * getD strides i 0)
     weighing-more five inside s most apart =
         let l : i < length (w .cs) = omega (arith, w .long) in
@@ -290,5 +292,5 @@ module _ (permutation sizes strides : List ℕ) (rank index : ℕ) where
           free = λ j b. getD-set-other (w .cs) i (place j) x 0 (apart j b) ∙ w .free j (omega arith);
         }
 
-  pub weighing-end : (k left sum : ℕ) → Weighing k left sum → k ≤ 0 → sum ≡ weighted (coordinates place size rank index (replicate 5 0)) strides rank
+  pub weighing-end : (k left sum : ℕ) → Weighing k left sum → k ≤ 0 → sum ≡ weighted (coordinates place size rank index (replicate rankPlaces 0)) strides rank
   weighing-end k left sum w h = w .weighs ∙ rw (← w .goes) (ap (λ (cs : List ℕ). weighted cs strides rank) (coordinates-end place size k left (w .cs) h))

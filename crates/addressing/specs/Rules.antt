@@ -16,12 +16,10 @@ use Rattle.sheet.specs.declared.Layout.{Layout}
 use Rattle.sheet.specs.declared.View.{View}
 use Rattle.outcomes.specs.declared.Outcome.{Outcome}
 use Rattle.outcomes.specs.declared.Outcome.the-variants as outcome
+use Rattle.addressing.specs.Capacities.{rankPlaces}
 use Rattle.addressing.specs.declared.Access.{Access}
-use Rattle.addressing.specs.declared.Plan.{Plan}
 use Rattle.addressing.specs.declared.Indexed.{Indexed}
 use Rattle.addressing.specs.declared.Indexed.the-variants.{Skipped, Index}
-use Rattle.addressing.specs.declared.Coordinate.{Coordinate}
-use Rattle.addressing.specs.declared.Coordinate.the-variants as coordinate
 use Rattle.addressing.specs.declared.Clamped.{Clamped}
 use Rattle.addressing.specs.declared.Clamped.the-variants.{Refused, Discarded, Filled, At}
 use Rattle.addressing.specs.declared.Located.{Located}
@@ -77,7 +75,7 @@ coordinates place size (suc k) index cs =
 -- Rule 2: the place of a view dimension is its permutation entry
 unfoldable pub viewCoordinates : View → List ℕ → ℕ → List ℕ
 viewCoordinates v sizes index =
-    coordinates (λ (k : ℕ). getD (v .permutation) k 0) (λ (i : ℕ). getD sizes i 0) (v .rank) index (replicate 5 0)
+    coordinates (λ (k : ℕ). getD (v .permutation) k 0) (λ (i : ℕ). getD sizes i 0) (v .rank) index (replicate rankPlaces 0)
 
 -- Rule 2: the sum of coordinate i times stride i, for i from 0 up to n - 1
 unfoldable pub weighted : List ℕ → List ℕ → ℕ → ℕ
@@ -90,16 +88,11 @@ viewIndex v sizes strides index = weighted (viewCoordinates v sizes index) strid
 
 -- Rule 3: span coordinates, from the last dimension to the first, remainder and quotient by the span
 unfoldable pub spanCoordinates : Layout → ℕ → List ℕ
-spanCoordinates l index = coordinates (λ (d : ℕ). d) (spanOf l) (l .rank) index (replicate 5 0)
+spanCoordinates l index = coordinates (λ (d : ℕ). d) (spanOf l) (l .rank) index (replicate rankPlaces 0)
 
 -- sixteen bits read as a signed number, two's complement
 unfoldable pub twos : ℕ → ℤ
 twos x = pick (ltb x 32768) (pos x) (negsuc (65535 - x))
-
--- the integer that a coordinate of the code stands for
-abbrev pub integer : Coordinate → ℤ
-integer (coordinate.Below a) = negsuc a
-integer (coordinate.At a) = pos a
 
 -- Rule 4: a remainder takes the divisor's sign: -1 leaves n - 1
 abbrev pub remainder : ℤ → ℕ → ℕ
@@ -214,39 +207,3 @@ landed a (Index i) = reached a i
 -- Rules 1 to 5: element (row, col)
 unfoldable pub located : Access → ℕ → ℕ → Located
 located a row col = landed a (indexed a row col)
-
--- the numbers of a dimension, written from a place on, and read
-abbrev pub withDimension : List ℕ → ℕ → Dimension → List ℕ
-withDimension ns at d = set (set (set (set (set ns at (d .block)) (at + 1) (d .size)) (at + 2) (d .stride)) (at + 3) (d .offset)) (at + 4) (d .span)
-
-abbrev pub dimensionAt : List ℕ → ℕ → Dimension
-dimensionAt ns at =
-    record {
-      block = getD ns at 0;
-      size = getD ns (at + 1) 0;
-      stride = getD ns (at + 2) 0;
-      offset = getD ns (at + 3) 0;
-      span = getD ns (at + 4) 0;
-    }
-
--- those of dimension d from place 5*d on
-abbrev pub dimensionPut : Layout → List ℕ → ℕ → List ℕ
-dimensionPut l ns d = withDimension ns (5 * d) (theDimension (l .dimensions) d)
-
--- the numbers of all five dimensions
-unfoldable pub layoutNumbers : Layout → List ℕ
-layoutNumbers l =
-    dimensionPut l (dimensionPut l (dimensionPut l (dimensionPut l (dimensionPut l (replicate 25 0) 0) 1) 2) 3) 4
-
--- what the elements of an access share
-unfoldable pub planned : Access → Plan
-planned a =
-    record {
-      access = a;
-      count = elementsOf a;
-      width = clipWidth (a .view) (a .columns);
-      fill = lowBits a;
-      sizes = viewSizes (a .layout) (a .view);
-      strides = viewStrides (a .layout) (a .view);
-      numbers = layoutNumbers (a .layout);
-    }

@@ -9,7 +9,9 @@ use Rattle.addressing.specs.declared.Access.{Access}
 use Rattle.addressing.specs.declared.Plan.{Plan}
 use Rattle.addressing.specs.declared.Clamped.{Clamped}
 use Rattle.addressing.specs.declared.Clamped.the-variants.{Refused, Discarded, Filled, At}
-use Rattle.addressing.specs.Rules.{elementsOf, lowBits, planned}
+use Rattle.addressing.specs.Capacities.{matrixPlaces}
+use Rattle.addressing.specs.Rules.{elementsOf, lowBits}
+use Rattle.addressing.specs.Plans.{planned}
 
 -- the layout, the view and the memory keep to Sizes, an element is 1, 2 or 4 bytes, and the matrix has columns and at most a register's elements
 pub record SizedAccess (a : Access) : Type 0 where
@@ -20,7 +22,7 @@ pub record SizedAccess (a : Access) : Type 0 where
   pub odd : a .size ≡ 3 → ⊥
   pub memory : a .memory ≤ 65536
   pub wide : 0 < a .columns
-  pub area : elementsOf a ≤ 256
+  pub area : elementsOf a ≤ matrixPlaces
 
 -- besides, a view without dimensions has the layout's dimension count (no refusal 10)
 pub record ValidAccess (a : Access) : Type 0 where
@@ -31,7 +33,7 @@ pub record ValidAccess (a : Access) : Type 0 where
 pub record Planned (p : Plan) : Type 0 where
   pub valid : ValidAccess (p .access)
   pub same : p ≡ planned (p .access)
-  pub few : p .count ≤ 256
+  pub few : p .count ≤ matrixPlaces
   pub strides : (i : ℕ) → getD (p .strides) i 0 ≤ 4096 ^ 4
 
 pub planned-access : (a : Access) {p : Plan} → p ≡ planned a → p .access ≡ a

@@ -2,6 +2,7 @@
 ghost use mathlib.Core.Path.{_≡_};
 ghost use Prim.Native.Nat.{_≤_, _<_};
 ghost use mathlib.Core.Bool.{false};
+ghost use Rattle.addressing.specs.Capacities.{matrixPlaces};
 ghost use Rattle.addressing.specs.Rules.{outsideClip, outsideView, clipIndex};
 use super::wide;
 use sheet::Clip;
@@ -29,7 +30,7 @@ pub fn outside_view(v: View, row: u32, col: u32) -> bool
 
 // A matrix has at most 256 elements, so the index is below 65,536.
 pub fn clip_index(v: View, width: u32, row: u32, col: u32) -> u32
-    requires { ⌜ (width ≤ 256) × (row < 256) × (col < 256) × (outsideView v row col ≡ false) ⌝ }
+    requires { ⌜ (width ≤ matrixPlaces) × (row < matrixPlaces) × (col < matrixPlaces) × (outsideView v row col ≡ false) ⌝ }
     ensures { λ r. ⌜ r ≡ clipIndex v width row col ⌝ }
 {
     let rows = v.rows;

@@ -1,7 +1,9 @@
 // Where one element of a load or a store goes (document 01, "Where an element goes").
 ghost use mathlib.Core.Path.{_≡_};
 ghost use Prim.Native.Nat.{_*_, _/_, _^_, _%_, _≤_, _<_, min};
-ghost use Rattle.addressing.specs.Rules.{elementsOf, lowBits, layoutNumbers, addressed, reached, indexed, located, refused, answered, planned};
+ghost use Rattle.addressing.specs.Capacities.{rankPlaces};
+ghost use Rattle.addressing.specs.Plans.{layoutNumbers, planned};
+ghost use Rattle.addressing.specs.Rules.{elementsOf, lowBits, addressed, reached, indexed, located, refused, answered};
 ghost use Rattle.addressing.specs.Valid.{ValidAccess, Planned};
 
 pub mod clamps;
@@ -12,6 +14,8 @@ pub mod views;
 use outcomes::Outcome;
 use sheet::Layout;
 use sheet::View;
+use sheet::sizes::RANK;
+use tensors::LAYOUT_NUMBERS;
 
 // 2 to the 32nd, from which on an index gets 12.
 const INDEX_LIMIT: u64 = 4294967296;
@@ -29,16 +33,16 @@ pub struct Access {
     pub columns: u32,
 }
 
-// What the elements of an access share: how many there are, rule 1's width, rule 2's sizes and strides, rule 4's bits of the clamp
+// What the elements of an access share: how many there are, rule 1's width, where there is a view rule 2's sizes and strides, rule 4's bits of the clamp
 // value, and the layout's numbers for rules 3 to 5.
 pub struct Plan {
     pub access: Access,
     pub count: usize,
     pub width: u32,
     pub fill: u32,
-    pub sizes: [u32; 5],
-    pub strides: [u64; 5],
-    pub numbers: [u16; 25],
+    pub sizes: [u32; RANK],
+    pub strides: [u64; RANK],
+    pub numbers: [u16; LAYOUT_NUMBERS],
 }
 
 // The index that rules 1 and 2 give, or a position outside the clip.
@@ -109,8 +113,8 @@ pub fn plan_of(a: Access) -> Plan
     let v = a.view;
     let clip = v.columns;
     let count = (a.rows * a.columns) as usize;
-    let sizes = views::view_sizes(l, v);
-    let strides = views::view_strides(l, v);
+    let sizes = views::sizes_of(a.viewed, l, v);
+    let strides = views::strides_of(a.viewed, l, v);
     let numbers = tensors::layout_numbers(l);
     Plan {
         access: a,
@@ -143,7 +147,7 @@ fn answer(o: Outcome) -> Located
 
 // Rule 5: the byte of a tensor index, which is below 2 to the 31st, so that nothing wraps.
 fn address(a: Access, t: u32) -> Located
-    requires { ⌜ ValidAccess a × (t ≤ 5 * 2 ^ 28) ⌝ }
+    requires { ⌜ ValidAccess a × (t ≤ rankPlaces * 2 ^ 28) ⌝ }
     ensures { λ r. ⌜ r ≡ addressed a t ⌝ }
 {
     let size = a.size;
@@ -173,7 +177,7 @@ fn divide(x: u32, size: u32) -> Division
 }
 
 // Refusal 12, then rules 3 to 5.
-fn reach(a: Access, numbers: &[u16; 25], fill: u32, index: u64) -> Located
+fn reach(a: Access, numbers: &[u16; LAYOUT_NUMBERS], fill: u32, index: u64) -> Located
     requires { ⌜ ValidAccess a × (fill ≡ lowBits a) × (now numbers ≡ layoutNumbers (a .layout)) ⌝ }
     ensures { λ r. ⌜ r ≡ reached a index ⌝ }
 {
@@ -189,7 +193,13 @@ fn reach(a: Access, numbers: &[u16; 25], fill: u32, index: u64) -> Located
 }
 
 // Rules 1 and 2: element number k. Without a view the index is that number.
-fn index_of(p: Plan, permutation: &[u8; 5], sizes: &[u32; 5], strides: &[u64; 5], k: u32) -> Indexed
+fn index_of(
+    p: Plan,
+    permutation: &[u8; RANK],
+    sizes: &[u32; RANK],
+    strides: &[u64; RANK],
+    k: u32,
+) -> Indexed
     requires { ⌜ Planned p × (k < elementsOf (p .access)) ⌝ }
     requires { ⌜ (now permutation ≡ p .access .view .permutation) × (now sizes ≡ p .sizes) × (now strides ≡ p .strides) ⌝ }
     ensures { λ r. ⌜ r ≡ indexed (p .access) (k / p .access .columns) (k % p .access .columns) ⌝ }
@@ -210,10 +220,10 @@ fn index_of(p: Plan, permutation: &[u8; 5], sizes: &[u32; 5], strides: &[u64; 5]
 // Rules 1 to 5: element number k. The arrays are the plan's and its view's, lent so that they are not copied for each element.
 pub fn locate(
     p: Plan,
-    permutation: &[u8; 5],
-    sizes: &[u32; 5],
-    strides: &[u64; 5],
-    numbers: &[u16; 25],
+    permutation: &[u8; RANK],
+    sizes: &[u32; RANK],
+    strides: &[u64; RANK],
+    numbers: &[u16; LAYOUT_NUMBERS],
     k: u32,
 ) -> Located
     requires { ⌜ Planned p × (k < elementsOf (p .access)) ⌝ }

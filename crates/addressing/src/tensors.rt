@@ -4,7 +4,9 @@ ghost use mathlib.Core.Bool.{true};
 ghost use Prim.Native.Nat.{_*_, _/_, _^_, _<_};
 ghost use Rattle.sheet.specs.Layouts.{layoutOk};
 ghost use Rattle.sheet.specs.Facts.{InSize};
-ghost use Rattle.addressing.specs.Rules.{dimensionPut, layoutNumbers, dimensionAt, spanCoordinates, part, tensorIndex};
+ghost use Rattle.addressing.specs.Capacities.{rankPlaces};
+ghost use Rattle.addressing.specs.Plans.{dimensionNumbers, dimensionPut, layoutNumbers, dimensionAt};
+ghost use Rattle.addressing.specs.Rules.{spanCoordinates, part, tensorIndex};
 ghost use Rattle.addressing.specs.Valid.{AtMost};
 use super::Clamped;
 use super::clamps;
@@ -13,13 +15,17 @@ use super::wide;
 use sheet::ClampMode;
 use sheet::Dimension;
 use sheet::Layout;
+use sheet::sizes::RANK;
 
 // Block size, dimension, stride, offset, span.
 const DIMENSION_NUMBERS: usize = 5;
 
-// The five numbers of a dimension, from place 5 * d on.
-fn put_dimension(numbers: &mut [u16; 25], l: Layout, d: usize)
-    requires { ⌜ d < 5 ⌝ }
+// Those of all dimensions.
+pub const LAYOUT_NUMBERS: usize = RANK * DIMENSION_NUMBERS;
+
+// The numbers of a dimension, one after the other.
+fn put_dimension(numbers: &mut [u16; LAYOUT_NUMBERS], l: Layout, d: usize)
+    requires { ⌜ d < rankPlaces ⌝ }
     ensures { λ _. ⌜ now (numbers .exit) ≡ dimensionPut l (now (numbers .entry)) d ⌝ }
 {
     let x = l.dimensions[d];
@@ -32,10 +38,10 @@ fn put_dimension(numbers: &mut [u16; 25], l: Layout, d: usize)
 }
 
 // A layout's dimensions as numbers, which can be lent.
-pub fn layout_numbers(l: Layout) -> [u16; 25]
+pub fn layout_numbers(l: Layout) -> [u16; LAYOUT_NUMBERS]
     ensures { λ r. ⌜ r ≡ layoutNumbers l ⌝ }
 {
-    let mut numbers = [0u16; 25];
+    let mut numbers = [0u16; LAYOUT_NUMBERS];
     put_dimension(&mut numbers, l, 0);
     put_dimension(&mut numbers, l, 1);
     put_dimension(&mut numbers, l, 2);
@@ -44,9 +50,9 @@ pub fn layout_numbers(l: Layout) -> [u16; 25]
     numbers
 }
 
-fn dimension_at(numbers: &[u16; 25], d: usize) -> Dimension
-    requires { ⌜ d < 5 ⌝ }
-    ensures { λ r. ⌜ r ≡ dimensionAt (now (numbers .entry)) (5 * d) ⌝ }
+fn dimension_at(numbers: &[u16; LAYOUT_NUMBERS], d: usize) -> Dimension
+    requires { ⌜ d < rankPlaces ⌝ }
+    ensures { λ r. ⌜ r ≡ dimensionAt (now (numbers .entry)) (dimensionNumbers * d) ⌝ }
 {
     let at = DIMENSION_NUMBERS * d;
     Dimension {
@@ -81,9 +87,9 @@ fn part(load: bool, mode: ClampMode, d: Dimension, s: u32) -> Clamped
 }
 
 // Rules 3 to 5. All dimensions that are outside have the same outcome, so that the last one decides as well as the first.
-pub fn tensor_index(load: bool, l: Layout, numbers: &[u16; 25], index: u32) -> Clamped
+pub fn tensor_index(load: bool, l: Layout, numbers: &[u16; LAYOUT_NUMBERS], index: u32) -> Clamped
     requires { ⌜ (layoutOk l ≡ true) × (now numbers ≡ layoutNumbers l) ⌝ }
-    ensures { λ r. ⌜ (r ≡ tensorIndex load l (spanCoordinates l index) (l .rank)) × AtMost (5 * 2 ^ 28) r ⌝ }
+    ensures { λ r. ⌜ (r ≡ tensorIndex load l (spanCoordinates l index) (l .rank)) × AtMost (rankPlaces * 2 ^ 28) r ⌝ }
 {
     let mut sum: u32 = 0;
     let mut left = index;

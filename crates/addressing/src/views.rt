@@ -6,21 +6,24 @@ ghost use lib.ListN.{getD};
 ghost use Rattle.sheet.specs.Layouts.{layoutOk};
 ghost use Rattle.sheet.specs.Views.{theViewDimension, viewOk};
 ghost use Rattle.sheet.specs.Facts.{InSize};
+ghost use Rattle.addressing.specs.Capacities.{rankPlaces};
+ghost use Rattle.addressing.specs.Plans.{sizesOf, stridesOf};
 ghost use Rattle.addressing.specs.Rules.{five, spanOf, rowMajor, viewSizes, viewStrides, viewIndex};
 use super::divide;
 use super::wide;
 use sheet::Layout;
 use sheet::View;
+use sheet::sizes::RANK;
 
-pub fn span_at(l: Layout, k: usize) -> u32
-    requires { ⌜ k < 5 ⌝ }
+fn span_at(l: Layout, k: usize) -> u32
+    requires { ⌜ k < rankPlaces ⌝ }
     ensures { λ r. ⌜ r ≡ spanOf l k ⌝ }
 {
     let d = l.dimensions[k];
     wide(d.span)
 }
 
-fn spans(l: Layout) -> [u32; 5]
+fn spans(l: Layout) -> [u32; RANK]
     ensures { λ r. ⌜ r ≡ five (spanOf l) ⌝ }
 {
     [
@@ -33,14 +36,14 @@ fn spans(l: Layout) -> [u32; 5]
 }
 
 fn size_at(v: View, k: usize) -> u32
-    requires { ⌜ k < 5 ⌝ }
+    requires { ⌜ k < rankPlaces ⌝ }
     ensures { λ r. ⌜ r ≡ theViewDimension (v .dimensions) k .size ⌝ }
 {
     let d = v.dimensions[k];
     wide(d.size)
 }
 
-pub fn view_sizes(l: Layout, v: View) -> [u32; 5]
+fn view_sizes(l: Layout, v: View) -> [u32; RANK]
     ensures { λ r. ⌜ r ≡ viewSizes l v ⌝ }
 {
     if v.sized {
@@ -58,7 +61,7 @@ pub fn view_sizes(l: Layout, v: View) -> [u32; 5]
 
 // The product of the spans after dimension i.
 fn row_major(l: Layout, i: usize) -> u64
-    requires { ⌜ (layoutOk l ≡ true) × (i < 5) ⌝ }
+    requires { ⌜ (layoutOk l ≡ true) × (i < rankPlaces) ⌝ }
     ensures { λ r. ⌜ (r ≡ rowMajor (spanOf l) (l .rank) i) × (r ≤ 4096 ^ 4) ⌝ }
 {
     let rank = l.rank as usize;
@@ -72,14 +75,14 @@ fn row_major(l: Layout, i: usize) -> u64
 }
 
 fn stride_at(v: View, k: usize) -> u64
-    requires { ⌜ k < 5 ⌝ }
+    requires { ⌜ k < rankPlaces ⌝ }
     ensures { λ r. ⌜ (r ≡ theViewDimension (v .dimensions) k .stride) × (r ≤ 4096 ^ 4) ⌝ }
 {
     let d = v.dimensions[k];
     wide(d.stride) as u64
 }
 
-pub fn view_strides(l: Layout, v: View) -> [u64; 5]
+fn view_strides(l: Layout, v: View) -> [u64; RANK]
     requires { ⌜ layoutOk l ≡ true ⌝ }
     ensures { λ r. ⌜ (r ≡ viewStrides l v) × ((i : ℕ) → getD r i 0 ≤ 4096 ^ 4) ⌝ }
 {
@@ -102,6 +105,28 @@ pub fn view_strides(l: Layout, v: View) -> [u64; 5]
     }
 }
 
+// Rule 2's sizes and strides: zeros without a view.
+pub fn sizes_of(viewed: bool, l: Layout, v: View) -> [u32; RANK]
+    ensures { λ r. ⌜ r ≡ sizesOf viewed l v ⌝ }
+{
+    if viewed {
+        view_sizes(l, v)
+    } else {
+        [0u32; RANK]
+    }
+}
+
+pub fn strides_of(viewed: bool, l: Layout, v: View) -> [u64; RANK]
+    requires { ⌜ layoutOk l ≡ true ⌝ }
+    ensures { λ r. ⌜ (r ≡ stridesOf viewed l v) × ((i : ℕ) → getD r i 0 ≤ 4096 ^ 4) ⌝ }
+{
+    if viewed {
+        view_strides(l, v)
+    } else {
+        [0u64; RANK]
+    }
+}
+
 fn long(x: u32) -> u64
     ensures { λ r. ⌜ r ≡ x ⌝ }
 {
@@ -112,9 +137,9 @@ fn long(x: u32) -> u64
 // 4,096: at most five products of at most 4,096 to the fifth, 2 to the 60th, do not wrap.
 pub fn view_index(
     v: View,
-    permutation: &[u8; 5],
-    sizes: &[u32; 5],
-    strides: &[u64; 5],
+    permutation: &[u8; RANK],
+    sizes: &[u32; RANK],
+    strides: &[u64; RANK],
     index: u32,
 ) -> u64
     requires { ⌜ (viewOk v ≡ true) × ((i : ℕ) → i < v .rank → InSize (getD (now sizes) i 0)) × ((i : ℕ) → getD (now strides) i 0 ≤ 4096 ^ 4) ⌝ }

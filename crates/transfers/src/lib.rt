@@ -1,6 +1,7 @@
 // Elements between registers and memory.
 ghost use mathlib.Core.Path.{_≡_};
 ghost use Prim.Native.Nat.{_<_, _^_};
+ghost use Rattle.addressing.specs.Capacities.{matrixPlaces};
 ghost use Rattle.addressing.specs.Valid.{Planned};
 ghost use lib.ListN.{length};
 ghost use Rattle.kinds.specs.Laws.{ElementSize};
@@ -8,12 +9,18 @@ ghost use Rattle.registers.specs.Registers.{room};
 ghost use Rattle.accesses.specs.Refusals.{accessRefusal};
 ghost use Rattle.transfers.specs.Acts.{state, loaded, stored, Inside};
 ghost use Rattle.transfers.specs.Transfers.{loadedElements, storedElements};
+use accesses::ELEMENTS;
 use addressing::Plan;
 use outcomes::Outcome;
+use registers::ROOM;
+use sheet::sizes::REGISTERS;
+
+// The places of all registers.
+pub const PLACES: usize = REGISTERS * ROOM;
 
 // One element of a load. The answer is the count, one more where the element had a byte.
 pub fn load_element(
-    elements: &mut [u32; 1024],
+    elements: &mut [u32; PLACES],
     memory: &[u8],
     size: usize,
     register: u8,
@@ -43,7 +50,7 @@ pub fn load_element(
 
 // One element of a store. The answer is the count, one more where the element had a byte.
 pub fn store_element(
-    elements: &[u32; 1024],
+    elements: &[u32; PLACES],
     memory: &mut [u8],
     size: usize,
     register: u8,
@@ -68,24 +75,25 @@ pub fn store_element(
     }
 }
 
-// The elements of a load that is not refused. The answer is the count with each element that had a byte.
+// The elements of a load that is not refused. The answer is the count with each element that had a byte. The entries are lent room.
 pub fn load_elements(
-    elements: &mut [u32; 1024],
+    elements: &mut [u32; PLACES],
     memory: &[u8],
+    entries: &mut [u32; ELEMENTS],
     p: Plan,
     register: u8,
     counted: usize,
 ) -> usize
     requires { ⌜ Planned p × (accessRefusal (p .access) .number ≡ 0) × (p .access .memory ≡ length (now memory)) ⌝ }
-    requires { ⌜ (register < 4) × (counted < 2 ^ 31) ⌝ }
+    requires { ⌜ (register < 4) × (counted < 2 ^ 31) × (length (now entries) ≡ matrixPlaces) ⌝ }
+    ensures { λ _. ⌜ length (now (entries .exit)) ≡ matrixPlaces ⌝ }
     ensures { λ r. ⌜ now (elements .exit) ≡ loadedElements (p .access) register (state (now (elements .entry)) (now (memory .entry)) counted) .elements ⌝ }
     ensures { λ r. ⌜ r ≡ loadedElements (p .access) register (state (now (elements .entry)) (now (memory .entry)) counted) .count ⌝ }
 {
     let size = p.access.size;
     let fill = p.fill;
     let n = p.count;
-    let s = accesses::survey_of(p);
-    let entries = s.entries;
+    accesses::survey(entries, p);
     let mut count = counted;
     let mut k = 0;
     while k < n {
@@ -96,24 +104,25 @@ pub fn load_elements(
     count
 }
 
-// The elements of a store that is not refused. The answer is the count with each element that had a byte.
+// The elements of a store that is not refused. The answer is the count with each element that had a byte. The entries are lent room.
 pub fn store_elements(
-    elements: &[u32; 1024],
+    elements: &[u32; PLACES],
     memory: &mut [u8],
+    entries: &mut [u32; ELEMENTS],
     p: Plan,
     register: u8,
     counted: usize,
 ) -> usize
     requires { ⌜ Planned p × (accessRefusal (p .access) .number ≡ 0) × (p .access .memory ≡ length (now memory)) ⌝ }
-    requires { ⌜ (register < 4) × (counted < 2 ^ 31) ⌝ }
+    requires { ⌜ (register < 4) × (counted < 2 ^ 31) × (length (now entries) ≡ matrixPlaces) ⌝ }
+    ensures { λ _. ⌜ length (now (entries .exit)) ≡ matrixPlaces ⌝ }
     ensures { λ r. ⌜ now (memory .exit) ≡ storedElements (p .access) register (state (now (elements .entry)) (now (memory .entry)) counted) .memory ⌝ }
     ensures { λ r. ⌜ r ≡ storedElements (p .access) register (state (now (elements .entry)) (now (memory .entry)) counted) .count ⌝ }
 {
     let size = p.access.size;
     let fill = p.fill;
     let n = p.count;
-    let s = accesses::survey_of(p);
-    let entries = s.entries;
+    accesses::survey(entries, p);
     let mut count = counted;
     let mut k = 0;
     while k < n {

@@ -11,7 +11,7 @@ refuse-requires : tie.Need-refuse-requires
 refuse-requires c κs = search needs
 
 returns : tie.Need-returns
-returns c = c .refuse .ensures ∙ access-nine _ (search tests)
+returns c = (c .before .before .before .pre .1, c .refuse .ensures ∙ access-nine _ (search tests))
 
 ranks-differ-requires : tie.Need-ranks-differ-requires
 ranks-differ-requires c κs = search needs
@@ -20,7 +20,7 @@ refuse-requires-2 : tie.Need-refuse-requires-2
 refuse-requires-2 c κs = search needs
 
 returns-2 : tie.Need-returns-2
-returns-2 c = c .refuse2 .ensures ∙ access-ten _ (search tests) (search tests)
+returns-2 c = (c .before .before .before .before .before .pre .1, c .refuse2 .ensures ∙ access-ten _ (search tests) (search tests))
 
 store-blocked-requires : tie.Need-store-blocked-requires
 store-blocked-requires c κs = search needs
@@ -29,12 +29,12 @@ refuse-requires-3 : tie.Need-refuse-requires-3
 refuse-requires-3 c κs = search needs
 
 returns-3 : tie.Need-returns-3
-returns-3 c = c .refuse3 .ensures ∙ access-eleven _ (search tests) (search tests) (search tests)
+returns-3 c = (c .before .before .before .before .before .before .before .pre .1, c .refuse3 .ensures ∙ access-eleven _ (search tests) (search tests) (search tests))
 
 plan-of-requires : tie.Need-plan-of-requires
 plan-of-requires c κs =
     record {
-      sized = c .before .before .before .before .before .before .pre;
+      sized = c .before .before .before .before .before .before .pre .0;
       ranks = ranks-agree _ (went (c .before .before .before .ranks-differ .ensures) (c .before .before .if2 .left));
     }
 
@@ -42,7 +42,7 @@ check-elements-requires : tie.Need-check-elements-requires
 check-elements-requires c κs = search needs
 
 returns-4 : tie.Need-returns-4
-returns-4 c = (rw (planned-access _ (c .before .plan-of .ensures .0)) at (c .check-elements .ensures)) ∙ access-elements _ (search tests) (search tests) (search tests)
+returns-4 c = (c .check-elements .ensures .0, (rw (planned-access _ (c .before .before .before .plan-of .ensures .0)) at (c .check-elements .ensures .1)) ∙ access-elements _ (search tests) (search tests) (search tests))
 
 pub check-access-spec : {M : Type 1} → statement M
 check-access-spec =

@@ -1,30 +1,50 @@
 use mathlib.Core.Path.{_∙_}
-use borrow.Author.Needs.{needs}
+use Rattle.numbers.specs.Choice.{went}
 use Rattle.addressing.specs.Valid.{plan-count}
 use Rattle.accesses.specs.Surveys.{element-near}
-use Rattle.accesses.proofs.Laws.{clash-surveyed, checked-refused, checked-load, checked-clash, checked-apart}
+use Rattle.accesses.proofs.Laws.{clash-surveyed, apart-none, apart-found, checked-refused, checked-load, checked-clash, checked-apart}
+use borrow.Author.Needs.{needs}
 use Rattle.accesses.proofs.check_elements.Statement.{statement}
 use Rattle.accesses.proofs.check_elements.Tie as tie
 
-survey-of-requires : tie.Need-survey-of-requires
-survey-of-requires c κs = search needs
+survey-requires : tie.Need-survey-requires
+survey-requires c κs = search needs
 
 refuse-requires : tie.Need-refuse-requires
 refuse-requires c κs = search needs
 
 returns : tie.Need-returns
 returns c =
-    let s = c .before .before .before .before .survey-of in
-    c .refuse .ensures ∙ checked-refused _ _ _ (s .ensures .stop) (c .before .if1 .taken)
+    let s = c .before .before .before .before .survey .ensures in
+    (record { places = s .room; none = c .before .before .before .before .before .before .pre .1 .none }, c .refuse .ensures ∙ checked-refused _ _ _ (s .stop) (c .before .if1 .taken))
 
 accept-requires : tie.Need-accept-requires
 accept-requires c κs = search needs
 
 returns-2 : tie.Need-returns-2
 returns-2 c =
-    let s = c .before .before .before .before .before .before .survey-of in
+    let s = c .before .before .before .before .before .before .survey .ensures in
     let z = c .before .before .before .if1 .left in
-    c .accept .ensures ∙ checked-load _ _ _ (s .ensures .stop) z (c .before .if2 .taken) (s .ensures .placed z)
+    (record { places = s .room; none = c .before .before .before .before .before .before .before .before .pre .1 .none }, c .accept .ensures ∙ checked-load _ _ _ (s .stop) z (c .before .if2 .taken) (s .placed z))
+
+bytes-apart-requires : tie.Need-bytes-apart-requires
+bytes-apart-requires c κs = search needs
+
+accept-requires-2 : tie.Need-accept-requires-2
+accept-requires-2 c κs = search needs
+
+returns-3 : tie.Need-returns-3
+returns-3 c =
+    let a = c .before .before .before .before .before .before .before .before .before .before .before .before in
+    let e = plan-count (a .args .p) (a .pre .0) in
+    let s = c .before .before .before .before .before .before .before .before .before .before .survey .ensures in
+    let z = c .before .before .before .before .before .before .before .if1 .left in
+    let t = c .before .before .bytes-apart .ensures in
+    let q = clash-surveyed (element-near (a .args .p .access) (a .pre .0 .valid .sized)) s z in (
+      record { places = s .room; none = t .1 },
+      c .accept2 .ensures
+          ∙ checked-apart _ _ _ (s .stop) z _ (c .before .before .before .before .before .if2 .left) q (apart-none _ _ (rw e at (went (t .0) (c .before .if3 .taken)))) (s .placed z),
+    )
 
 first-clash-requires : tie.Need-first-clash-requires
 first-clash-requires c κs = search needs
@@ -32,40 +52,32 @@ first-clash-requires c κs = search needs
 refuse-requires-2 : tie.Need-refuse-requires-2
 refuse-requires-2 c κs = search needs
 
-returns-3 : tie.Need-returns-3
-returns-3 c =
-    let a = c .before .before .before .before .before .before .before .before .before .before in
-    let e = plan-count (a .args .p) (a .pre) in
-    let s = c .before .before .before .before .before .before .before .before .before .survey-of in
-    let z = c .before .before .before .before .before .before .if1 .left in
-    c .refuse2 .ensures
-    ∙ checked-clash _ _ _ (s .ensures .stop) z _ (c .before .before .before .before .if2 .left)
-    ((rw e at (c .before .before .first-clash .ensures)) ∙ clash-surveyed (element-near (a .args .p .access) (a .pre .valid .sized)) (s .ensures) z) (rw (← e) (c .before .if3 .taken))
-
-accept-requires-2 : tie.Need-accept-requires-2
-accept-requires-2 c κs = search needs
-
 returns-4 : tie.Need-returns-4
 returns-4 c =
-    let a = c .before .before .before .before .before .before .before .before .before .before in
-    let e = plan-count (a .args .p) (a .pre) in
-    let s = c .before .before .before .before .before .before .before .before .before .survey-of in
-    let z = c .before .before .before .before .before .before .if1 .left in
-    c .accept2 .ensures
-    ∙ checked-apart _ _ _ (s .ensures .stop) z _ (c .before .before .before .before .if2 .left)
-    ((rw e at (c .before .before .first-clash .ensures)) ∙ clash-surveyed (element-near (a .args .p .access) (a .pre .valid .sized)) (s .ensures) z) (rw (← e) (c .before .if3 .left)) (s .ensures .placed z)
+    let a = c .before .before .before .before .before .before .before .before .before .before .before .before .before .before in
+    let e = plan-count (a .args .p) (a .pre .0) in
+    let s = c .before .before .before .before .before .before .before .before .before .before .before .before .survey .ensures in
+    let z = c .before .before .before .before .before .before .before .before .before .if1 .left in
+    let t = c .before .before .before .before .bytes-apart .ensures in
+    let i = rw e at (c .before .first-clash .ensures) in
+    let q = clash-surveyed (element-near (a .args .p .access) (a .pre .0 .valid .sized)) s z in (
+      record { places = s .room; none = t .1 },
+      c .refuse2 .ensures
+          ∙ checked-clash _ _ _ (s .stop) z _ (c .before .before .before .before .before .before .before .if2 .left) (i ∙ q) (rw i (apart-found _ _ (rw e at (went (t .0) (c .before .before .before .if3 .left))))),
+    )
 
 pub check-elements-spec : {M : Type 1} → statement M
 check-elements-spec =
     tie.close
     (tie.spec
-    survey-of-requires
+    survey-requires
     refuse-requires
     returns
     accept-requires
     returns-2
+    bytes-apart-requires
+    accept-requires-2
+    returns-3
     first-clash-requires
     refuse-requires-2
-    returns-3
-    accept-requires-2
     returns-4)

@@ -4,6 +4,7 @@ use native.Mathlib.Omega.{arith}
 use borrow.Author.Tests.{le-leb, lt-leb}
 use borrow.Author.Needs.{needs}
 use Rattle.numbers.specs.Choice.{taken, left}
+use Rattle.addressing.specs.Capacities.{rankPlaces}
 use Rattle.addressing.specs.Rules.{addressed}
 use Rattle.addressing.proofs.address.Statement.{statement}
 use Rattle.addressing.proofs.address.Tie as tie
@@ -14,19 +15,19 @@ cast-byte c = search needs
 mul-byte : tie.Need-mul-byte
 mul-byte c =
     let s = c .before in
-    let m : s .args .t * s .args .a .size ≤ 5 * 2 ^ 28 * 4 = mul-le-mul (s .pre .1) (s .pre .0 .sized .most) in
+    let m : s .args .t * s .args .a .size ≤ rankPlaces * 2 ^ 28 * 4 = mul-le-mul (s .pre .1) (s .pre .0 .sized .most) in
     omega arith
 
 add-byte : tie.Need-add-byte
 add-byte c =
     let s = c .before in
-    let m : s .args .t * s .args .a .size ≤ 5 * 2 ^ 28 * 4 = mul-le-mul (s .pre .1) (s .pre .0 .sized .most) in
+    let m : s .args .t * s .args .a .size ≤ rankPlaces * 2 ^ 28 * 4 = mul-le-mul (s .pre .1) (s .pre .0 .sized .most) in
     omega arith
 
 add-if1 : tie.Need-add-if1
 add-if1 c =
     let s = c .before in
-    let m : s .args .t * s .args .a .size ≤ 5 * 2 ^ 28 * 4 = mul-le-mul (s .pre .1) (s .pre .0 .sized .most) in
+    let m : s .args .t * s .args .a .size ≤ rankPlaces * 2 ^ 28 * 4 = mul-le-mul (s .pre .1) (s .pre .0 .sized .most) in
     omega arith
 
 answer-requires : tie.Need-answer-requires

@@ -37,12 +37,13 @@ clip-index-requires c κs = let s = c .before .before .before .before .before .b
 view-index-requires : tie.Need-view-index-requires
 view-index-requires c κs = let s = c .before .before .before .before .before .before .before .before in
     let e : s .args .p .access .viewed ≡ true = search tests in
-    ((s .pre .0 .0 .valid .sized .view e, rw (s .pre .1 .1, plan-sizes (s .args .p) (s .pre .0 .0)) (view-sizes-in (s .args .p .access) (s .pre .0 .0 .valid) e), rw (s .pre .1 .2) (s .pre .0 .0 .strides)), s .pre .1 .0)
+    ((s .pre .0 .0 .valid .sized .view e, rw (s .pre .1 .1, plan-sizes (s .args .p) (s .pre .0 .0) e) (view-sizes-in (s .args .p .access) (s .pre .0 .0 .valid) e), rw (s .pre .1 .2) (s .pre .0 .0 .strides)), s .pre .1 .0)
 
 returns-3 : tie.Need-returns-3
 unfolding indexed
 returns-3 c = let s = c .before .before .before .before .before .before .before .before .before in
-    taken _ (search tests) (left _ (search tests) (ap Index (c .view-index .ensures ∙ rw (s .pre .1 .1, s .pre .1 .2, plan-sizes (s .args .p) (s .pre .0 .0), plan-strides (s .args .p) (s .pre .0 .0), c .before .clip-index .ensures, plan-width (s .args .p) (s .pre .0 .0)))))
+    let e : s .args .p .access .viewed ≡ true = search tests in
+    taken _ e (left _ (search tests) (ap Index (c .view-index .ensures ∙ rw (s .pre .1 .1, s .pre .1 .2, plan-sizes (s .args .p) (s .pre .0 .0) e, plan-strides (s .args .p) (s .pre .0 .0) e, c .before .clip-index .ensures, plan-width (s .args .p) (s .pre .0 .0)))))
 
 pub index-of-spec : {M : Type 1} → statement M
 index-of-spec =

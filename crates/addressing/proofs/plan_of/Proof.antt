@@ -1,5 +1,5 @@
 use borrow.Author.Needs.{needs}
-use Rattle.addressing.specs.Rules.{planned}
+use Rattle.addressing.specs.Plans.{planned}
 use Rattle.addressing.proofs.Laws.{and-so}
 use Rattle.addressing.proofs.plan_of.Statement.{statement}
 use Rattle.addressing.proofs.plan_of.Tie as tie
@@ -10,11 +10,11 @@ mul-count c = search needs
 cast-count : tie.Need-cast-count
 cast-count c = search needs
 
-view-sizes-requires : tie.Need-view-sizes-requires
-view-sizes-requires c κs = search needs
+sizes-of-requires : tie.Need-sizes-of-requires
+sizes-of-requires c κs = search needs
 
-view-strides-requires : tie.Need-view-strides-requires
-view-strides-requires c κs = search needs
+strides-of-requires : tie.Need-strides-of-requires
+strides-of-requires c κs = search needs
 
 layout-numbers-requires : tie.Need-layout-numbers-requires
 layout-numbers-requires c κs = search needs
@@ -31,7 +31,7 @@ low-bits-requires c κs = search needs
 returns : tie.Need-returns
 unfolding planned
 returns c = let s = c .before .before .before .before .before .before .before .before .before .before in
-    and-so (cc) (λ e. record { valid = s .pre; same = e; few = s .pre .sized .area; strides = c .before .before .before .before .view-strides .ensures .1 })
+    and-so (cc) (λ e. record { valid = s .pre; same = e; few = s .pre .sized .area; strides = c .before .before .before .before .strides-of .ensures .1 })
 
 pub plan-of-spec : {M : Type 1} → statement M
 plan-of-spec =
@@ -39,8 +39,8 @@ plan-of-spec =
     (tie.spec
     mul-count
     cast-count
-    view-sizes-requires
-    view-strides-requires
+    sizes-of-requires
+    strides-of-requires
     layout-numbers-requires
     wide-requires
     smaller-requires

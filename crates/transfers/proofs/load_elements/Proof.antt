@@ -16,13 +16,13 @@ use Rattle.transfers.proofs.load_elements.Statement.{statement}
 use Rattle.transfers.proofs.load_elements.Tie as tie
 
 abbrev Inv-loop : tie.InvT-loop
-Inv-loop elements₀ memory register counted size fill n entries count₀ k₀ elements count k = (k ≤ n) × (count ≤ counted + k) × (state elements memory count ≡ transferred (loaded size register) (λ (j : ℕ). entryOutcome fill (getD entries j 0)) k (state elements₀ memory counted))
+Inv-loop elements₀ memory entries register counted size fill n count₀ k₀ elements count k = (k ≤ n) × (count ≤ counted + k) × (state elements memory count ≡ transferred (loaded size register) (λ (j : ℕ). entryOutcome fill (getD entries j 0)) k (state elements₀ memory counted))
 
 abbrev μ-loop : tie.MeasureT-loop
-μ-loop elements₀ memory register counted size fill n entries count₀ k₀ elements count k = n - k
+μ-loop elements₀ memory entries register counted size fill n count₀ k₀ elements count k = n - k
 
-survey-of-requires : tie.Need-survey-of-requires Inv-loop μ-loop
-survey-of-requires c κs = search needs
+survey-requires : tie.Need-survey-requires Inv-loop μ-loop
+survey-requires c κs = search needs
 
 loop-holds : tie.Need-loop-holds Inv-loop μ-loop
 loop-holds c = (search needs, search needs, sym (transferred-none _ _ _))
@@ -30,17 +30,17 @@ loop-holds c = (search needs, search needs, sym (transferred-none _ _ _))
 mul-outcome-of : tie.Need-mul-outcome-of Inv-loop μ-loop
 mul-outcome-of c = search needs
 
-array-read-outcome-of : tie.Need-array-read-outcome-of Inv-loop μ-loop
-array-read-outcome-of c = search needs
+element-copy-out-outcome-of : tie.Need-element-copy-out-outcome-of Inv-loop μ-loop
+element-copy-out-outcome-of c = search needs
 
 outcome-of-requires : tie.Need-outcome-of-requires Inv-loop μ-loop
 outcome-of-requires c κs = search needs
 
 load-element-requires : tie.Need-load-element-requires Inv-loop μ-loop
-load-element-requires c κs = let s = c .before .before .before .before .before .before .before in
-    let i = c .before .before .before .loop in
+load-element-requires c κs = let s = c .before .before .before .before .before .before .before .before in
+    let i = c .before .before .before .before .loop in
     let p = s .args .p in
-    let o = surveyed-outcome p (s .pre .0 .0) (c .before .before .before .before .before .survey-of .ensures) (s .pre .0 .1) (i .k) (rw (← plan-count p (s .pre .0 .0)) (c .before .before .loop-test .taken)) in (
+    let o = surveyed-outcome p (s .pre .0 .0) (c .before .before .before .before .before .survey .ensures) (s .pre .0 .1) (i .k) (rw (← plan-count p (s .pre .0 .0)) (c .before .before .before .loop-test .taken)) in (
       (s .pre .1 .0, omega (arith, s .pre .0 .0 .few), omega (arith, s .pre .0 .0 .few, s .pre .1 .1, i .inv .1), access-size (p .access) (s .pre .0 .0 .valid .sized)),
       rw (c .before .outcome-of .ensures, o, ← s .pre .0 .2) (sound-inside (p .access) (outcomeOf (p .access) (i .k)) (element-sound (p .access) (i .k))),
     )
@@ -52,8 +52,8 @@ loop-less : tie.Need-loop-less Inv-loop μ-loop
 loop-less c = search needs
 
 loop-again : tie.Need-loop-again Inv-loop μ-loop
-loop-again c = let i = c .before .before .before .before .loop in
-    let a = c .before .before .before .before .before .before .before .before .args in
+loop-again c = let i = c .before .before .before .before .before .loop in
+    let a = c .before .before .before .before .before .before .before .before .before .args in
     let o = c .before .before .outcome-of in
     let n = loaded-count (a .p .access .size) (a .register) (i .k) (o .result) (state (i .elements) (now (a .memory)) (i .count)) in
     (search needs, omega (arith, n, i .inv, c .load-element .ensures .1), load-turn (a .p .access .size) (a .register) (i .k) _ _ (o .result) (o .ensures) (i .inv .2) (c .load-element .ensures .0) (c .load-element .ensures .1))
@@ -62,9 +62,10 @@ returns : tie.Need-returns Inv-loop μ-loop
 returns c = let i = c .before .loop in
     let s = c .before .before .before .before .before in
     let a = s .args in
+    let v = c .before .before .survey .ensures in
     let e : i .k ≡ elementsOf (a .p .access) = omega (arith, plan-count (a .p) (s .pre .0 .0)) in
-    let d = (rw e at (i .inv .2)) ∙ transferred-same _ (elementsOf (a .p .access)) _ (surveyed-outcome (a .p) (s .pre .0 .0) (c .before .before .before .survey-of .ensures) (s .pre .0 .1)) in
-    (ap (λ (x : State). x .elements) d, ap (λ (x : State). x .count) d)
+    let d = (rw e at (i .inv .2)) ∙ transferred-same _ (elementsOf (a .p .access)) _ (surveyed-outcome (a .p) (s .pre .0 .0) v (s .pre .0 .1)) in
+    (v .room, (ap (λ (x : State). x .elements) d, ap (λ (x : State). x .count) d))
 
 pub load-elements-spec : {M : Type 1} → statement M
 load-elements-spec =
@@ -72,10 +73,10 @@ load-elements-spec =
     (tie.spec
     Inv-loop
     μ-loop
-    survey-of-requires
+    survey-requires
     loop-holds
     mul-outcome-of
-    array-read-outcome-of
+    element-copy-out-outcome-of
     outcome-of-requires
     load-element-requires
     add-k

@@ -16,13 +16,13 @@ use Rattle.transfers.proofs.store_elements.Statement.{statement}
 use Rattle.transfers.proofs.store_elements.Tie as tie
 
 abbrev Inv-loop : tie.InvT-loop
-Inv-loop elements memory₀ register counted size fill n entries count₀ k₀ memory count k = (k ≤ n) × (count ≤ counted + k) × (length memory ≡ length memory₀) × (state elements memory count ≡ transferred (stored size register) (λ (j : ℕ). entryOutcome fill (getD entries j 0)) k (state elements memory₀ counted))
+Inv-loop elements memory₀ entries register counted size fill n count₀ k₀ memory count k = (k ≤ n) × (count ≤ counted + k) × (length memory ≡ length memory₀) × (state elements memory count ≡ transferred (stored size register) (λ (j : ℕ). entryOutcome fill (getD entries j 0)) k (state elements memory₀ counted))
 
 abbrev μ-loop : tie.MeasureT-loop
-μ-loop elements memory₀ register counted size fill n entries count₀ k₀ memory count k = n - k
+μ-loop elements memory₀ entries register counted size fill n count₀ k₀ memory count k = n - k
 
-survey-of-requires : tie.Need-survey-of-requires Inv-loop μ-loop
-survey-of-requires c κs = search needs
+survey-requires : tie.Need-survey-requires Inv-loop μ-loop
+survey-requires c κs = search needs
 
 loop-holds : tie.Need-loop-holds Inv-loop μ-loop
 loop-holds c = (search needs, search needs, refl, sym (transferred-none _ _ _))
@@ -30,17 +30,17 @@ loop-holds c = (search needs, search needs, refl, sym (transferred-none _ _ _))
 mul-outcome-of : tie.Need-mul-outcome-of Inv-loop μ-loop
 mul-outcome-of c = search needs
 
-array-read-outcome-of : tie.Need-array-read-outcome-of Inv-loop μ-loop
-array-read-outcome-of c = search needs
+element-copy-out-outcome-of : tie.Need-element-copy-out-outcome-of Inv-loop μ-loop
+element-copy-out-outcome-of c = search needs
 
 outcome-of-requires : tie.Need-outcome-of-requires Inv-loop μ-loop
 outcome-of-requires c κs = search needs
 
 store-element-requires : tie.Need-store-element-requires Inv-loop μ-loop
-store-element-requires c κs = let s = c .before .before .before .before .before .before .before in
-    let i = c .before .before .before .loop in
+store-element-requires c κs = let s = c .before .before .before .before .before .before .before .before in
+    let i = c .before .before .before .before .loop in
     let p = s .args .p in
-    let o = surveyed-outcome p (s .pre .0 .0) (c .before .before .before .before .before .survey-of .ensures) (s .pre .0 .1) (i .k) (rw (← plan-count p (s .pre .0 .0)) (c .before .before .loop-test .taken)) in (
+    let o = surveyed-outcome p (s .pre .0 .0) (c .before .before .before .before .before .survey .ensures) (s .pre .0 .1) (i .k) (rw (← plan-count p (s .pre .0 .0)) (c .before .before .before .loop-test .taken)) in (
       (s .pre .1 .0, omega (arith, s .pre .0 .0 .few), omega (arith, s .pre .0 .0 .few, s .pre .1 .1, i .inv .1), access-size (p .access) (s .pre .0 .0 .valid .sized)),
       rw (i .inv .2, c .before .outcome-of .ensures, o, ← s .pre .0 .2) (sound-inside (p .access) (outcomeOf (p .access) (i .k)) (element-sound (p .access) (i .k))),
     )
@@ -53,8 +53,8 @@ loop-less c = search needs
 
 loop-again : tie.Need-loop-again Inv-loop μ-loop
 loop-again c = let d = c .before .before in
-    let i = d .before .before .before .before .loop in
-    let a = d .before .before .before .before .before .before .before .before .args in
+    let i = d .before .before .before .before .before .loop in
+    let a = d .before .before .before .before .before .before .before .before .before .args in
     let o = d .before .before .outcome-of in
     let s = state (now (a .elements)) (i .memory) (i .count) in
     let n = stored-count (a .p .access .size) (a .register) (i .k) (o .result) s in
@@ -68,9 +68,10 @@ returns : tie.Need-returns Inv-loop μ-loop
 returns c = let i = c .before .loop in
     let s = c .before .before .before .before .before in
     let a = s .args in
+    let v = c .before .before .survey .ensures in
     let e : i .k ≡ elementsOf (a .p .access) = omega (arith, plan-count (a .p) (s .pre .0 .0)) in
-    let d = (rw e at (i .inv .3)) ∙ transferred-same _ (elementsOf (a .p .access)) _ (surveyed-outcome (a .p) (s .pre .0 .0) (c .before .before .before .survey-of .ensures) (s .pre .0 .1)) in
-    (ap (λ (x : State). x .memory) d, ap (λ (x : State). x .count) d)
+    let d = (rw e at (i .inv .3)) ∙ transferred-same _ (elementsOf (a .p .access)) _ (surveyed-outcome (a .p) (s .pre .0 .0) v (s .pre .0 .1)) in
+    (v .room, (ap (λ (x : State). x .memory) d, ap (λ (x : State). x .count) d))
 
 pub store-elements-spec : {M : Type 1} → statement M
 store-elements-spec =
@@ -78,10 +79,10 @@ store-elements-spec =
     (tie.spec
     Inv-loop
     μ-loop
-    survey-of-requires
+    survey-requires
     loop-holds
     mul-outcome-of
-    array-read-outcome-of
+    element-copy-out-outcome-of
     outcome-of-requires
     store-element-requires
     add-k

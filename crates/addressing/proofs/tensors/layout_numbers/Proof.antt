@@ -1,5 +1,4 @@
-use Rattle.addressing.specs.Rules.{layoutNumbers}
-use Rattle.addressing.specs.Rules.{dimensionPut}
+use Rattle.addressing.specs.Plans.{dimensionPut, layoutNumbers}
 use Prim.Native.Nat.{ℕ}
 use mathlib.Core.List.{List}
 use mathlib.Core.Path.{ap, _∙_}

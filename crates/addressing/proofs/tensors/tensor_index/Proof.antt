@@ -3,6 +3,7 @@ use native.Mathlib.Nat.{mod-lt}
 use Rattle.addressing.proofs.Loops.{Summing, summing-start, summing-more, summing-stop, summing-end, next-stop}
 use Rattle.addressing.specs.declared.Clamped.the-variants.{Refused, Discarded, Filled}
 use Rattle.sheet.specs.Facts.{layout-most, layout-size, layout-block, layout-span}
+use Rattle.addressing.specs.Capacities.{rankPlaces}
 use mathlib.Core.Path.{refl, sym, _∙_}
 use Prim.Native.Nat.{_-_, _^_, _≤_, _<_}
 use borrow.Author.Needs.{needs}
@@ -34,14 +35,14 @@ wide-requires c κs = search needs
 divide-requires : tie.Need-divide-requires Inv-loop μ-loop
 divide-requires c κs = let s = c .before .before .before .before .before in
     let i = c .before .before .before .loop in
-    let few : i .d - 1 < 5 = omega (arith, i .inv .few, layout-most (s .args .l) (s .pre .0)) in
+    let few : i .d - 1 < rankPlaces = omega (arith, i .inv .few, layout-most (s .args .l) (s .pre .0)) in
     rw (same-span (s .args .l) (s .pre .1) few (c .before .dimension-at .ensures) (c .wide .ensures .0)) (layout-span (s .args .l) (s .pre .0) (i .d - 1) (omega (arith, i .inv .few)) .some)
 
 part-requires : tie.Need-part-requires Inv-loop μ-loop
 part-requires c κs = let s = c .before .before .before .before .before .before in
     let i = c .before .before .before .before .loop in
     let in-rank : i .d - 1 < s .args .l .rank = omega (arith, i .inv .few) in
-    let few : i .d - 1 < 5 = omega (arith, layout-most (s .args .l) (s .pre .0)) in
+    let few : i .d - 1 < rankPlaces = omega (arith, layout-most (s .args .l) (s .pre .0)) in
     let e = same-dimension (s .args .l) (s .pre .1) few (c .before .before .dimension-at .ensures) in
     let z = layout-span (s .args .l) (s .pre .0) (i .d - 1) in-rank in
     (rw e (layout-size (s .args .l) (s .pre .0) (i .d - 1) in-rank), rw e (layout-block (s .args .l) (s .pre .0) (i .d - 1) in-rank), rw (c .divide .ensures .0, same-span (s .args .l) (s .pre .1) few (c .before .before .dimension-at .ensures) (c .before .wide .ensures .0)) (omega (arith, mod-lt (i .left) (z .some), z .most)))
@@ -52,7 +53,7 @@ enum-told c = search needs
 returns : tie.Need-returns Inv-loop μ-loop
 returns c = let s = c .before .before .before .before .before .before .before .before .before in
     let i = c .before .before .before .before .before .before .before .loop in
-    let few : i .d - 1 < 5 = omega (arith, i .inv .few, layout-most (s .args .l) (s .pre .0)) in
+    let few : i .d - 1 < rankPlaces = omega (arith, i .inv .few, layout-most (s .args .l) (s .pre .0)) in
     let e = same-part (s .args .l) (s .pre .1) few (c .before .before .before .before .before .dimension-at .ensures) (s .args .load) (i .left) (c .before .before .before .before .wide .ensures .0) (c .before .before .before .divide .ensures .0) (c .before .before .part .ensures .0) in
     let q = sym e ∙ c .enum-told .given .1 in
     (summing-stop _ _ (s .pre .0) _ (i .d) (i .left) (i .sum) (i .inv) (omega arith) Refused (λ a. refl) refl (next-stop _ _ (s .pre .0) _ (i .d) (i .left) (i .sum) (i .inv) (omega arith) Refused q) q, tt)
@@ -63,7 +64,7 @@ enum-told-2 c = search needs
 returns-2 : tie.Need-returns-2 Inv-loop μ-loop
 returns-2 c = let s = c .before .before .before .before .before .before .before .before .before in
     let i = c .before .before .before .before .before .before .before .loop in
-    let few : i .d - 1 < 5 = omega (arith, i .inv .few, layout-most (s .args .l) (s .pre .0)) in
+    let few : i .d - 1 < rankPlaces = omega (arith, i .inv .few, layout-most (s .args .l) (s .pre .0)) in
     let e = same-part (s .args .l) (s .pre .1) few (c .before .before .before .before .before .dimension-at .ensures) (s .args .load) (i .left) (c .before .before .before .before .wide .ensures .0) (c .before .before .before .divide .ensures .0) (c .before .before .part .ensures .0) in
     let q = sym e ∙ c .enum-told2 .given .1 in
     (summing-stop _ _ (s .pre .0) _ (i .d) (i .left) (i .sum) (i .inv) (omega arith) Discarded (λ a. refl) refl (next-stop _ _ (s .pre .0) _ (i .d) (i .left) (i .sum) (i .inv) (omega arith) Discarded q) q, tt)
@@ -74,7 +75,7 @@ enum-told-3 c = search needs
 returns-3 : tie.Need-returns-3 Inv-loop μ-loop
 returns-3 c = let s = c .before .before .before .before .before .before .before .before .before in
     let i = c .before .before .before .before .before .before .before .loop in
-    let few : i .d - 1 < 5 = omega (arith, i .inv .few, layout-most (s .args .l) (s .pre .0)) in
+    let few : i .d - 1 < rankPlaces = omega (arith, i .inv .few, layout-most (s .args .l) (s .pre .0)) in
     let e = same-part (s .args .l) (s .pre .1) few (c .before .before .before .before .before .dimension-at .ensures) (s .args .load) (i .left) (c .before .before .before .before .wide .ensures .0) (c .before .before .before .divide .ensures .0) (c .before .before .part .ensures .0) in
     let q = sym e ∙ c .enum-told3 .given .1 in
     (summing-stop _ _ (s .pre .0) _ (i .d) (i .left) (i .sum) (i .inv) (omega arith) Filled (λ a. refl) refl (next-stop _ _ (s .pre .0) _ (i .d) (i .left) (i .sum) (i .inv) (omega arith) Filled q) q, tt)
@@ -95,7 +96,7 @@ loop-less c = search needs
 loop-again : tie.Need-loop-again Inv-loop μ-loop
 loop-again c = let s = c .before .before .before .before .before .before .before .before .before .before in
     let i = c .before .before .before .before .before .before .before .before .loop in
-    let few : i .d - 1 < 5 = omega (arith, i .inv .few, layout-most (s .args .l) (s .pre .0)) in
+    let few : i .d - 1 < rankPlaces = omega (arith, i .inv .few, layout-most (s .args .l) (s .pre .0)) in
     let e = same-part (s .args .l) (s .pre .1) few (c .before .before .before .before .before .before .dimension-at .ensures) (s .args .load) (i .left) (c .before .before .before .before .before .wide .ensures .0) (c .before .before .before .before .divide .ensures .0) (c .before .before .before .part .ensures .0) in
     let z = same-span (s .args .l) (s .pre .1) few (c .before .before .before .before .before .before .dimension-at .ensures) (c .before .before .before .before .before .wide .ensures .0) in
     let m : c .before .y .given .0 .0 ≤ 2 ^ 28 = rw (c .before .y .given .1) at (c .before .before .before .part .ensures .1) in

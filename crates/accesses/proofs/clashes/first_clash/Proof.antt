@@ -7,20 +7,20 @@ use borrow.Author.Needs.{needs}
 use Rattle.accesses.specs.Entries.{sameEntry}
 use Rattle.accesses.specs.Refusals.{meets, clashFrom}
 use Rattle.accesses.proofs.Laws.{meets-none, meets-miss, clash-on, clash-found, clash-none}
-use Rattle.accesses.proofs.first_clash.Statement.{statement}
-use Rattle.accesses.proofs.first_clash.Tie as tie
+use Rattle.accesses.proofs.clashes.first_clash.Statement.{statement}
+use Rattle.accesses.proofs.clashes.first_clash.Tie as tie
 
 abbrev Inv-loop : tie.InvT-loop
-Inv-loop count entries i x j₀ j = (j ≤ i) × (meets (sameEntry entries) i j ≡ false)
+Inv-loop entries count i x j₀ j = (j ≤ i) × (meets (sameEntry entries) i j ≡ false)
 
 abbrev μ-loop : tie.MeasureT-loop
-μ-loop count entries i x j₀ j = i - j
+μ-loop entries count i x j₀ j = i - j
 
 abbrev Inv-search : tie.InvT-search
-Inv-search count entries i₀ i = (i ≤ count) × (clashFrom (sameEntry entries) i (count - i) ≡ clashFrom (sameEntry entries) 0 count)
+Inv-search entries count i₀ i = (i ≤ count) × (clashFrom (sameEntry entries) i (count - i) ≡ clashFrom (sameEntry entries) 0 count)
 
 abbrev μ-search : tie.MeasureT-search
-μ-search count entries i₀ i = count - i
+μ-search entries count i₀ i = count - i
 
 search-holds : tie.Need-search-holds Inv-loop μ-loop Inv-search μ-search
 search-holds c = (omega arith, rw sub-zero)
@@ -28,8 +28,8 @@ search-holds c = (omega arith, rw sub-zero)
 mul-x : tie.Need-mul-x Inv-loop μ-loop Inv-search μ-search
 mul-x c = search needs
 
-array-read-x : tie.Need-array-read-x Inv-loop μ-loop Inv-search μ-search
-array-read-x c = search needs
+element-copy-out-x : tie.Need-element-copy-out-x Inv-loop μ-loop Inv-search μ-search
+element-copy-out-x c = search needs
 
 loop-holds : tie.Need-loop-holds Inv-loop μ-loop Inv-search μ-search
 loop-holds c = (omega arith, meets-none _ _)
@@ -37,8 +37,8 @@ loop-holds c = (omega arith, meets-none _ _)
 mul-same-byte : tie.Need-mul-same-byte Inv-loop μ-loop Inv-search μ-search
 mul-same-byte c = search needs
 
-array-read-same-byte : tie.Need-array-read-same-byte Inv-loop μ-loop Inv-search μ-search
-array-read-same-byte c = search needs
+element-copy-out-same-byte : tie.Need-element-copy-out-same-byte Inv-loop μ-loop Inv-search μ-search
+element-copy-out-same-byte c = search needs
 
 same-byte-requires : tie.Need-same-byte-requires Inv-loop μ-loop Inv-search μ-search
 same-byte-requires c κs = search needs
@@ -52,7 +52,7 @@ loop-less c = omega arith
 loop-again : tie.Need-loop-again Inv-loop μ-loop Inv-search μ-search
 loop-again c = (
   omega arith,
-  meets-miss (sameEntry (c .before .before .before .before .before .before .args .t1)) _ _ (sym (c .before .same-byte .ensures) ∙ c .if1 .left) (c .before .before .before .loop .inv .1),
+  meets-miss (sameEntry (c .before .before .before .before .before .before .before .before .args .entries .now)) _ _ (sym (c .before .same-byte .ensures) ∙ c .if1 .left) (c .before .before .before .before .loop .inv .1),
 )
 
 add-i : tie.Need-add-i Inv-loop μ-loop Inv-search μ-search
@@ -63,7 +63,7 @@ search-less c = omega arith
 
 search-again : tie.Need-search-again Inv-loop μ-loop Inv-search μ-search
 search-again c =
-    let i = c .before .before .before .search in
+    let i = c .before .before .before .before .search in
     (omega arith, clash-on _ _ _ (i .inv .1) (c .before .loop .j) (omega arith) (omega arith) (omega arith) (c .before .loop .inv .1))
 
 returns : tie.Need-returns Inv-loop μ-loop Inv-search μ-search
@@ -71,8 +71,8 @@ returns c = clash-none _ _ _ (c .before .search .inv .1) (omega arith)
 
 returns-2 : tie.Need-returns-2 Inv-loop μ-loop Inv-search μ-search
 returns-2 c =
-    let i = c .before .before .before .before .before .search in
-    clash-found _ _ _ (i .inv .1) (c .before .before .before .loop .j) (omega arith) (omega arith) (sym (c .before .same-byte .ensures) ∙ c .if1 .taken)
+    let i = c .before .before .before .before .before .before .before .search in
+    clash-found _ _ _ (i .inv .1) (c .before .before .before .before .loop .j) (omega arith) (omega arith) (sym (c .before .same-byte .ensures) ∙ c .if1 .taken)
 
 pub first-clash-spec : {M : Type 1} → statement M
 first-clash-spec =
@@ -84,10 +84,10 @@ first-clash-spec =
     μ-search
     search-holds
     mul-x
-    array-read-x
+    element-copy-out-x
     loop-holds
     mul-same-byte
-    array-read-same-byte
+    element-copy-out-same-byte
     same-byte-requires
     add-j
     loop-less

@@ -6,47 +6,48 @@ use mathlib.Core.Path.{refl, ap, _∙_}
 use Prim.Native.Nat.{_-_}
 use borrow.Author.Needs.{needs}
 use native.Mathlib.Omega.{arith}
-use Rattle.accesses.proofs.survey_of.Statement.{statement}
-use Rattle.accesses.proofs.survey_of.Tie as tie
+use Rattle.accesses.proofs.survey.Statement.{statement}
+use Rattle.accesses.proofs.survey.Tie as tie
 
 abbrev Inv-loop : tie.InvT-loop
-Inv-loop p count permutation sizes strides numbers entries₀ placed₀ k₀ entries placed k = Passed (elementOutcome (p .access)) (p .count) k placed entries
+Inv-loop entries₀ p count permutation sizes strides numbers placed₀ k₀ entries placed k = Passed (elementOutcome (p .access)) (p .count) k placed entries
 
 abbrev μ-loop : tie.MeasureT-loop
-μ-loop p count permutation sizes strides numbers entries₀ placed₀ k₀ entries placed k = count - k
+μ-loop entries₀ p count permutation sizes strides numbers placed₀ k₀ entries placed k = count - k
 
 loop-holds : tie.Need-loop-holds Inv-loop μ-loop
-loop-holds c = let s = c .before .before .before .before .before in passed-none _ _ _ (s .pre .few) refl
+loop-holds c = let s = c .before .before .before .before .before in passed-none _ _ _ (s .pre .0 .few) (s .pre .1)
 
 cast-locate : tie.Need-cast-locate Inv-loop μ-loop
 cast-locate c = search needs
 
 locate-requires : tie.Need-locate-requires Inv-loop μ-loop
 locate-requires c κs = let s = c .before .before .before .before .before .before .before .before .before .before .before in
-    ((s .pre, rw (← plan-count (s .args .p) (s .pre)) (c .before .before .before .before .loop-test .taken)), (refl, refl, refl, refl))
+    ((s .pre .0, rw (← plan-count (s .args .p) (s .pre .0)) (c .before .before .before .before .loop-test .taken)), (refl, refl, refl, refl))
 
 returns : tie.Need-returns Inv-loop μ-loop
 unfolding elementOutcome
 returns c = let i = c .before .before .before .before .before .before .before .before .loop in
     let e = c .before .before .locate in
     let s = c .before .before .before .before .before .before .before .before .before .before .before .before .before .before in
-    rw (← plan-count (s .args .p) (s .pre))
+    rw (← plan-count (s .args .p) (s .pre .0))
     record {
+      room = i .inv .room;
       stop = passed-stop _ (i .inv) (e .result) (c .before .before .before .before .before .before .before .loop-test .taken) (e .ensures) (c .if1 .taken);
       placed = λ z. absurd (c .if1 .taken z);
-      entries = λ z. absurd (c .if1 .taken z);
+      each = λ z. absurd (c .if1 .taken z);
     }
 
 entry-requires : tie.Need-entry-requires Inv-loop μ-loop
 unfolding elementOutcome
 entry-requires c κs = let s = c .before .before .before .before .before .before .before .before .before .before .before .before .before .before in
-    rw (c .before .before .locate .ensures) (element-near (s .args .p .access) (s .pre .valid .sized) (c .before .before .before .before .before .before .before .before .loop .k))
+    rw (c .before .before .locate .ensures) (element-near (s .args .p .access) (s .pre .0 .valid .sized) (c .before .before .before .before .before .before .before .before .loop .k))
 
 mul-entries : tie.Need-mul-entries Inv-loop μ-loop
 mul-entries c = search needs
 
-array-write-entries : tie.Need-array-write-entries Inv-loop μ-loop
-array-write-entries c = search needs
+element-write-entries : tie.Need-element-write-entries Inv-loop μ-loop
+element-write-entries c = search needs
 
 placed-one-requires : tie.Need-placed-one-requires Inv-loop μ-loop
 placed-one-requires c κs = search needs
@@ -69,15 +70,16 @@ loop-again c = let i = c .before .before .before .before .before .before .before
 returns-2 : tie.Need-returns-2 Inv-loop μ-loop
 returns-2 c = let i = c .before .loop in
     let s = c .before .before .before .before .before .before .before in
-    rw (← plan-count (s .args .p) (s .pre))
+    rw (← plan-count (s .args .p) (s .pre .0))
     record {
+      room = i .inv .room;
       stop = passed-end _ (i .inv) (c .loop-test .left);
       placed = λ z. i .inv .count ∙ ap (placedCount _) (omega (arith, i .inv .inside));
-      entries = λ z k h. i .inv .each k (omega arith);
+      each = λ z k h. i .inv .each k (omega arith);
     }
 
-pub survey-of-spec : {M : Type 1} → statement M
-survey-of-spec =
+pub survey-spec : {M : Type 1} → statement M
+survey-spec =
     tie.close
     (tie.spec
     Inv-loop
@@ -88,7 +90,7 @@ survey-of-spec =
     returns
     entry-requires
     mul-entries
-    array-write-entries
+    element-write-entries
     placed-one-requires
     add-placed
     add-k

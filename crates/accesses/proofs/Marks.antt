@@ -1,0 +1,199 @@
+-- Laws of the marks: what one more mark changes, and that no mark is left.
+use Prim.Native.Nat.{ℕ, zero, suc, _+_, _-_, _*_, _/_, _%_, _^_, _<_, _≤_, zero-le}
+use mathlib.Core.Path.{_≡_, refl, sym, ap, _∙_}
+use mathlib.Core.Bool.{Bool, true, false, true≢false, not}
+use mathlib.Core.List.{List}
+use native.Mathlib.Nat.{not-suc-le-zero, mod-lt, div-add-mod', zero-div, zero-mod, div-self, div-eq-of-lt, pow-suc, mul-mod-left, one-mul, div-lt-iff-lt-mul}
+use native.Mathlib.Numerals.{add-one}
+use native.Mathlib.Omega.{arith}
+use lib.Bits.{bitOr, or-shr, or-mod, or-zero-l, or-zero-r, or-self}
+use lib.Dec.{eqb, ltb}
+use lib.ListN.{length, getD, set, replicate, length-set, length-replicate}
+use lib.Pow.{pow-pos, pow-lt, pow-add, shl-shr, shl-exact}
+use lib.Seq.{ext-getD, getD-set-same, getD-set-other}
+use borrow.Author.Tests.{eqb-true, eqb-false, eq-eqb, ne-eqb, ltb-true}
+use Rattle.numbers.specs.Choice.{pick, both, both-left, both-right}
+use Rattle.numbers.specs.All.{all, all-none, all-more, all-false}
+use Rattle.numbers.specs.Places.{by-test, by-place, by-order, none-all}
+use Rattle.accesses.specs.Refusals.{meets, apart}
+use Rattle.accesses.specs.Entries.{hasByte, hits, sameEntry}
+use Rattle.accesses.specs.Marks.{markWords, noMarks, wordOf, placeOf, bitAt, fresh, withMark, withoutMarks, Clear}
+
+-- a bit that is set, and the others
+or-one : (x : ℕ) → x < 2 → bitOr x 1 ≡ 1
+or-one zero h = or-zero-l 1
+or-one (suc zero) h = or-self 1
+or-one (suc (suc x)) h = absurd (omega arith)
+
+pub bit-same : (word place : ℕ) → bitAt (bitOr word (2 ^ place)) place ≡ 1
+bit-same word place =
+    rw (or-shr word (2 ^ place) place, or-mod (word / 2 ^ place) (2 ^ place / 2 ^ place) 1, div-self (pow-pos place))
+    (or-one (word / 2 ^ place % 2) (mod-lt (word / 2 ^ place) (omega arith)))
+
+-- of a power of 2 every other bit is 0
+power-bit : (place other : ℕ) → (place ≡ other → ⊥) → 2 ^ place / 2 ^ other % 2 ≡ 0
+power-bit place other d =
+    by-order place other
+    (λ h. rw (div-eq-of-lt (pow-lt h)) (zero-mod 2))
+    (λ h.
+    let n = place - other - 1 in
+    let e : place ≡ suc n + other = omega arith in
+    rw (e, pow-add 2 (suc n) other, shl-shr (2 ^ suc n) other, pow-suc 2 n) (mul-mod-left (2 ^ n) 2))
+
+pub bit-other : (word place other : ℕ) → (place ≡ other → ⊥) → bitAt (bitOr word (2 ^ place)) other ≡ bitAt word other
+bit-other word place other d =
+    rw (or-shr word (2 ^ place) other, or-mod (word / 2 ^ other) (2 ^ place / 2 ^ other) 1, power-bit place other d)
+    (or-zero-r (word / 2 ^ other % 2))
+
+-- the one bit that a shift of 1 sets
+pub one-shifted : (place : ℕ) → place < 32 → 1 * 2 ^ place % 2 ^ 32 ≡ 2 ^ place
+one-shifted place h = shl-exact {a = 1} 1 place 32 (omega arith) (omega arith) ∙ one-mul (2 ^ place)
+
+-- an entry with a byte
+module _ (x : ℕ) (h : hasByte x ≡ true) where
+  pub byte-some : 0 < x
+  unfolding hasByte both pick
+  byte-some = let d : x ≡ 0 → ⊥ = λ e. true≢false (sym (rw e at h)) in omega arith
+
+  pub byte-most : x < 65537
+  unfolding hasByte
+  byte-most = ltb-true x 65537 (both-right (not (eqb x 0)) (ltb x 65537) h)
+
+  pub word-inside : wordOf x < markWords
+  word-inside = div-lt-iff-lt-mul {k = 32} (omega arith) .1 (omega (arith, byte-most))
+
+-- one more mark
+module _ (ws : List ℕ) (long : length ws ≡ markWords) where
+  place-differs : (y x : ℕ) → hasByte y ≡ true → hasByte x ≡ true → (y ≡ x → ⊥) → wordOf y ≡ wordOf x → placeOf y ≡ placeOf x → ⊥
+  place-differs y x hy hx d w e =
+      let p : wordOf y * 32 + placeOf y ≡ y - 1 = div-add-mod' (y - 1) 32 in
+      let q : wordOf x * 32 + placeOf x ≡ x - 1 = div-add-mod' (x - 1) 32 in
+      d (omega (arith, byte-some y hy, byte-some x hx))
+
+  same-word : (y x : ℕ) → hasByte y ≡ true → hasByte x ≡ true → (y ≡ x → ⊥) → wordOf y ≡ wordOf x
+      → bitAt (getD (set ws (wordOf y) (bitOr (getD ws (wordOf y) 0) (2 ^ placeOf y))) (wordOf x) 0) (placeOf x) ≡ bitAt (getD ws (wordOf x) 0) (placeOf x)
+  same-word y x hy hx d w =
+      rw (w, getD-set-same ws (wordOf x) (bitOr (getD ws (wordOf x) 0) (2 ^ placeOf y)) 0 (rw long (word-inside x hx)))
+      (bit-other (getD ws (wordOf x) 0) (placeOf y) (placeOf x) (place-differs y x hy hx d w))
+
+  pub mark-more : (y x : ℕ) → fresh (withMark ws y) x ≡ pick (hits y x) false (fresh ws x)
+  unfolding fresh withMark hits both pick
+  mark-more y x =
+      by-test (hasByte x)
+      (λ hx. by-place y x
+      (λ q. rw (q, hx, getD-set-same ws (wordOf x) (bitOr (getD ws (wordOf x) 0) (2 ^ placeOf x)) 0 (rw long (word-inside x hx)), bit-same (getD ws (wordOf x) 0) (placeOf x), eq-eqb x x refl))
+      (λ d. by-test (hasByte y)
+      (λ hy. by-place (wordOf y) (wordOf x)
+      (λ w. rw (hx, hy, ne-eqb y x d, same-word y x hy hx d w))
+      (λ w. rw (hx, hy, ne-eqb y x d, getD-set-other ws (wordOf y) (wordOf x) (bitOr (getD ws (wordOf y) 0) (2 ^ placeOf y)) 0 (λ e. w (sym e)))))
+      (λ hy. rw (hx, hy, ne-eqb y x d))))
+      (λ hx. rw hx)
+
+-- one of the first k entries is the byte of x
+unfoldable pub seen : List ℕ → ℕ → ℕ → Bool
+seen entries x zero = false
+seen entries x (suc k) = pick (hits (getD entries k 0) x) true (seen entries x k)
+
+seen-meets : (entries : List ℕ) (i k : ℕ) → meets (sameEntry entries) i k ≡ seen entries (getD entries i 0) k
+unfolding meets seen
+seen-meets entries i zero = refl
+seen-meets entries i (suc k) = rw (seen-meets entries i k)
+
+not-pick : (t s : Bool) → not (pick t true s) ≡ pick t false (not s)
+unfolding pick
+not-pick true s = refl
+not-pick false s = refl
+
+-- where there is no mark
+none-marked : (w : ℕ) → getD noMarks w 0 ≡ 0
+unfolding noMarks
+none-marked w = none-all (λ (n : ℕ). n ≡ 0) markWords 0 0 refl refl w
+
+none-long : length noMarks ≡ markWords
+unfolding noMarks
+none-long = length-replicate {A = ℕ} markWords 0
+
+-- no mark in a word that no element has its byte in, before and after one of them is marked, and unmarked
+module _ (entries : List ℕ) (m : ℕ) (ws : List ℕ) where
+  pub clear-mark : (j k : ℕ) → Clear entries j m ws → j ≤ k → k < m → Clear entries j m (withMark ws (getD entries k 0))
+  unfolding withMark pick
+  clear-mark j k c g h =
+      by-test (hasByte (getD entries k 0))
+      (λ t. rw t record {
+        long = length-set ws (wordOf (getD entries k 0)) (bitOr (getD ws (wordOf (getD entries k 0)) 0) (2 ^ placeOf (getD entries k 0))) ∙ c .long;
+        clear = λ w free. getD-set-other ws (wordOf (getD entries k 0)) w (bitOr (getD ws (wordOf (getD entries k 0)) 0) (2 ^ placeOf (getD entries k 0))) 0 (λ e. free k g h t (sym e)) ∙ c .clear w free;
+      })
+      (λ t. rw t c)
+
+  pub clear-unmark : (k : ℕ) → Clear entries k m ws → Clear entries (k + 1) m (withoutMarks ws (getD entries k 0))
+  unfolding withoutMarks pick
+  clear-unmark k c =
+      by-test (hasByte (getD entries k 0))
+      (λ t. rw t record {
+        long = length-set ws (wordOf (getD entries k 0)) 0 ∙ c .long;
+        clear = λ w free.
+            by-place w (wordOf (getD entries k 0))
+            (λ q. rw q (getD-set-same ws (wordOf (getD entries k 0)) 0 0 (rw (c .long) (word-inside (getD entries k 0) t))))
+            (λ q. getD-set-other ws (wordOf (getD entries k 0)) w 0 0 q
+            ∙ c .clear w (λ i g h u e. by-place i k (λ s. q (sym e ∙ ap (λ (n : ℕ). wordOf (getD entries n 0)) s)) (λ s. free i (omega arith) h u e)));
+      })
+      (λ t. rw t record {
+        long = c .long;
+        clear = λ w free. c .clear w (λ i g h u e. by-place i k (λ s. true≢false (sym u ∙ ap (λ (n : ℕ). hasByte (getD entries n 0)) s ∙ t)) (λ s. free i (omega arith) h u e));
+      })
+
+  pub clear-end : (k : ℕ) → Clear entries k m ws → m ≤ k → ws ≡ noMarks
+  clear-end k c h =
+      ext-getD 0 ws noMarks (c .long ∙ sym none-long) (λ w l. c .clear w (λ i g n u e. absurd (omega arith)) ∙ sym (none-marked w))
+
+-- The bytes of the first k of m elements are marked, and each was new.
+pub record Marking (entries : List ℕ) (m k : ℕ) (ws : List ℕ) : Type 0 where
+  pub inside : k ≤ m
+  pub marks : Clear entries 0 m ws
+  pub each : (x : ℕ) → fresh ws x ≡ not (seen entries x k)
+  pub far : all k (λ (i : ℕ). not (meets (sameEntry entries) i i)) ≡ true
+
+-- without a mark every byte is new
+unmarked : (x : ℕ) → fresh noMarks x ≡ true
+unfolding fresh pick
+unmarked x =
+    let e : bitAt (getD noMarks (wordOf x) 0) (placeOf x) ≡ 0 = rw (none-marked (wordOf x)) (ap (λ (n : ℕ). n % 2) (zero-div (2 ^ placeOf x))) in
+    by-test (hasByte x) (λ h. rw h (eq-eqb _ 0 e)) (λ h. rw h)
+
+module _ (entries : List ℕ) (m : ℕ) where
+  no-marks : Clear entries 0 m noMarks
+  no-marks = record { long = none-long; clear = λ w free. none-marked w }
+
+  pub marking-start : (ws : List ℕ) → ws ≡ noMarks → Marking entries m 0 ws
+  unfolding seen
+  marking-start ws e =
+      rw e
+      record {
+        inside = zero-le;
+        marks = no-marks;
+        each = unmarked;
+        far = all-none _;
+      }
+
+  -- a turn at k
+  module _ (k : ℕ) (ws : List ℕ) (v : Marking entries m k ws) where
+    new-met : fresh ws (getD entries k 0) ≡ not (meets (sameEntry entries) k k)
+    new-met = rw (seen-meets entries k k) (v .each (getD entries k 0))
+
+    pub marking-more : k < m → fresh ws (getD entries k 0) ≡ true → Marking entries m (k + 1) (withMark ws (getD entries k 0))
+    unfolding seen
+    marking-more h e =
+        record {
+          inside = omega arith;
+          marks = clear-mark entries m ws 0 k (v .marks) zero-le h;
+          each = λ x. rw add-one (mark-more ws (v .marks .long) (getD entries k 0) x ∙ rw (v .each x) (sym (not-pick (hits (getD entries k 0) x) (seen entries x k))));
+          far = all-more k _ (v .far) (sym new-met ∙ e);
+        }
+
+    pub marking-stop : k < m → fresh ws (getD entries k 0) ≡ false → apart (sameEntry entries) m ≡ false
+    unfolding apart
+    marking-stop h e = all-false m _ k h (sym new-met ∙ e)
+
+    pub marking-end : m ≤ k → apart (sameEntry entries) m ≡ true
+    unfolding apart
+    marking-end h = let q : k ≡ m = omega (arith, v .inside) in (rw q at (v .far))

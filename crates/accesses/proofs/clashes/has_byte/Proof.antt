@@ -1,0 +1,16 @@
+use mathlib.Core.Path.{refl}
+use Rattle.numbers.specs.Choice.{stop, pass, tests}
+use Rattle.accesses.specs.Entries.{hasByte}
+use Rattle.accesses.proofs.clashes.has_byte.Statement.{statement}
+use Rattle.accesses.proofs.clashes.has_byte.Tie as tie
+
+returns : tie.Need-returns
+unfolding hasByte
+returns c = stop _ (search tests)
+
+returns-2 : tie.Need-returns-2
+unfolding hasByte
+returns-2 c = pass (search tests) refl
+
+pub has-byte-spec : {M : Type 1} → statement M
+has-byte-spec = tie.close (tie.spec returns returns-2)

@@ -1,0 +1,20 @@
+use mathlib.Core.Path.{refl}
+use Rattle.numbers.specs.Choice.{stop, pass, tests}
+use Rattle.accesses.specs.Entries.{hits}
+use borrow.Author.Needs.{needs}
+use Rattle.accesses.proofs.clashes.same_byte.Statement.{statement}
+use Rattle.accesses.proofs.clashes.same_byte.Tie as tie
+
+has-byte-requires : tie.Need-has-byte-requires
+has-byte-requires c κs = search needs
+
+returns : tie.Need-returns
+unfolding hits
+returns c = stop _ (search tests)
+
+returns-2 : tie.Need-returns-2
+unfolding hits
+returns-2 c = pass (search tests) refl
+
+pub same-byte-spec : {M : Type 1} → statement M
+same-byte-spec = tie.close (tie.spec has-byte-requires returns returns-2)

@@ -1,0 +1,120 @@
+// Refusal 15: a store where a later element has an earlier one's byte.
+ghost use mathlib.Core.Path.{_≡_};
+ghost use Prim.Native.Nat.{_≤_};
+ghost use Rattle.addressing.specs.Capacities.{matrixPlaces};
+ghost use Rattle.accesses.specs.Refusals.{clashFrom, apart};
+ghost use Rattle.accesses.specs.Entries.{hasByte, hits, sameEntry};
+ghost use Rattle.accesses.specs.Marks.{noMarks, fresh, withMark, withoutMarks, Clear};
+use super::ELEMENTS;
+use super::FILLED;
+
+// A mark for each of the 65,536 bytes of a memory, so many in a word.
+const WORD: u32 = 32;
+
+pub const MARKS: usize = 2048;
+
+pub fn no_marks() -> [u32; MARKS]
+    ensures { λ r. ⌜ r ≡ noMarks ⌝ }
+{
+    [0u32; MARKS]
+}
+
+// An entry is that of an element with a byte.
+fn has_byte(x: u32) -> bool
+    ensures { λ r. ⌜ r ≡ hasByte x ⌝ }
+{
+    if x == 0 {
+        return false;
+    }
+    x < FILLED
+}
+
+// Marks the byte of an entry. The answer: it had no mark.
+fn mark(marks: &mut [u32; MARKS], x: u32) -> bool
+    ensures { λ r. ⌜ (r ≡ fresh (now (marks .entry)) x) × (now (marks .exit) ≡ withMark (now (marks .entry)) x) ⌝ }
+{
+    if !has_byte(x) {
+        return true;
+    }
+    let byte = x - 1;
+    let at = (byte / WORD) as usize;
+    let place = byte % WORD;
+    let word = marks[at];
+    marks[at] = word | (1 << place);
+    (word >> place) % 2 == 0
+}
+
+fn unmark(marks: &mut [u32; MARKS], x: u32)
+    ensures { λ _. ⌜ now (marks .exit) ≡ withoutMarks (now (marks .entry)) x ⌝ }
+{
+    if !has_byte(x) {
+        return;
+    }
+    let at = ((x - 1) / WORD) as usize;
+    marks[at] = 0;
+}
+
+// Marks the bytes of `count` elements, up to the first that has a mark. The answer: none had.
+fn mark_all(marks: &mut [u32; MARKS], entries: &[u32; ELEMENTS], count: usize) -> bool
+    requires { ⌜ (now marks ≡ noMarks) × (count ≤ matrixPlaces) ⌝ }
+    ensures { λ r. ⌜ (r ≡ apart (sameEntry (now (entries .entry))) count) × Clear (now (entries .entry)) 0 count (now (marks .exit)) ⌝ }
+{
+    let mut k = 0;
+    while k < count {
+        if !mark(marks, entries[k]) {
+            return false;
+        }
+        k += 1;
+    }
+    true
+}
+
+fn unmark_all(marks: &mut [u32; MARKS], entries: &[u32; ELEMENTS], count: usize)
+    requires { ⌜ Clear (now entries) 0 count (now marks) × (count ≤ matrixPlaces) ⌝ }
+    ensures { λ _. ⌜ now (marks .exit) ≡ noMarks ⌝ }
+{
+    let mut k = 0;
+    while k < count {
+        unmark(marks, entries[k]);
+        k += 1;
+    }
+}
+
+// No element has an earlier one's byte. The marks are lent: there are none before and after.
+pub fn bytes_apart(marks: &mut [u32; MARKS], entries: &[u32; ELEMENTS], count: usize) -> bool
+    requires { ⌜ (now marks ≡ noMarks) × (count ≤ matrixPlaces) ⌝ }
+    ensures { λ r. ⌜ (r ≡ apart (sameEntry (now (entries .entry))) count) × (now (marks .exit) ≡ noMarks) ⌝ }
+{
+    let r = mark_all(marks, entries, count);
+    unmark_all(marks, entries, count);
+    r
+}
+
+fn same_byte(y: u32, x: u32) -> bool
+    ensures { λ r. ⌜ r ≡ hits y x ⌝ }
+{
+    if !has_byte(x) {
+        return false;
+    }
+    y == x
+}
+
+// The first of `count` elements that has an earlier one's byte, or the count.
+pub fn first_clash(entries: &[u32; ELEMENTS], count: usize) -> usize
+    requires { ⌜ count ≤ matrixPlaces ⌝ }
+    ensures { λ r. ⌜ r ≡ clashFrom (sameEntry (now (entries .entry))) 0 count ⌝ }
+{
+    let mut i = 0;
+    'search: while i < count {
+        let x = entries[i];
+        let mut j = 0;
+        while j < i {
+            if same_byte(entries[j], x) {
+                break 'search;
+            }
+            j += 1;
+        }
+        i += 1;
+    }
+    i
+}
