@@ -1,10 +1,11 @@
 // How a reduce combines elements.
 ghost use mathlib.Core.Path.{_≡_};
-ghost use Prim.Native.Nat.{ℕ, _+_, _*_, _<_, _≤_};
+ghost use Prim.Native.Nat.{ℕ, _+_, _*_, _^_, _<_, _≤_};
 ghost use lib.ListN.{getD};
 ghost use lib.Signed.{leZ};
 ghost use Rattle.numbers.specs.Choice.{pick};
 ghost use Rattle.kinds.specs.Values.{value};
+ghost use Rattle.sheet.specs.Sizes.{sidePlaces, matrixPlaces};
 ghost use Rattle.combines.specs.Combining.{combined, folded};
 use sheet::Combine;
 
@@ -49,7 +50,7 @@ pub fn fold(
     step: usize,
     later: usize,
 ) -> u32
-    requires { ⌜ (first ≤ 65535) × (step ≤ 255) × (later ≤ 65535) ⌝ }
+    requires { ⌜ (first < 2 ^ 16) × (step ≤ sidePlaces) × (later ≤ matrixPlaces) ⌝ }
     ensures { λ r. ⌜ r ≡ folded kind combine (λ (t : ℕ). getD (now (elements .entry)) (first + t * step) 0) later ⌝ }
 {
     let mut all = numbers::at(elements, first);

@@ -6,10 +6,11 @@ use native.Mathlib.Omega.{arith}
 use lib.ListN.{getD}
 use Rattle.numbers.specs.Lists.{line}
 use Rattle.numbers.specs.Lines.{line-outside}
-use Rattle.registers.specs.Registers.{room, placeOf, elementOf}
+use Rattle.sheet.specs.Sizes.{matrixPlaces}
+use Rattle.registers.specs.Registers.{placeOf, elementOf}
 
 -- the place read next is not written yet
-pub unwritten : (es : List ℕ) (r s e to from : ℕ) {out : List ℕ} → e < room → to ≡ placeOf r 0 → from ≡ placeOf s 0
+pub unwritten : (es : List ℕ) (r s e to from : ℕ) {out : List ℕ} → e < matrixPlaces → to ≡ placeOf r 0 → from ≡ placeOf s 0
     → out ≡ line es to (elementOf es s) e → getD out (from + e) 0 ≡ elementOf es s e
 unwritten es r s e to from h p q o =
     let f : from + e ≡ placeOf s e = omega arith in

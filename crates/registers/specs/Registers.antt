@@ -3,20 +3,17 @@ use mathlib.Core.List.{List}
 use Prim.Native.Nat.{ℕ, _+_, _*_}
 use lib.ListN.{getD, set, replicate}
 use Rattle.numbers.specs.Lists.{line}
+use Rattle.sheet.specs.Sizes.{registerCount, matrixPlaces, elementPlaces}
 use Rattle.registers.specs.Types.{noType, theType, withType}
 use Rattle.registers.specs.declared.Registers.{Registers}
 
--- the places of a register
-abbrev pub room : ℕ
-room = 256
-
 -- where register r's element number e stands
 abbrev pub placeOf : ℕ → ℕ → ℕ
-placeOf r e = room * r + e
+placeOf r e = matrixPlaces * r + e
 
 -- all registers are empty at the start
 unfoldable pub emptyRegisters : Registers
-emptyRegisters = record { types = replicate 4 noType; elements = replicate 1024 0 }
+emptyRegisters = record { types = replicate registerCount noType; elements = replicate elementPlaces 0 }
 
 abbrev pub elementOf : List ℕ → ℕ → ℕ → ℕ
 elementOf es r e = getD es (placeOf r e) 0
@@ -26,11 +23,11 @@ withElementOf es r e x = set es (placeOf r e) x
 
 -- register r's places made those of a block
 abbrev pub withBlock : List ℕ → ℕ → List ℕ → List ℕ
-withBlock es r block = line es (placeOf r 0) (λ (e : ℕ). getD block e 0) room
+withBlock es r block = line es (placeOf r 0) (λ (e : ℕ). getD block e 0) matrixPlaces
 
 -- register r's places made those of register s
 abbrev pub copiedElements : List ℕ → ℕ → ℕ → List ℕ
-copiedElements es r s = line es (placeOf r 0) (elementOf es s) room
+copiedElements es r s = line es (placeOf r 0) (elementOf es s) matrixPlaces
 
 -- register r made equal to register s
 abbrev pub copied : Registers → ℕ → ℕ → Registers

@@ -1,31 +1,37 @@
 -- Types within Sizes, and that every change of types keeps to them.
 use mathlib.Core.Path.{_≡_, refl}
+use mathlib.Core.Bool.{true}
 use mathlib.Core.List.{List, [], _∷_}
 use Prim.Native.Nat.{ℕ, zero, suc, _*_, _<_, _≤_}
 use native.Mathlib.Nat.{mul-le-mul}
 use native.Mathlib.Omega.{arith}
 use lib.ListN.{replicate}
+use Rattle.kinds.specs.Widths.{kindOk}
+use Rattle.sheet.specs.Sizes.{registerCount, sidePlaces, matrixPlaces}
 use Rattle.registers.specs.Types.{noType, theType, withType}
 use Rattle.registers.specs.Registers.{emptyRegisters}
 use Rattle.registers.specs.declared.MatrixType.{MatrixType}
 
--- a type of at most 16 by 16 elements of a kind, or none
+-- a kind and sides that a register has places for, or none
 pub record SizedType (t : MatrixType) : Type 0 where
-  pub kind : t .kind ≤ 5
-  pub rows : t .rows ≤ 16
-  pub columns : t .columns ≤ 16
+  pub kind : kindOk (t .kind) ≡ true
+  pub rows : t .rows ≤ sidePlaces
+  pub columns : t .columns ≤ sidePlaces
   pub some : 0 < t .rows → 0 < t .columns
   pub none : t .rows ≡ 0 → t ≡ noType
 
 pub record Sized (ts : List MatrixType) : Type 0 where
   pub each : (r : ℕ) → SizedType (theType ts r)
 
--- the elements of a matrix are elements of a register
-pub sized-room : (t : MatrixType) → SizedType t → t .rows * t .columns ≤ 256
-sized-room t s = mul-le-mul {n₂ = 16} {m₂ = 16} (s .rows) (s .columns)
+pub sides : (a b : ℕ) → a ≤ sidePlaces → b ≤ sidePlaces → a * b ≤ matrixPlaces
+sides a b p q = mul-le-mul {n₂ = sidePlaces} {m₂ = sidePlaces} p q
+
+-- the elements of a matrix have places
+pub sized-places : (t : MatrixType) → SizedType t → t .rows * t .columns ≤ matrixPlaces
+sized-places t s = sides (t .rows) (t .columns) (s .rows) (s .columns)
 
 pub sized-none : SizedType noType
-sized-none = record { kind = omega arith; rows = omega arith; columns = omega arith; some = λ h. h; none = λ e. refl }
+sized-none = record { kind = refl; rows = omega arith; columns = omega arith; some = λ h. h; none = λ e. refl }
 
 at-set : (P : MatrixType → Type 0) (ts : List MatrixType) (r : ℕ) (t : MatrixType) (k : ℕ) → P (theType ts k) → P t → P (theType (withType ts r t) k)
 at-set P [] r t k p q = p
@@ -44,4 +50,4 @@ none-at (suc n) (suc k) = none-at n k
 
 pub sized-empty : Sized (emptyRegisters .types)
 unfolding emptyRegisters
-sized-empty = record { each = λ k. none-at 4 k }
+sized-empty = record { each = λ k. none-at registerCount k }

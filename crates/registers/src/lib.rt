@@ -2,8 +2,12 @@
 ghost use mathlib.Core.Path.{_≡_};
 ghost use Prim.Native.Nat.{_<_, _≤_};
 ghost use lib.ListN.{getD};
+ghost use Rattle.sheet.specs.Sizes.{registerCount, matrixPlaces};
 ghost use Rattle.registers.specs.Types.{noType, theType, isEmpty, withType};
-ghost use Rattle.registers.specs.Registers.{room, placeOf, elementOf, withElementOf, withBlock, copiedElements, emptyRegisters};
+ghost use Rattle.registers.specs.Registers.{placeOf, elementOf, withElementOf, withBlock, copiedElements, emptyRegisters};
+use sheet::sizes::ELEMENTS;
+use sheet::sizes::PLACES;
+use sheet::sizes::REGISTERS;
 
 // Kind and sides of a matrix. Rows 0: the register is empty, and all three are 0.
 pub struct MatrixType {
@@ -12,15 +16,12 @@ pub struct MatrixType {
     pub columns: u8,
 }
 
-// Register r's element number e stands at place 256 * r + e. Places past a register's matrix are 0, so equal registers are
+// Register r's element number e stands at place PLACES * r + e. Places past a register's matrix are 0, so equal registers are
 // equal structs.
 pub struct Registers {
-    pub types: [MatrixType; 4],
-    pub elements: [u32; 1024],
+    pub types: [MatrixType; REGISTERS],
+    pub elements: [u32; ELEMENTS],
 }
-
-// The places of a register.
-pub const ROOM: usize = 256;
 
 pub fn no_type() -> MatrixType
     ensures { λ r. ⌜ r ≡ noType ⌝ }
@@ -36,8 +37,8 @@ pub fn empty_registers() -> Registers
     ensures { λ r. ⌜ r ≡ emptyRegisters ⌝ }
 {
     Registers {
-        types: [no_type(); 4],
-        elements: [0u32; 1024],
+        types: [no_type(); REGISTERS],
+        elements: [0u32; ELEMENTS],
     }
 }
 
@@ -47,16 +48,20 @@ pub fn is_empty(t: MatrixType) -> bool
     t.rows == 0
 }
 
-pub fn the_type(types: [MatrixType; 4], register: u8) -> MatrixType
-    requires { ⌜ register < 4 ⌝ }
+pub fn the_type(types: [MatrixType; REGISTERS], register: u8) -> MatrixType
+    requires { ⌜ register < registerCount ⌝ }
     ensures { λ r. ⌜ r ≡ theType types register ⌝ }
 {
     let at = register as usize;
     types[at]
 }
 
-pub fn with_type(types: [MatrixType; 4], register: u8, t: MatrixType) -> [MatrixType; 4]
-    requires { ⌜ register < 4 ⌝ }
+pub fn with_type(
+    types: [MatrixType; REGISTERS],
+    register: u8,
+    t: MatrixType,
+) -> [MatrixType; REGISTERS]
+    requires { ⌜ register < registerCount ⌝ }
     ensures { λ r. ⌜ r ≡ withType types register t ⌝ }
 {
     let at = register as usize;
@@ -67,48 +72,48 @@ pub fn with_type(types: [MatrixType; 4], register: u8, t: MatrixType) -> [Matrix
 
 // Where an element of a register stands.
 pub fn place_of(register: u8, element: usize) -> usize
-    requires { ⌜ (register < 4) × (element < room) ⌝ }
+    requires { ⌜ (register < registerCount) × (element < matrixPlaces) ⌝ }
     ensures { λ r. ⌜ r ≡ placeOf register element ⌝ }
 {
-    ROOM * (register as usize) + element
+    PLACES * (register as usize) + element
 }
 
-pub fn element_of(elements: &[u32; 1024], register: u8, element: usize) -> u32
-    requires { ⌜ (register < 4) × (element < room) ⌝ }
+pub fn element_of(elements: &[u32; ELEMENTS], register: u8, element: usize) -> u32
+    requires { ⌜ (register < registerCount) × (element < matrixPlaces) ⌝ }
     ensures { λ r. ⌜ r ≡ elementOf (now (elements .entry)) register element ⌝ }
 {
     elements[place_of(register, element)]
 }
 
-pub fn put_element_of(elements: &mut [u32; 1024], register: u8, element: usize, x: u32)
-    requires { ⌜ (register < 4) × (element < room) ⌝ }
+pub fn put_element_of(elements: &mut [u32; ELEMENTS], register: u8, element: usize, x: u32)
+    requires { ⌜ (register < registerCount) × (element < matrixPlaces) ⌝ }
     ensures { λ _. ⌜ now (elements .exit) ≡ withElementOf (now (elements .entry)) register element x ⌝ }
 {
     elements[place_of(register, element)] = x;
 }
 
 // A register's places made those of a block.
-pub fn put_block(elements: &mut [u32; 1024], register: u8, block: &[u32; 256])
-    requires { ⌜ register < 4 ⌝ }
+pub fn put_block(elements: &mut [u32; ELEMENTS], register: u8, block: &[u32; PLACES])
+    requires { ⌜ register < registerCount ⌝ }
     ensures { λ _. ⌜ now (elements .exit) ≡ withBlock (now (elements .entry)) register (now (block .entry)) ⌝ }
 {
     let base = place_of(register, 0);
     let mut e = 0;
-    while e < ROOM {
+    while e < PLACES {
         elements[base + e] = block[e];
         e += 1;
     }
 }
 
 // A register's places made those of another.
-pub fn copy_elements(elements: &mut [u32; 1024], register: u8, source: u8)
-    requires { ⌜ (register < 4) × (source < 4) ⌝ }
+pub fn copy_elements(elements: &mut [u32; ELEMENTS], register: u8, source: u8)
+    requires { ⌜ (register < registerCount) × (source < registerCount) ⌝ }
     ensures { λ _. ⌜ now (elements .exit) ≡ copiedElements (now (elements .entry)) register source ⌝ }
 {
     let to = place_of(register, 0);
     let from = place_of(source, 0);
     let mut e = 0;
-    while e < ROOM {
+    while e < PLACES {
         elements[to + e] = elements[from + e];
         e += 1;
     }

@@ -1,5 +1,5 @@
 -- The limits of document 01's Sizes that no edition moves, and the places that arrays have.
-use Prim.Native.Nat.{ℕ}
+use Prim.Native.Nat.{ℕ, _*_}
 use mathlib.Core.Bool.{Bool, true}
 use lib.Dec.{ltb, leb}
 use Rattle.numbers.specs.Choice.{pick, between}
@@ -23,11 +23,11 @@ sidePlaces = 16
 
 -- the places of a register's matrix: side by side
 abbrev pub matrixPlaces : ℕ
-matrixPlaces = 256
+matrixPlaces = sidePlaces * sidePlaces
 
 -- the places of all registers' matrices
 abbrev pub elementPlaces : ℕ
-elementPlaces = 1024
+elementPlaces = registerCount * matrixPlaces
 
 -- a sheet has places for so many steps, whatever its edition
 abbrev pub stepPlaces : ℕ

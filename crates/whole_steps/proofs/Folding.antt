@@ -7,6 +7,7 @@ use native.Mathlib.Omega.{arith}
 use lib.ListN.{getD, length, length-replicate}
 use Rattle.numbers.specs.Lists.{line}
 use Rattle.numbers.specs.Lines.{line-inside}
+use Rattle.sheet.specs.Sizes.{sidePlaces}
 use Rattle.registers.specs.Registers.{placeOf}
 use Rattle.registers.specs.declared.MatrixType.{MatrixType}
 use Rattle.sheet.specs.declared.ReduceMode.{ReduceMode}
@@ -17,11 +18,11 @@ use Rattle.combines.specs.Laws.{folded-same}
 use Rattle.whole_steps.specs.Reducing.{partAt, laterOf, reduced}
 use Rattle.whole_steps.specs.Parts.{foldAt, noFolds, folds, quad}
 
-length-no : length noFolds ≡ 16
+length-no : length noFolds ≡ sidePlaces
 unfolding noFolds
-length-no = length-replicate {A = ℕ} 16 0
+length-no = length-replicate {A = ℕ} sidePlaces 0
 
-folds-at : (es : List ℕ) (kind : ℕ) (op : Combine) (first apart step later count k : ℕ) → k < count → count ≤ 16
+folds-at : (es : List ℕ) (kind : ℕ) (op : Combine) (first apart step later count k : ℕ) → k < count → count ≤ sidePlaces
     → getD (folds es kind op first apart step later count) k 0 ≡ foldAt es kind op step later (first + k * apart)
 unfolding folds
 folds-at es kind op first apart step later count k l h =
@@ -41,7 +42,7 @@ module _ (es : List ℕ) (s : ℕ) (t : MatrixType) (mode : ReduceMode) (op : Co
 
   -- and so is the one among many that stands at its part's place
   pub part-at : (first apart step later count k at : ℕ) {values : List ℕ} → values ≡ folds es (t .kind) op first apart step later count
-      → at ≡ k → k < count → count ≤ 16 → later ≡ laterOf mode (t .rows) (t .columns)
+      → at ≡ k → k < count → count ≤ sidePlaces → later ≡ laterOf mode (t .rows) (t .columns)
       → ((u : ℕ) → first + k * apart + u * step ≡ placeOf s (partAt mode (t .columns) i j u)) → getD values at 0 ≡ reduced es s t mode op i j
   part-at first apart step later count k at e p l h f g =
       ap₂ (λ (v : List ℕ) (q : ℕ). getD v q 0) e p

@@ -14,14 +14,14 @@ use Rattle.numbers.specs.Lists.{line}
 use Rattle.numbers.specs.Lines.{line-inside}
 use Rattle.kinds.specs.Modulo.{modZ}
 use Rattle.kinds.specs.ModuloLaws.{dot-more, sum-more}
-use Rattle.registers.specs.Sized.{SizedType}
+use Rattle.sheet.specs.Sizes.{matrixPlaces}
+use Rattle.registers.specs.Sized.{SizedType, sized-places}
 use Rattle.registers.specs.declared.MatrixType.{MatrixType}
 use Rattle.whole_steps.specs.Grids.{blank}
 use Rattle.whole_steps.specs.GridLaws.{row-end, length-blank}
 use Rattle.whole_steps.specs.Multiplying.{sumZ, valueAt, productAt, multiplied}
 use Rattle.whole_steps.specs.Refusals.{multiplyAgrees}
 use Rattle.whole_steps.specs.Products.{residueAt, residuesOf, dotOf, dotPlus}
-use Rattle.whole_steps.proofs.Laws.{sides}
 
 -- a product of two residues and a third fit 64 bits
 pub sum-fits : (s x y : ℕ) → s < 2 ^ 32 → x < 2 ^ 32 → y < 2 ^ 32 → s + x * y < 2 ^ 64
@@ -41,7 +41,7 @@ dot-next x y p q n t e f g = (λ i. (e i + f i * g i) % 2 ^ 32) ∙ rw add-one
 residues-at : (es : List ℕ) (s : ℕ) (t : MatrixType) → SizedType t → (e : ℕ) → e < t .rows * t .columns → getD (residuesOf es s t) e 0 ≡ residueAt es s t e
 unfolding residuesOf
 residues-at es s t z e l =
-    let h : t .rows * t .columns ≤ 256 = sides (t .rows) (t .columns) (z .rows) (z .columns) in
+    let h : t .rows * t .columns ≤ matrixPlaces = sized-places t z in
     ap (λ (k : ℕ). getD (line blank 0 (residueAt es s t) (t .rows * t .columns)) k 0) (sym (zero-add e))
     ∙ line-inside blank 0 (residueAt es s t) (t .rows * t .columns) e 0 l (omega (arith, length-blank))
 

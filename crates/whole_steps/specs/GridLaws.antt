@@ -8,7 +8,7 @@ use native.Mathlib.Omega.{arith}
 use lib.ListN.{getD, length, length-replicate}
 use Rattle.numbers.specs.Lists.{line, line-none}
 use Rattle.numbers.specs.Lines.{line-inside, line-same, line-joined}
-use Rattle.registers.specs.Registers.{room}
+use Rattle.sheet.specs.Sizes.{matrixPlaces}
 use Rattle.whole_steps.specs.Grids.{numbered, blank, block}
 
 -- the elements of a row stand before the next row's start
@@ -64,12 +64,12 @@ rows-more columns f i g e o h =
     ∙ line-joined blank 0 (numbered columns f) (i * columns) columns
     ∙ ap (λ (k : ℕ). line blank 0 (numbered columns f) k) n
 
-pub length-blank : length blank ≡ room
+pub length-blank : length blank ≡ matrixPlaces
 unfolding blank
-length-blank = length-replicate {A = ℕ} room 0
+length-blank = length-replicate {A = ℕ} matrixPlaces 0
 
 -- what stands in a block
-pub block-inside : (rows columns : ℕ) (f : ℕ → ℕ → ℕ) (i j : ℕ) → rows * columns ≤ room → i < rows → j < columns → getD (block rows columns f) (i * columns + j) 0 ≡ f i j
+pub block-inside : (rows columns : ℕ) (f : ℕ → ℕ → ℕ) (i j : ℕ) → rows * columns ≤ matrixPlaces → i < rows → j < columns → getD (block rows columns f) (i * columns + j) 0 ≡ f i j
 unfolding block
 block-inside rows columns f i j s l h =
     ap (λ (k : ℕ). getD (line blank 0 (numbered columns f) (rows * columns)) k 0) (sym (zero-add (i * columns + j)))

@@ -3,8 +3,9 @@ use mathlib.Core.List.{List}
 use Prim.Native.Nat.{ℕ, _+_, _*_, _/_, _%_}
 use lib.ListN.{replicate}
 use Rattle.numbers.specs.Lists.{line}
+use Rattle.sheet.specs.Sizes.{matrixPlaces}
 use Rattle.registers.specs.Types.{withType}
-use Rattle.registers.specs.Registers.{room, elementOf, withBlock}
+use Rattle.registers.specs.Registers.{elementOf, withBlock}
 use Rattle.registers.specs.declared.MatrixType.{MatrixType}
 use Rattle.registers.specs.declared.Registers.{Registers}
 
@@ -17,7 +18,7 @@ abbrev pub numbered : ℕ → (ℕ → ℕ → ℕ) → ℕ → ℕ
 numbered columns f e = f (e / columns) (e % columns)
 
 unfoldable pub blank : List ℕ
-blank = replicate room 0
+blank = replicate matrixPlaces 0
 
 -- the places of a register that holds a matrix whose elements f gives
 unfoldable pub block : ℕ → ℕ → (ℕ → ℕ → ℕ) → List ℕ

@@ -3,6 +3,7 @@ use mathlib.Core.List.{List}
 use Prim.Native.Nat.{ℕ, _+_, _*_, _/_, _%_}
 use lib.ListN.{getD, replicate}
 use Rattle.numbers.specs.Lists.{line}
+use Rattle.sheet.specs.Sizes.{sidePlaces}
 use Rattle.sheet.specs.declared.Combine.{Combine}
 use Rattle.combines.specs.Combining.{folded}
 
@@ -11,7 +12,7 @@ abbrev pub foldAt : List ℕ → ℕ → Combine → ℕ → ℕ → ℕ → ℕ
 foldAt es kind combine step later first = folded kind combine (λ (t : ℕ). getD es (first + t * step) 0) later
 
 unfoldable pub noFolds : List ℕ
-noFolds = replicate 16 0
+noFolds = replicate sidePlaces 0
 
 -- the folds of parts whose first elements are so many places apart
 unfoldable pub folds : List ℕ → ℕ → Combine → ℕ → ℕ → ℕ → ℕ → ℕ → List ℕ

@@ -1,10 +1,12 @@
 -- Strip 11: 2x2 add of u8 200, 100, 1, 2 gives 47.
 use mathlib.Core.Path.{_≡_, refl}
 use mathlib.Core.List.{[], _∷_, _++_}
+use Prim.Native.Nat.{_-_}
 use lib.ListN.{replicate}
 use Rattle.numbers.specs.Choice.{pick}
 use Rattle.numbers.specs.Lists.{line}
 use Rattle.kinds.specs.Widths.{width}
+use Rattle.sheet.specs.Sizes.{registerCount, elementPlaces}
 use Rattle.registers.specs.Types.{noType}
 use Rattle.registers.specs.Registers.{elementOf}
 use Rattle.registers.specs.declared.Registers.{Registers}
@@ -20,8 +22,8 @@ use Rattle.whole_steps.specs.Whole.{matrixType, wholeDone}
 pub stripStart : Registers
 stripStart =
     record {
-      types = matrixType 0 2 2 ∷ replicate 3 noType;
-      elements = (200 ∷ 100 ∷ 1 ∷ 2 ∷ []) ++ replicate 1020 0;
+      types = matrixType 0 2 2 ∷ replicate (registerCount - 1) noType;
+      elements = (200 ∷ 100 ∷ 1 ∷ 2 ∷ []) ++ replicate (elementPlaces - 4) 0;
     }
 
 pub strip11 : elementOf (wholeDone stripStart [] (Reduce 1 0 1 1 TwoByTwo Add) .elements) 1 0 ≡ 47

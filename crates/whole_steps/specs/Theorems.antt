@@ -4,8 +4,9 @@ use mathlib.Core.Logic.{_≢_}
 use mathlib.Core.List.{List}
 use Prim.Native.Nat.{ℕ, _<_}
 use lib.Seq.{getD-set-other}
+use Rattle.sheet.specs.Sizes.{matrixPlaces}
 use Rattle.registers.specs.Types.{noType, theType}
-use Rattle.registers.specs.Registers.{room, elementOf}
+use Rattle.registers.specs.Registers.{elementOf}
 use Rattle.registers.specs.Laws.{others-kept}
 use Rattle.registers.specs.declared.MatrixType.{MatrixType}
 use Rattle.sheet.specs.declared.WholeStep.{WholeStep}
@@ -16,5 +17,5 @@ pub other-types : (ts : List MatrixType) (w : WholeStep) (q : ℕ) → q ≢ who
 other-types ts w q d = getD-set-other ts (wholeResult w) q _ noType d
 
 -- and its elements
-pub other-elements : (ts : List MatrixType) (es memory : List ℕ) (w : WholeStep) (q e : ℕ) → q ≢ wholeResult w → e < room → elementOf (wholeElements ts es memory w) q e ≡ elementOf es q e
+pub other-elements : (ts : List MatrixType) (es memory : List ℕ) (w : WholeStep) (q e : ℕ) → q ≢ wholeResult w → e < matrixPlaces → elementOf (wholeElements ts es memory w) q e ≡ elementOf es q e
 other-elements ts es memory w q e d h = others-kept es (wholeResult w) _ q e d h

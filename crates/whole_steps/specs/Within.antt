@@ -6,12 +6,13 @@ use mathlib.Core.List.{List}
 use Prim.Native.Nat.{ℕ, _<_, _≤_}
 use native.Mathlib.Decide.{ℕ-discrete}
 use native.Mathlib.Omega.{arith}
-use borrow.Author.Tests.{ltb-true, leb-true}
+use borrow.Author.Tests.{ltb-true}
 use Rattle.numbers.specs.Choice.{both-left, both-right, between-low, between-high}
+use Rattle.kinds.specs.Widths.{kindOk}
 use Rattle.registers.specs.Types.{theType}
 use Rattle.registers.specs.Sized.{SizedType, Sized, sized-with}
 use Rattle.registers.specs.declared.MatrixType.{MatrixType}
-use Rattle.sheet.specs.Sizes.{sidePlaces}
+use Rattle.sheet.specs.Sizes.{registerCount, sidePlaces, matrixPlaces}
 use Rattle.sheet.specs.Editions.{limits, sideOk}
 use Rattle.sheet.specs.Laws.Editions.{limits-side}
 use Rattle.sheet.specs.Steps.{fillOk, reduceOk, transposeOk, multiplyOk, wholeOk}
@@ -26,13 +27,13 @@ pub record Side (x : ℕ) : Type 0 where
 
 -- beside its result: the registers that it reads, its sides and its kind
 abbrev pub WholeParts : WholeStep → Type 0
-WholeParts (Fill register rows columns kind value) = Side rows × Side columns × (kind ≤ 5)
-WholeParts (Reduce result source rows columns mode combine) = (source < 4) × Side rows × Side columns
-WholeParts (Transpose result source) = source < 4
-WholeParts (MultiplyAdd result a b c) = (a < 4) × (b < 4) × (c < 4)
+WholeParts (Fill register rows columns kind value) = Side rows × Side columns × (kindOk kind ≡ true)
+WholeParts (Reduce result source rows columns mode combine) = (source < registerCount) × Side rows × Side columns
+WholeParts (Transpose result source) = source < registerCount
+WholeParts (MultiplyAdd result a b c) = (a < registerCount) × (b < registerCount) × (c < registerCount)
 
 pub record WholeOk (w : WholeStep) : Type 0 where
-  pub result : wholeResult w < 4
+  pub result : wholeResult w < registerCount
   pub parts : WholeParts w
 
 side : (edition x : ℕ) → sideOk edition x ≡ true → Side x
@@ -47,7 +48,7 @@ whole-ok edition (Fill register rows columns kind value) e =
     let f = both-right _ _ e in
     let g = both-right _ _ f in
     let h = both-right _ _ g in
-    record { result = ltb-true _ _ (both-left _ _ e); parts = (side edition rows (both-left _ _ f), side edition columns (both-left _ _ g), leb-true _ _ (both-left _ _ h)) }
+    record { result = ltb-true _ _ (both-left _ _ e); parts = (side edition rows (both-left _ _ f), side edition columns (both-left _ _ g), both-left _ _ h) }
 whole-ok edition (Reduce result source rows columns mode combine) e =
     let f = both-right _ _ e in
     let g = both-right _ _ f in
@@ -58,7 +59,7 @@ whole-ok edition (MultiplyAdd result a b c) e =
     let g = both-right _ _ f in
     record { result = ltb-true _ _ (both-left _ _ e); parts = (ltb-true _ _ (both-left _ _ f), ltb-true _ _ (both-left _ _ g), ltb-true _ _ (both-right _ _ g)) }
 
-sized-sides : (kind rows columns : ℕ) → kind ≤ 5 → Side rows → Side columns → SizedType (matrixType kind rows columns)
+sized-sides : (kind rows columns : ℕ) → kindOk kind ≡ true → Side rows → Side columns → SizedType (matrixType kind rows columns)
 sized-sides kind rows columns k m n =
     record { kind = k; rows = m .high; columns = n .high; some = λ h. n .low; none = λ e. absurd (omega (arith, m .low)) }
 
@@ -92,7 +93,7 @@ pub sized-whole : (ts : List MatrixType) (w : WholeStep) → Sized ts → WholeO
 sized-whole ts w s ok = sized-with ts (wholeResult w) (wholeType ts w) s (sized-type ts w s (ok .parts))
 
 -- the element that a refusal names is one of a matrix
-pub refusal-element : (edition : ℕ) (ts : List MatrixType) (len : ℕ) (w : WholeStep) → wholeRefusal edition ts len w .element ≤ 256
+pub refusal-element : (edition : ℕ) (ts : List MatrixType) (len : ℕ) (w : WholeStep) → wholeRefusal edition ts len w .element ≤ matrixPlaces
 refusal-element edition ts len (Fill register rows columns kind value) = omega arith
 refusal-element edition ts len (Reduce result source rows columns mode combine) = omega arith
 refusal-element edition ts len (Transpose result source) = omega arith

@@ -1,24 +1,26 @@
-// The blocks of results: 256 places, of which a matrix takes the first.
+// The blocks of results: the places of a register, of which a matrix takes the first.
 ghost use mathlib.Core.Path.{_≡_};
-ghost use Prim.Native.Nat.{ℕ, _+_, _*_, _<_, _≤_};
+ghost use Prim.Native.Nat.{ℕ, _+_, _*_, _^_, _<_, _≤_};
 ghost use lib.ListN.{getD};
 ghost use Rattle.numbers.specs.Lists.{line};
+ghost use Rattle.sheet.specs.Sizes.{registerCount, sidePlaces, matrixPlaces, elementPlaces};
 ghost use Rattle.registers.specs.Registers.{placeOf};
 ghost use Rattle.registers.specs.Sized.{SizedType};
 ghost use Rattle.whole_steps.specs.Grids.{block};
 ghost use Rattle.whole_steps.specs.Whole.{transposed};
 use registers::MatrixType;
+use sheet::sizes::PLACES;
 
 // A row of a block: elements of a list from a place on, a step apart.
 fn spread_row(
-    out: &mut [u32; 256],
+    out: &mut [u32; PLACES],
     start: usize,
     from: &[u32],
     first: usize,
     across: usize,
     columns: usize,
 )
-    requires { ⌜ (start + columns ≤ 256) × (first ≤ 65535) × (across ≤ 255) ⌝ }
+    requires { ⌜ (start + columns ≤ matrixPlaces) × (first < 2 ^ 16) × (across ≤ sidePlaces) ⌝ }
     ensures { λ _. ⌜ now (out .exit) ≡ line (now (out .entry)) start (λ (j : ℕ). getD (now (from .entry)) (first + j * across) 0) columns ⌝ }
 {
     let mut j = 0;
@@ -36,11 +38,11 @@ pub fn spread(
     across: usize,
     rows: usize,
     columns: usize,
-) -> [u32; 256]
-    requires { ⌜ (first ≤ 1024) × (down ≤ 16) × (across ≤ 16) × (rows ≤ 16) × (columns ≤ 16) ⌝ }
+) -> [u32; PLACES]
+    requires { ⌜ (first ≤ elementPlaces) × (down ≤ sidePlaces) × (across ≤ sidePlaces) × (rows ≤ sidePlaces) × (columns ≤ sidePlaces) ⌝ }
     ensures { λ r. ⌜ r ≡ block rows columns (λ (i j : ℕ). getD (now (from .entry)) (first + i * down + j * across) 0) ⌝ }
 {
-    let mut out = [0u32; 256];
+    let mut out = [0u32; PLACES];
     let mut i = 0;
     while i < rows {
         spread_row(
@@ -57,16 +59,16 @@ pub fn spread(
 }
 
 // A matrix of one value.
-pub fn fill_block(value: u32, rows: usize, columns: usize) -> [u32; 256]
-    requires { ⌜ (rows ≤ 16) × (columns ≤ 16) ⌝ }
+pub fn fill_block(value: u32, rows: usize, columns: usize) -> [u32; PLACES]
+    requires { ⌜ (rows ≤ sidePlaces) × (columns ≤ sidePlaces) ⌝ }
     ensures { λ r. ⌜ r ≡ block rows columns (λ (i j : ℕ). value) ⌝ }
 {
     let one = [value; 1];
     spread(&one, 0, 0, 0, rows, columns)
 }
 
-pub fn transpose_block(elements: &[u32], source: u8, t: MatrixType) -> [u32; 256]
-    requires { ⌜ (source < 4) × SizedType t ⌝ }
+pub fn transpose_block(elements: &[u32], source: u8, t: MatrixType) -> [u32; PLACES]
+    requires { ⌜ (source < registerCount) × SizedType t ⌝ }
     ensures { λ r. ⌜ r ≡ block (t .columns) (t .rows) (transposed (now (elements .entry)) source t) ⌝ }
 {
     let rows = t.rows as usize;

@@ -14,14 +14,17 @@ ghost use Rattle.whole_steps.specs.Whole.{wholeTypes, wholeBlock, wholeE
 ghost use Rattle.whole_steps.specs.Within.{WholeOk};
 use registers::MatrixType;
 use sheet::WholeStep;
+use sheet::sizes::ELEMENTS;
+use sheet::sizes::PLACES;
+use sheet::sizes::REGISTERS;
 
 // The places of the register that a whole step makes. It is a block of its own, since the result may name a source.
 fn whole_block(
-    types: [MatrixType; 4],
-    elements: &[u32; 1024],
+    types: [MatrixType; REGISTERS],
+    elements: &[u32; ELEMENTS],
     memory: &[u8],
     step: WholeStep,
-) -> [u32; 256]
+) -> [u32; PLACES]
     requires { ⌜ WholeOk step × Sized types × ((edition : ℕ) × (wholeRefusal edition types (length (now memory)) step .number ≡ 0)) ⌝ }
     ensures { λ r. ⌜ r ≡ wholeBlock types (now (elements .entry)) (now (memory .entry)) step ⌝ }
 {
@@ -67,11 +70,11 @@ fn whole_block(
 
 // A whole step that is not refused. The answer is the types.
 pub fn perform_whole(
-    types: [MatrixType; 4],
-    elements: &mut [u32; 1024],
+    types: [MatrixType; REGISTERS],
+    elements: &mut [u32; ELEMENTS],
     memory: &[u8],
     step: WholeStep,
-) -> [MatrixType; 4]
+) -> [MatrixType; REGISTERS]
     requires { ⌜ WholeOk step × Sized types × ((edition : ℕ) × (wholeRefusal edition types (length (now memory)) step .number ≡ 0)) ⌝ }
     ensures { λ r. ⌜ r ≡ wholeTypes types step ⌝ }
     ensures { λ _. ⌜ now (elements .exit) ≡ wholeElements types (now (elements .entry)) (now (memory .entry)) step ⌝ }

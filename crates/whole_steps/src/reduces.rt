@@ -1,9 +1,10 @@
 // Reduces: each part of the source folded once, and its value put where the result has it.
 ghost use mathlib.Core.Path.{_≡_};
-ghost use Prim.Native.Nat.{ℕ, _+_, _*_, _<_, _≤_};
+ghost use Prim.Native.Nat.{ℕ, _+_, _*_, _^_, _<_, _≤_};
 ghost use Rattle.sheet.specs.declared.ReduceMode.the-variants.{Row, Column, Both, TwoByTwo};
 ghost use lib.ListN.{getD};
 ghost use Rattle.numbers.specs.Lists.{line};
+ghost use Rattle.sheet.specs.Sizes.{registerCount, sidePlaces, matrixPlaces, elementPlaces};
 ghost use Rattle.registers.specs.Sized.{SizedType};
 ghost use Rattle.combines.specs.Combining.{folded};
 ghost use Rattle.whole_steps.specs.Grids.{block};
@@ -13,6 +14,8 @@ use super::blocks;
 use registers::MatrixType;
 use sheet::Combine;
 use sheet::ReduceMode;
+use sheet::sizes::PLACES;
+use sheet::sizes::SIDE;
 
 // The folds of `count` parts whose first elements are `apart` places apart, each of `later` more elements in steps.
 fn fold_parts(
@@ -24,11 +27,11 @@ fn fold_parts(
     step: usize,
     later: usize,
     count: usize,
-) -> [u32; 16]
-    requires { ⌜ (first ≤ 1024) × (apart ≤ 16) × (step ≤ 16) × (later ≤ 255) × (count ≤ 16) ⌝ }
+) -> [u32; SIDE]
+    requires { ⌜ (first ≤ elementPlaces) × (apart ≤ sidePlaces) × (step ≤ sidePlaces) × (later ≤ matrixPlaces) × (count ≤ sidePlaces) ⌝ }
     ensures { λ r. ⌜ r ≡ folds (now (elements .entry)) kind combine first apart step later count ⌝ }
 {
-    let mut out = [0u32; 16];
+    let mut out = [0u32; SIDE];
     let mut k = 0;
     while k < count {
         out[k] = combines::fold(elements, kind, combine, first + k * apart, step, later);
@@ -45,8 +48,8 @@ fn row_block(
     combine: Combine,
     rows: usize,
     columns: usize,
-) -> [u32; 256]
-    requires { ⌜ (source < 4) × SizedType t × (0 < t .rows) × (rows ≤ 16) × (columns ≤ 16) ⌝ }
+) -> [u32; PLACES]
+    requires { ⌜ (source < registerCount) × SizedType t × (0 < t .rows) × (rows ≤ sidePlaces) × (columns ≤ sidePlaces) ⌝ }
     ensures { λ r. ⌜ r ≡ block rows columns (reduced (now (elements .entry)) source t Row combine) ⌝ }
 {
     let n = t.columns as usize;
@@ -63,8 +66,8 @@ fn column_block(
     combine: Combine,
     rows: usize,
     columns: usize,
-) -> [u32; 256]
-    requires { ⌜ (source < 4) × SizedType t × (0 < t .rows) × (rows ≤ 16) × (columns ≤ 16) ⌝ }
+) -> [u32; PLACES]
+    requires { ⌜ (source < registerCount) × SizedType t × (0 < t .rows) × (rows ≤ sidePlaces) × (columns ≤ sidePlaces) ⌝ }
     ensures { λ r. ⌜ r ≡ block rows columns (reduced (now (elements .entry)) source t Column combine) ⌝ }
 {
     let m = t.rows as usize;
@@ -82,8 +85,8 @@ fn both_block(
     combine: Combine,
     rows: usize,
     columns: usize,
-) -> [u32; 256]
-    requires { ⌜ (source < 4) × SizedType t × (0 < t .rows) × (rows ≤ 16) × (columns ≤ 16) ⌝ }
+) -> [u32; PLACES]
+    requires { ⌜ (source < registerCount) × SizedType t × (0 < t .rows) × (rows ≤ sidePlaces) × (columns ≤ sidePlaces) ⌝ }
     ensures { λ r. ⌜ r ≡ block rows columns (reduced (now (elements .entry)) source t Both combine) ⌝ }
 {
     let m = t.rows as usize;
@@ -95,7 +98,7 @@ fn both_block(
 
 // Two elements at a place and the two a row of n below them, combined.
 fn quad(elements: &[u32], kind: u8, combine: Combine, n: usize, first: usize) -> u32
-    requires { ⌜ (n ≤ 16) × (first ≤ 65535) ⌝ }
+    requires { ⌜ (n ≤ sidePlaces) × (first < 2 ^ 16) ⌝ }
     ensures { λ r. ⌜ r ≡ quad (now (elements .entry)) kind combine n first ⌝ }
 {
     let top = combines::combine(
@@ -110,7 +113,7 @@ fn quad(elements: &[u32], kind: u8, combine: Combine, n: usize, first: usize) ->
 
 // A row of a block: the blocks of 2 by 2 from a place on.
 fn quad_row(
-    out: &mut [u32; 256],
+    out: &mut [u32; PLACES],
     start: usize,
     elements: &[u32],
     kind: u8,
@@ -119,7 +122,7 @@ fn quad_row(
     first: usize,
     columns: usize,
 )
-    requires { ⌜ (start + columns ≤ 256) × (n ≤ 16) × (first ≤ 2048) ⌝ }
+    requires { ⌜ (start + columns ≤ matrixPlaces) × (n ≤ sidePlaces) × (first ≤ 2 * elementPlaces) ⌝ }
     ensures { λ _. ⌜ now (out .exit) ≡ line (now (out .entry)) start (λ (j : ℕ). quad (now (elements .entry)) kind combine n (first + 2 * j)) columns ⌝ }
 {
     let mut j = 0;
@@ -137,14 +140,14 @@ fn quad_block(
     combine: Combine,
     rows: usize,
     columns: usize,
-) -> [u32; 256]
-    requires { ⌜ (source < 4) × SizedType t × (rows ≤ 16) × (columns ≤ 16) ⌝ }
+) -> [u32; PLACES]
+    requires { ⌜ (source < registerCount) × SizedType t × (rows ≤ sidePlaces) × (columns ≤ sidePlaces) ⌝ }
     ensures { λ r. ⌜ r ≡ block rows columns (reduced (now (elements .entry)) source t TwoByTwo combine) ⌝ }
 {
     let n = t.columns as usize;
     let kind = t.kind;
     let first = registers::place_of(source, 0);
-    let mut out = [0u32; 256];
+    let mut out = [0u32; PLACES];
     let mut i = 0;
     while i < rows {
         quad_row(
@@ -170,8 +173,8 @@ pub fn reduce_block(
     combine: Combine,
     rows: usize,
     columns: usize,
-) -> [u32; 256]
-    requires { ⌜ (source < 4) × SizedType t × (0 < t .rows) × (rows ≤ 16) × (columns ≤ 16) ⌝ }
+) -> [u32; PLACES]
+    requires { ⌜ (source < registerCount) × SizedType t × (0 < t .rows) × (rows ≤ sidePlaces) × (columns ≤ sidePlaces) ⌝ }
     ensures { λ r. ⌜ r ≡ block rows columns (reduced (now (elements .entry)) source t mode combine) ⌝ }
 {
     match mode {

@@ -12,6 +12,7 @@ use refusals::stop_at;
 use registers::MatrixType;
 use sheet::ReduceMode;
 use sheet::WholeStep;
+use sheet::sizes::REGISTERS;
 
 // A source side is even, and twice the result's.
 fn twice(side: u8, half: u8) -> bool
@@ -95,7 +96,12 @@ fn multiply_refusal(a: MatrixType, b: MatrixType, c: MatrixType) -> u8
 }
 
 // By the edition, the registers' types and the memory's length.
-pub fn whole_refusal(edition: u8, types: [MatrixType; 4], memory: usize, step: WholeStep) -> Stop
+pub fn whole_refusal(
+    edition: u8,
+    types: [MatrixType; REGISTERS],
+    memory: usize,
+    step: WholeStep,
+) -> Stop
     requires { ⌜ WholeOk step ⌝ }
     ensures { λ r. ⌜ r ≡ wholeRefusal edition types memory step ⌝ }
 {

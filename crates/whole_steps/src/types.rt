@@ -4,6 +4,7 @@ ghost use Rattle.whole_steps.specs.Whole.{wholeResult, wholeType, wholeT
 ghost use Rattle.whole_steps.specs.Within.{WholeOk};
 use registers::MatrixType;
 use sheet::WholeStep;
+use sheet::sizes::REGISTERS;
 
 pub fn whole_result(step: WholeStep) -> u8
     ensures { λ r. ⌜ r ≡ wholeResult step ⌝ }
@@ -34,7 +35,7 @@ pub fn whole_result(step: WholeStep) -> u8
     }
 }
 
-pub fn whole_type(types: [MatrixType; 4], step: WholeStep) -> MatrixType
+pub fn whole_type(types: [MatrixType; REGISTERS], step: WholeStep) -> MatrixType
     requires { ⌜ WholeOk step ⌝ }
     ensures { λ r. ⌜ r ≡ wholeType types step ⌝ }
 {
@@ -83,7 +84,7 @@ pub fn whole_type(types: [MatrixType; 4], step: WholeStep) -> MatrixType
 }
 
 // The types after a whole step.
-pub fn whole_types(types: [MatrixType; 4], step: WholeStep) -> [MatrixType; 4]
+pub fn whole_types(types: [MatrixType; REGISTERS], step: WholeStep) -> [MatrixType; REGISTERS]
     requires { ⌜ WholeOk step ⌝ }
     ensures { λ r. ⌜ r ≡ wholeTypes types step ⌝ }
 {

@@ -4,6 +4,7 @@ use native.Mathlib.Nat.{add-zero, zero-mul, mul-le-mul}
 use native.Mathlib.Omega.{arith}
 use lib.ListN.{getD}
 use borrow.Author.Needs.{needs}
+use Rattle.sheet.specs.Sizes.{sidePlaces, matrixPlaces}
 use Rattle.combines.specs.Laws.{folded-more}
 use Rattle.combines.specs.Combining.{folded}
 use Rattle.combines.proofs.fold.Statement.{statement}
@@ -28,13 +29,13 @@ add-t c = search needs
 mul-at : tie.Need-mul-at Inv-loop μ-loop
 mul-at c =
     let s = c .before .before .before .before in
-    let h : (c .before .loop .t + 1) * s .args .step ≤ 65535 * 255 = mul-le-mul {n₂ = 65535} {m₂ = 255} (omega arith) (omega arith) in
+    let h : (c .before .loop .t + 1) * s .args .step ≤ matrixPlaces * sidePlaces = mul-le-mul {n₂ = matrixPlaces} {m₂ = sidePlaces} (omega arith) (omega arith) in
     omega arith
 
 add-at : tie.Need-add-at Inv-loop μ-loop
 add-at c =
     let s = c .before .before .before .before in
-    let h : (c .before .loop .t + 1) * s .args .step ≤ 65535 * 255 = mul-le-mul {n₂ = 65535} {m₂ = 255} (omega arith) (omega arith) in
+    let h : (c .before .loop .t + 1) * s .args .step ≤ matrixPlaces * sidePlaces = mul-le-mul {n₂ = matrixPlaces} {m₂ = sidePlaces} (omega arith) (omega arith) in
     omega arith
 
 at-requires-2 : tie.Need-at-requires-2 Inv-loop μ-loop

@@ -4,16 +4,17 @@ use native.Mathlib.Omega.{arith}
 use borrow.Author.Needs.{needs}
 use Rattle.numbers.specs.Lines.{line-next}
 use Rattle.numbers.specs.Lists.{line, line-none}
+use Rattle.sheet.specs.Sizes.{matrixPlaces}
 use Rattle.registers.proofs.Laws.{unwritten}
-use Rattle.registers.specs.Registers.{room, elementOf}
+use Rattle.registers.specs.Registers.{elementOf}
 use Rattle.registers.proofs.copy_elements.Statement.{statement}
 use Rattle.registers.proofs.copy_elements.Tie as tie
 
 abbrev Inv-loop : tie.InvT-loop
-Inv-loop elements₀ register source to from e₀ elements e = (e ≤ room) × (elements ≡ line elements₀ to (elementOf elements₀ source) e)
+Inv-loop elements₀ register source to from e₀ elements e = (e ≤ matrixPlaces) × (elements ≡ line elements₀ to (elementOf elements₀ source) e)
 
 abbrev μ-loop : tie.MeasureT-loop
-μ-loop elements₀ register source to from e₀ elements e = room - e
+μ-loop elements₀ register source to from e₀ elements e = matrixPlaces - e
 
 place-of-requires : tie.Need-place-of-requires Inv-loop μ-loop
 place-of-requires c κs = search needs
@@ -60,7 +61,7 @@ loop-again c =
 
 returns : tie.Need-returns Inv-loop μ-loop
 returns c =
-    let e : c .before .loop .e ≡ room = omega arith in
+    let e : c .before .loop .e ≡ matrixPlaces = omega arith in
     rw (e, c .before .before .before .place-of .ensures) at (c .before .loop .inv .1)
 
 pub copy-elements-spec : {M : Type 1} → statement M

@@ -5,15 +5,15 @@ use lib.ListN.{getD}
 use borrow.Author.Needs.{needs}
 use Rattle.numbers.specs.Lines.{line-next}
 use Rattle.numbers.specs.Lists.{line, line-none}
-use Rattle.registers.specs.Registers.{room}
+use Rattle.sheet.specs.Sizes.{matrixPlaces}
 use Rattle.registers.proofs.put_block.Statement.{statement}
 use Rattle.registers.proofs.put_block.Tie as tie
 
 abbrev Inv-loop : tie.InvT-loop
-Inv-loop elements₀ register block base e₀ elements e = (e ≤ room) × (elements ≡ line elements₀ base (λ (k : ℕ). getD block k 0) e)
+Inv-loop elements₀ register block base e₀ elements e = (e ≤ matrixPlaces) × (elements ≡ line elements₀ base (λ (k : ℕ). getD block k 0) e)
 
 abbrev μ-loop : tie.MeasureT-loop
-μ-loop elements₀ register block base e₀ elements e = room - e
+μ-loop elements₀ register block base e₀ elements e = matrixPlaces - e
 
 place-of-requires : tie.Need-place-of-requires Inv-loop μ-loop
 place-of-requires c κs = search needs
@@ -47,7 +47,7 @@ loop-again c = (search needs, line-next _ _ _ _ (c .before .before .loop .inv .1
 
 returns : tie.Need-returns Inv-loop μ-loop
 returns c =
-    let e : c .before .loop .e ≡ room = omega arith in
+    let e : c .before .loop .e ≡ matrixPlaces = omega arith in
     rw (e, c .before .before .place-of .ensures) at (c .before .loop .inv .1)
 
 pub put-block-spec : {M : Type 1} → statement M

@@ -3,7 +3,8 @@ use Prim.Native.Nat.{ℕ, _≤_, _-_, _+_, _*_}
 use native.Mathlib.Omega.{arith}
 use lib.ListN.{getD}
 use borrow.Author.Needs.{needs}
-use Rattle.whole_steps.proofs.Laws.{row-fits, sides}
+use Rattle.registers.specs.Sized.{sides}
+use Rattle.whole_steps.proofs.Laws.{row-fits}
 use Rattle.whole_steps.specs.GridLaws.{rowsOf, rows-none, rows-more, rows-all}
 use Rattle.whole_steps.specs.Grids.{blank}
 use Rattle.whole_steps.proofs.blocks.spread.Statement.{statement}

@@ -2,7 +2,8 @@ use mathlib.Core.Path.{_≡_, refl, _∙_}
 use Prim.Native.Nat.{_≤_, _-_}
 use native.Mathlib.Omega.{arith}
 use borrow.Author.Needs.{needs}
-use Rattle.whole_steps.proofs.Laws.{sides, row-fits}
+use Rattle.registers.specs.Sized.{sides}
+use Rattle.whole_steps.proofs.Laws.{row-fits}
 use Rattle.whole_steps.specs.GridLaws.{rowsOf, rows-none, rows-more, rows-all}
 use Rattle.whole_steps.specs.Products.{dotPlus}
 use Rattle.whole_steps.specs.Grids.{blank}

@@ -4,18 +4,19 @@ use native.Mathlib.Omega.{arith}
 use lib.ListN.{getD}
 use borrow.Author.Needs.{needs}
 use Rattle.numbers.specs.Lines.{line-same}
-use Rattle.numbers.specs.Lists.{line, line-none}
+use Rattle.numbers.specs.Lists.{line, line-none, line-step}
 use Rattle.kinds.specs.Modulo.{modZ}
 use Rattle.kinds.specs.Values.{value}
+use Rattle.sheet.specs.Sizes.{matrixPlaces}
 use Rattle.registers.specs.Registers.{placeOf}
-use Rattle.whole_steps.proofs.Laws.{sides, next}
+use Rattle.registers.specs.Sized.{sides}
 use Rattle.whole_steps.specs.Products.{residuesOf}
 use Rattle.whole_steps.specs.Grids.{blank}
 use Rattle.whole_steps.proofs.products.residues.Statement.{statement}
 use Rattle.whole_steps.proofs.products.residues.Tie as tie
 
 abbrev Inv-loop : tie.InvT-loop
-Inv-loop elements source count first kind out₀ e₀ out e = (e ≤ count) × (count ≤ 256) × (out ≡ line blank 0 (λ (k : ℕ). modZ (value kind (getD elements (first + k) 0)) (2 ^ 32)) e)
+Inv-loop elements source count first kind out₀ e₀ out e = (e ≤ count) × (count ≤ matrixPlaces) × (out ≡ line blank 0 (λ (k : ℕ). modZ (value kind (getD elements (first + k) 0)) (2 ^ 32)) e)
 
 abbrev μ-loop : tie.MeasureT-loop
 μ-loop elements source count first kind out₀ e₀ out e = count - e
@@ -63,7 +64,7 @@ loop-again : tie.Need-loop-again Inv-loop μ-loop
 loop-again c = (
   search needs,
   c .before .before .before .loop .inv .1,
-  next _ _ _ (c .before .before .before .loop .inv .2) (c .residue .ensures ∙ ap (λ (x : ℕ). modZ (value (c .before .before .before .before .before .before .before .before .args .t .kind) x) (2 ^ 32)) (c .before .at .ensures)),
+  line-step _ _ _ (c .before .before .before .loop .inv .2) (c .residue .ensures ∙ ap (λ (x : ℕ). modZ (value (c .before .before .before .before .before .before .before .before .args .t .kind) x) (2 ^ 32)) (c .before .at .ensures)),
 )
 
 returns : tie.Need-returns Inv-loop μ-loop

@@ -3,7 +3,7 @@ use native.Mathlib.Nat.{mul-le-mul}
 use native.Mathlib.Omega.{arith}
 use borrow.Author.Needs.{needs}
 use Rattle.whole_steps.proofs.Folding.{fold-part}
-use Rattle.whole_steps.proofs.Laws.{sides}
+use Rattle.registers.specs.Sized.{sides}
 use Rattle.whole_steps.specs.GridLaws.{block-same}
 use Rattle.sheet.specs.declared.ReduceMode.the-variants.{Both}
 use Rattle.whole_steps.proofs.reduces.both_block.Statement.{statement}

@@ -2,8 +2,8 @@ use mathlib.Core.Path.{_≡_, sym}
 use Prim.Native.Nat.{ℕ, _≤_, _-_, _+_, _*_}
 use native.Mathlib.Omega.{arith}
 use borrow.Author.Needs.{needs}
-use Rattle.numbers.specs.Lists.{line, line-none}
-use Rattle.whole_steps.proofs.Laws.{next, sides}
+use Rattle.numbers.specs.Lists.{line, line-none, line-step}
+use Rattle.registers.specs.Sized.{sides}
 use Rattle.whole_steps.specs.Parts.{foldAt, noFolds, folds}
 use Rattle.whole_steps.proofs.reduces.fold_parts.Statement.{statement}
 use Rattle.whole_steps.proofs.reduces.fold_parts.Tie as tie
@@ -41,7 +41,7 @@ loop-less : tie.Need-loop-less Inv-loop μ-loop
 loop-less c = search needs
 
 loop-again : tie.Need-loop-again Inv-loop μ-loop
-loop-again c = (search needs, next _ _ _ (c .before .before .loop .inv .1) (c .fold .ensures))
+loop-again c = (search needs, line-step _ _ _ (c .before .before .loop .inv .1) (c .fold .ensures))
 
 returns : tie.Need-returns Inv-loop μ-loop
 unfolding folds

@@ -3,7 +3,8 @@ use Prim.Native.Nat.{ℕ, _+_, _-_, _*_, _≤_}
 use native.Mathlib.Omega.{arith}
 use borrow.Author.Needs.{needs}
 use Rattle.whole_steps.proofs.Folding.{quad-part}
-use Rattle.whole_steps.proofs.Laws.{sides, row-fits}
+use Rattle.registers.specs.Sized.{sides}
+use Rattle.whole_steps.proofs.Laws.{row-fits}
 use Rattle.whole_steps.specs.GridLaws.{rowsOf, rows-none, rows-more, rows-all, block-same}
 use Rattle.whole_steps.specs.Parts.{quad}
 use Rattle.whole_steps.specs.Grids.{blank}
