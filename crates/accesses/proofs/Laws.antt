@@ -18,8 +18,8 @@ use Rattle.outcomes.specs.declared.Outcome.the-variants.{Skipped, Filled, Disca
 use Rattle.addressing.specs.declared.Access.{Access}
 use Rattle.addressing.specs.declared.Located.{Located}
 use Rattle.addressing.specs.Rules.{elementsOf}
-use Rattle.stops.specs.Stops.{stopAt}
-use Rattle.stops.specs.declared.Stop.{Stop}
+use Rattle.refusals.specs.Refusals.{stopAt}
+use Rattle.refusals.specs.declared.Stop.{Stop}
 use Rattle.accesses.specs.declared.Tally.{Tally}
 use Rattle.accesses.specs.Refusals.{elementOutcome, firstRefused, sameByte, sameAt, meets, clashFrom, apart, clashRefusal, elementsRefusal, placedOne, placedCount, checkedBy, checked, misplaced, ranksDiffer, storeBlocked, accessRefusal, checkedAccess}
 use Rattle.accesses.specs.Entries.{Near, entryOf, hasByte, hits, sameEntry, Surveyed}

@@ -14,7 +14,7 @@ use Rattle.addressing.specs.declared.Plan.{Plan}
 use Rattle.addressing.specs.Rules.{elementsOf, lowBits}
 use Rattle.addressing.specs.Valid.{SizedAccess, Planned, plan-fill}
 use Rattle.addressing.specs.Sound.{Sound}
-use Rattle.stops.specs.declared.Stop.{Stop}
+use Rattle.refusals.specs.declared.Stop.{Stop}
 use Rattle.accesses.specs.declared.Tally.{Tally}
 use Rattle.accesses.specs.Refusals.{elementOutcome, firstRefused, accessRefusal}
 use Rattle.accesses.specs.Entries.{Near, entryOf, entryOutcome, Surveyed}

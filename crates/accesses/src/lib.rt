@@ -3,7 +3,7 @@ ghost use mathlib.Core.Path.{_≡_};
 ghost use mathlib.Core.Bool.{true};
 ghost use Prim.Native.Nat.{_≤_, _<_};
 ghost use lib.ListN.{length};
-ghost use Rattle.stops.specs.Stops.{stopAt};
+ghost use Rattle.refusals.specs.Refusals.{stopAt};
 ghost use Rattle.sheet.specs.Layouts.{theDimension, layoutOk};
 ghost use Rattle.addressing.specs.Rules.{elementsOf};
 ghost use Rattle.addressing.specs.Valid.{SizedAccess, Planned};

@@ -12,7 +12,7 @@ use lib.ListN.{getD, set}
 use mathlib.Core.List.{List, [], _∷_}
 use borrow.Author.Tests.{lt-ltb, le-ltb, le-leb, lt-leb, ltb-false, leb-true, leb-false, eqb-false}
 use Rattle.numbers.specs.Choice.{pick, pick-case}
-use Rattle.sheet.specs.Facts.{InSize, layout-span, view-most, view-size}
+use Rattle.sheet.specs.Laws.Facts.{InSize, layout-span, view-most, view-size}
 use Rattle.sheet.specs.Views.{theViewDimension}
 use Rattle.addressing.specs.Valid.{ValidAccess, Planned}
 use Rattle.addressing.specs.Remainder.{remainder-lt}

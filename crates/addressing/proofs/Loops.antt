@@ -11,7 +11,7 @@ use lib.ListN.{length, getD, set, replicate, length-set}
 use lib.Seq.{getD-set-same, getD-set-other}
 use Rattle.numbers.specs.Choice.{pick, pick-case}
 use Rattle.numbers.specs.Places.{by-place, none-all}
-use Rattle.sheet.specs.Facts.{InSize, layout-most}
+use Rattle.sheet.specs.Laws.Facts.{InSize, layout-most}
 use Rattle.sheet.specs.Layouts.{theDimension, layoutOk}
 use Rattle.sheet.specs.declared.ClampMode.{ClampMode}
 use Rattle.sheet.specs.declared.ClampMode.the-variants.{Undefined, Constant, ClampToEdge, Repeat, MirrorRepeat}

@@ -3,7 +3,7 @@ ghost use mathlib.Core.Path.{_≡_};
 ghost use mathlib.Core.Bool.{true};
 ghost use Prim.Native.Nat.{_*_, _/_, _^_, _<_};
 ghost use Rattle.sheet.specs.Layouts.{layoutOk};
-ghost use Rattle.sheet.specs.Facts.{InSize};
+ghost use Rattle.sheet.specs.Laws.Facts.{InSize};
 ghost use Rattle.addressing.specs.Capacities.{rankPlaces};
 ghost use Rattle.addressing.specs.Plans.{dimensionNumbers, dimensionPut, layoutNumbers, dimensionAt};
 ghost use Rattle.addressing.specs.Rules.{spanCoordinates, part, tensorIndex};

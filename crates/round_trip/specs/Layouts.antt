@@ -15,7 +15,7 @@ use Rattle.numbers.specs.Places.{places-given, places-past, places-count, place
 use Rattle.sheet.specs.Sizes.{rankOk}
 use Rattle.sheet.specs.Codes.{clampMode, clampCode, undefined}
 use Rattle.sheet.specs.Layouts.{noDimension, noLayout, theDimension, dimensionOk, dimensionUnused, dimensionAtOk, dimensionsOk, layoutOk, layoutUnused}
-use Rattle.sheet.specs.Facts.{layout-some, layout-most}
+use Rattle.sheet.specs.Laws.Facts.{layout-some, layout-most}
 use Rattle.sheet.specs.declared.ClampMode.{ClampMode}
 use Rattle.sheet.specs.declared.ClampMode.the-variants.{Undefined, Constant, ClampToEdge, Repeat, MirrorRepeat}
 use Rattle.sheet.specs.declared.Dimension.{Dimension}

@@ -15,7 +15,7 @@ use Rattle.sheet.specs.Layouts.{theLayout, layoutOk, layoutUnused}
 use Rattle.sheet.specs.Views.{theView, viewOk, viewUnused}
 use Rattle.sheet.specs.Steps.{noCell, theStep, stepOk, stepUnused}
 use Rattle.sheet.specs.Sheets.{layoutAtOk, viewAtOk, stepAtOk, countsOk, writable}
-use Rattle.sheet.specs.Facts.{layout-most, view-most}
+use Rattle.sheet.specs.Laws.Facts.{layout-most, view-most}
 use Rattle.sheet.specs.declared.Layout.{Layout}
 use Rattle.sheet.specs.declared.View.{View}
 use Rattle.sheet.specs.declared.Step.{Step}

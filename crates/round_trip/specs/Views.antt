@@ -15,7 +15,7 @@ use Rattle.numbers.specs.Joins.{length-each}
 use Rattle.numbers.specs.Places.{places-given, places-past, places-count, places-are, places-all, Held, held}
 use Rattle.sheet.specs.Sizes.{rankOk, sizeOk}
 use Rattle.sheet.specs.Views.{noViewDimension, noClip, noView, theViewDimension, entryOk, permutationOk, viewDimensionUnused, viewDimensionAtOk, viewDimensionsOk, sizedRank, viewOk, clipUnused, viewUnused}
-use Rattle.sheet.specs.Facts.{view-some, view-most}
+use Rattle.sheet.specs.Laws.Facts.{view-some, view-most}
 use Rattle.sheet.specs.declared.ViewDimension.{ViewDimension}
 use Rattle.sheet.specs.declared.Clip.{Clip}
 use Rattle.sheet.specs.declared.View.{View}

@@ -16,7 +16,7 @@ use Rattle.sheet.specs.Codes.{clampCode}
 use Rattle.sheet.specs.Layouts.{theDimension, theLayout, dimensionOk, layoutOk}
 use Rattle.sheet.specs.Views.{theViewDimension, theView, sizedRank, viewOk}
 use Rattle.sheet.specs.Steps.{theStep, fillOk, loadOk, storeOk, reduceOk, transposeOk, multiplyOk, wholeOk, stepOk}
-use Rattle.sheet.specs.Facts.{layout-most, view-most, view-entry}
+use Rattle.sheet.specs.Laws.Facts.{layout-most, view-most, view-entry}
 use Rattle.sheet.specs.declared.Dimension.{Dimension}
 use Rattle.sheet.specs.declared.Layout.{Layout}
 use Rattle.sheet.specs.declared.ViewDimension.{ViewDimension}

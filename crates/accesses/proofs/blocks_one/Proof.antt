@@ -6,7 +6,7 @@ use lib.Dec.{leb}
 use borrow.Author.Tests.{le-leb, lt-leb}
 use borrow.Author.Needs.{needs}
 use Rattle.numbers.specs.All.{all, all-none, all-more, all-false}
-use Rattle.sheet.specs.Facts.{layout-most}
+use Rattle.sheet.specs.Laws.Facts.{layout-most}
 use Rattle.sheet.specs.Layouts.{theDimension}
 use Rattle.accesses.specs.Refusals.{blocksOne}
 use Rattle.accesses.proofs.blocks_one.Statement.{statement}

@@ -2,7 +2,7 @@ use Rattle.addressing.proofs.Loops.{same-dimension, same-span, same-par
 use native.Mathlib.Nat.{mod-lt}
 use Rattle.addressing.proofs.Loops.{Summing, summing-start, summing-more, summing-stop, summing-end, next-stop}
 use Rattle.addressing.specs.declared.Clamped.the-variants.{Refused, Discarded, Filled}
-use Rattle.sheet.specs.Facts.{layout-most, layout-size, layout-block, layout-span}
+use Rattle.sheet.specs.Laws.Facts.{layout-most, layout-size, layout-block, layout-span}
 use Rattle.addressing.specs.Capacities.{rankPlaces}
 use mathlib.Core.Path.{refl, sym, _∙_}
 use Prim.Native.Nat.{_-_, _^_, _≤_, _<_}

@@ -1,6 +1,6 @@
 use Rattle.addressing.proofs.Loops.{Weighing, weighing-start, weighing-more, weighing-end, product-most}
 use Rattle.addressing.specs.Rules.{viewIndex, viewCoordinates}
-use Rattle.sheet.specs.Facts.{view-most, view-entry, view-apart}
+use Rattle.sheet.specs.Laws.Facts.{view-most, view-entry, view-apart}
 use lib.ListN.{getD}
 use mathlib.Core.Path.{_∙_}
 use Prim.Native.Nat.{_-_, _*_, _^_, _≤_}
