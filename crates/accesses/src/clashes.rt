@@ -5,8 +5,8 @@ ghost use Rattle.addressing.specs.Capacities.{matrixPlaces};
 ghost use Rattle.accesses.specs.Refusals.{clashFrom, apart};
 ghost use Rattle.accesses.specs.Entries.{hasByte, hits, sameEntry};
 ghost use Rattle.accesses.specs.Marks.{noMarks, fresh, withMark, withoutMarks, Clear};
-use super::ELEMENTS;
 use super::FILLED;
+use sheet::sizes::PLACES;
 
 // A mark for each of the 65,536 bytes of a memory, so many in a word.
 const WORD: u32 = 32;
@@ -55,7 +55,7 @@ fn unmark(marks: &mut [u32; MARKS], x: u32)
 }
 
 // Marks the bytes of `count` elements, up to the first that has a mark. The answer: none had.
-fn mark_all(marks: &mut [u32; MARKS], entries: &[u32; ELEMENTS], count: usize) -> bool
+fn mark_all(marks: &mut [u32; MARKS], entries: &[u32; PLACES], count: usize) -> bool
     requires { ⌜ (now marks ≡ noMarks) × (count ≤ matrixPlaces) ⌝ }
     ensures { λ r. ⌜ (r ≡ apart (sameEntry (now (entries .entry))) count) × Clear (now (entries .entry)) 0 count (now (marks .exit)) ⌝ }
 {
@@ -69,7 +69,7 @@ fn mark_all(marks: &mut [u32; MARKS], entries: &[u32; ELEMENTS], count: usize) -
     true
 }
 
-fn unmark_all(marks: &mut [u32; MARKS], entries: &[u32; ELEMENTS], count: usize)
+fn unmark_all(marks: &mut [u32; MARKS], entries: &[u32; PLACES], count: usize)
     requires { ⌜ Clear (now entries) 0 count (now marks) × (count ≤ matrixPlaces) ⌝ }
     ensures { λ _. ⌜ now (marks .exit) ≡ noMarks ⌝ }
 {
@@ -81,7 +81,7 @@ fn unmark_all(marks: &mut [u32; MARKS], entries: &[u32; ELEMENTS], count: usize)
 }
 
 // No element has an earlier one's byte. The marks are lent: there are none before and after.
-pub fn bytes_apart(marks: &mut [u32; MARKS], entries: &[u32; ELEMENTS], count: usize) -> bool
+pub fn bytes_apart(marks: &mut [u32; MARKS], entries: &[u32; PLACES], count: usize) -> bool
     requires { ⌜ (now marks ≡ noMarks) × (count ≤ matrixPlaces) ⌝ }
     ensures { λ r. ⌜ (r ≡ apart (sameEntry (now (entries .entry))) count) × (now (marks .exit) ≡ noMarks) ⌝ }
 {
@@ -100,7 +100,7 @@ fn same_byte(y: u32, x: u32) -> bool
 }
 
 // The first of `count` elements that has an earlier one's byte, or the count.
-pub fn first_clash(entries: &[u32; ELEMENTS], count: usize) -> usize
+pub fn first_clash(entries: &[u32; PLACES], count: usize) -> usize
     requires { ⌜ count ≤ matrixPlaces ⌝ }
     ensures { λ r. ⌜ r ≡ clashFrom (sameEntry (now (entries .entry))) 0 count ⌝ }
 {

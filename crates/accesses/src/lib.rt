@@ -20,9 +20,7 @@ use clashes::MARKS;
 use outcomes::Outcome;
 use refusals::Stop;
 use sheet::Layout;
-
-// The most elements of a matrix.
-pub const ELEMENTS: usize = 256;
+use sheet::sizes::PLACES;
 
 // The entries of a filled element and of a discarded one, past those of the 65,536 bytes.
 const FILLED: u32 = 65_537;
@@ -39,6 +37,13 @@ pub struct Checked {
 pub struct Tally {
     pub stop: Stop,
     pub placed: usize,
+}
+
+// Room for a survey's entries.
+pub fn no_entries() -> [u32; PLACES]
+    ensures { λ r. ⌜ length r ≡ matrixPlaces ⌝ }
+{
+    [0u32; PLACES]
 }
 
 // An element's entry: 0 for a skipped one, one more than its byte for one that has a byte, and two numbers past all bytes.
@@ -83,7 +88,7 @@ fn placed_one(o: Outcome) -> usize
 }
 
 // The elements in order, up to the first that is refused, and each one's entry.
-pub fn survey(entries: &mut [u32; ELEMENTS], p: Plan) -> Tally
+pub fn survey(entries: &mut [u32; PLACES], p: Plan) -> Tally
     requires { ⌜ Planned p × (length (now entries) ≡ matrixPlaces) ⌝ }
     ensures { λ r. ⌜ Surveyed (elementOutcome (p .access)) (elementsOf (p .access)) r (now (entries .exit)) ⌝ }
 {
@@ -142,7 +147,7 @@ fn accept(placed: usize) -> Checked
 }
 
 // Refusals 12 to 15. The search of 15 is entered where a test that goes once over the elements found a byte twice.
-fn check_elements(entries: &mut [u32; ELEMENTS], marks: &mut [u32; MARKS], p: Plan) -> Checked
+fn check_elements(entries: &mut [u32; PLACES], marks: &mut [u32; MARKS], p: Plan) -> Checked
     requires { ⌜ Planned p × Scratch (now entries) (now marks) ⌝ }
     ensures { λ _. ⌜ Scratch (now (entries .exit)) (now (marks .exit)) ⌝ }
     ensures { λ r. ⌜ r ≡ checked (elementOutcome (p .access)) (elementsOf (p .access)) (elementsRefusal (p .access .load) (elementOutcome (p .access)) (elementsOf (p .access))) ⌝ }
@@ -215,7 +220,7 @@ fn store_blocked(a: Access) -> bool
 }
 
 // Refusals 9 to 15 of a load or a store, in order, and how many of its elements have a byte. The entries and the marks are lent room.
-pub fn check_access(entries: &mut [u32; ELEMENTS], marks: &mut [u32; MARKS], a: Access) -> Checked
+pub fn check_access(entries: &mut [u32; PLACES], marks: &mut [u32; MARKS], a: Access) -> Checked
     requires { ⌜ SizedAccess a × Scratch (now entries) (now marks) ⌝ }
     ensures { λ _. ⌜ Scratch (now (entries .exit)) (now (marks .exit)) ⌝ }
     ensures { λ r. ⌜ r ≡ checkedAccess a ⌝ }

@@ -2,7 +2,7 @@
 use Prim.Native.Nat.{ℕ}
 use mathlib.Core.Path.{_≡_}
 use lib.ListN.{length}
-use Rattle.sheet.specs.Sizes.{registerCount}
+use Rattle.sheet.specs.Sizes.{registerCount, elementPlaces}
 use Rattle.sheet.specs.Steps.{theStep}
 use Rattle.sheet.specs.declared.Tensors.{Tensors}
 use Rattle.sheet.specs.declared.Sheet.{Sheet}
@@ -26,8 +26,8 @@ stepOn sh k m = checkOn (sh .edition) (sh .tensors) (theStep (sh .step) k) m
 abbrev pub AcceptedStep : Sheet → ℕ → Machine → Type 0
 AcceptedStep sh k m = Accepted (sh .edition) (sh .tensors) (theStep (sh .step) k) m
 
--- four registers of 256 places, with types within Sizes
+-- the registers and their places, with types within Sizes
 pub record Formed (m : Machine) : Type 0 where
   pub registers : length (m .registers .types) ≡ registerCount
   pub sized : Sized (m .registers .types)
-  pub places : length (m .registers .elements) ≡ 1024
+  pub places : length (m .registers .elements) ≡ elementPlaces

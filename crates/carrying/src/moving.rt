@@ -3,7 +3,7 @@ ghost use mathlib.Core.Path.{_≡_};
 ghost use mathlib.Core.Bool.{true, false};
 ghost use Prim.Native.Nat.{_≤_, _<_, _^_};
 ghost use lib.ListN.{length};
-ghost use Rattle.sheet.specs.Sizes.{registerCount};
+ghost use Rattle.sheet.specs.Sizes.{registerCount, matrixPlaces};
 ghost use Rattle.sheet.specs.Steps.{windowOk};
 ghost use Rattle.sheet.specs.Laws.Within.{TensorsWithin};
 ghost use Rattle.registers.specs.Sized.{Sized};
@@ -13,19 +13,20 @@ ghost use Rattle.checking.specs.Steps.{accessOf};
 ghost use Rattle.checking.specs.Checking.{memoryLimit};
 ghost use Rattle.checking.specs.Clear.{Clear};
 ghost use Rattle.carrying.specs.Steps.{machineOf, loadDone, storeDone};
-use accesses::ELEMENTS;
 use checking::windows;
 use registers::MatrixType;
 use sheet::Tensors;
 use sheet::Window;
+use sheet::sizes::ELEMENTS;
+use sheet::sizes::PLACES;
 use sheet::sizes::REGISTERS;
 
 // The elements of a load into a register that its object was copied to. The answer is the count with each element that had a byte.
 pub fn perform_load(
-    entries: &mut [u32; ELEMENTS],
+    entries: &mut [u32; PLACES],
     tensors: Tensors,
     types: [MatrixType; REGISTERS],
-    elements: &mut [u32; 1024],
+    elements: &mut [u32; ELEMENTS],
     memory: &[u8],
     register: u8,
     window: Window,
@@ -33,7 +34,8 @@ pub fn perform_load(
 ) -> usize
     requires { ⌜ TensorsWithin tensors × Sized types × (register < registerCount) × (length (now memory) ≤ memoryLimit) × (count < 2 ^ 31) ⌝ }
     requires { ⌜ Clear (theType types register) (accessOf tensors true window (theType types register) (length (now memory))) ⌝ }
-    requires { ⌜ windowOk (tensors .layouts) (tensors .views) window ≡ true ⌝ }
+    requires { ⌜ (windowOk (tensors .layouts) (tensors .views) window ≡ true) × (length (now entries) ≡ matrixPlaces) ⌝ }
+    ensures { λ _. ⌜ length (now (entries .exit)) ≡ matrixPlaces ⌝ }
     ensures { λ r. ⌜ machineOf types (state (now (elements .exit)) (now (memory .entry)) r) ≡ loadDone tensors register window (machineOf types (state (now (elements .entry)) (now (memory .entry)) count)) ⌝ }
 {
     let t = registers::the_type(types, register);
@@ -43,10 +45,10 @@ pub fn perform_load(
 
 // The elements of a store. The answer is the count with each element that had a byte.
 pub fn perform_store(
-    entries: &mut [u32; ELEMENTS],
+    entries: &mut [u32; PLACES],
     tensors: Tensors,
     types: [MatrixType; REGISTERS],
-    elements: &[u32; 1024],
+    elements: &[u32; ELEMENTS],
     memory: &mut [u8],
     register: u8,
     window: Window,
@@ -54,7 +56,8 @@ pub fn perform_store(
 ) -> usize
     requires { ⌜ TensorsWithin tensors × Sized types × (register < registerCount) × (length (now memory) ≤ memoryLimit) × (count < 2 ^ 31) ⌝ }
     requires { ⌜ Clear (theType types register) (accessOf tensors false window (theType types register) (length (now memory))) ⌝ }
-    requires { ⌜ windowOk (tensors .layouts) (tensors .views) window ≡ true ⌝ }
+    requires { ⌜ (windowOk (tensors .layouts) (tensors .views) window ≡ true) × (length (now entries) ≡ matrixPlaces) ⌝ }
+    ensures { λ _. ⌜ length (now (entries .exit)) ≡ matrixPlaces ⌝ }
     ensures { λ r. ⌜ machineOf types (state (now (elements .entry)) (now (memory .exit)) r) ≡ storeDone tensors register window (machineOf types (state (now (elements .entry)) (now (memory .entry)) count)) ⌝ }
 {
     let t = registers::the_type(types, register);

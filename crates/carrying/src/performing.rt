@@ -3,7 +3,7 @@ ghost use mathlib.Core.Path.{_≡_};
 ghost use mathlib.Core.Bool.{true};
 ghost use Prim.Native.Nat.{ℕ, _≤_, _<_, _^_};
 ghost use lib.ListN.{length};
-ghost use Rattle.sheet.specs.Sizes.{registerCount};
+ghost use Rattle.sheet.specs.Sizes.{registerCount, matrixPlaces};
 ghost use Rattle.sheet.specs.Steps.{objectOk, stepOk};
 ghost use Rattle.sheet.specs.Laws.Within.{TensorsWithin, Within};
 ghost use Rattle.registers.specs.Registers.{copied};
@@ -15,19 +15,20 @@ ghost use Rattle.carrying.specs.Machines.{Accepted, Formed};
 use super::Performed;
 use super::Stepped;
 use super::moving;
-use accesses::ELEMENTS;
 use registers::MatrixType;
 use registers::Registers;
 use sheet::Object;
 use sheet::Sheet;
 use sheet::Step;
 use sheet::Tensors;
+use sheet::sizes::ELEMENTS;
+use sheet::sizes::PLACES;
 use sheet::sizes::REGISTERS;
 
 // A register made equal to another, type and elements. The answer is the types.
 fn copy_register(
     types: [MatrixType; REGISTERS],
-    elements: &mut [u32; 1024],
+    elements: &mut [u32; ELEMENTS],
     register: u8,
     object: u8,
 ) -> [MatrixType; REGISTERS]
@@ -42,7 +43,7 @@ fn copy_register(
 // A load first gives its register the object. The answer is the types.
 fn with_object(
     types: [MatrixType; REGISTERS],
-    elements: &mut [u32; 1024],
+    elements: &mut [u32; ELEMENTS],
     register: u8,
     object: Object,
 ) -> [MatrixType; REGISTERS]
@@ -56,16 +57,17 @@ fn with_object(
 }
 
 fn perform_step(
-    entries: &mut [u32; ELEMENTS],
+    entries: &mut [u32; PLACES],
     tensors: Tensors,
     types: [MatrixType; REGISTERS],
-    elements: &mut [u32; 1024],
+    elements: &mut [u32; ELEMENTS],
     memory: &mut [u8],
     step: Step,
     count: usize,
 ) -> Stepped
-    requires { ⌜ TensorsWithin tensors × (length (now memory) ≤ memoryLimit) × (count < 2 ^ 31) × Formed (machineOf types (state (now elements) (now memory) count)) ⌝ }
+    requires { ⌜ TensorsWithin tensors × (length (now memory) ≤ memoryLimit) × (count < 2 ^ 31) × (length (now entries) ≡ matrixPlaces) × Formed (machineOf types (state (now elements) (now memory) count)) ⌝ }
     requires { ⌜ ((edition : ℕ) × (stepOk edition (tensors .layouts) (tensors .views) step ≡ true) × Accepted edition tensors step (machineOf types (state (now elements) (now memory) count))) ⌝ }
+    ensures { λ _. ⌜ length (now (entries .exit)) ≡ matrixPlaces ⌝ }
     ensures { λ r. ⌜ machineOf (r .types) (state (now (elements .exit)) (now (memory .exit)) (r .count)) ≡ performedStep tensors step (machineOf types (state (now (elements .entry)) (now (memory .entry)) count)) ⌝ }
 {
     match step {
@@ -125,7 +127,7 @@ pub fn perform(sheet: Sheet, memory: &mut [u8]) -> Performed
     let tensors = sheet.tensors;
     let steps = sheet.steps;
     let empty = registers::empty_registers();
-    let mut entries = [0u32; ELEMENTS];
+    let mut entries = accesses::no_entries();
     let mut types = empty.types;
     let mut elements = empty.elements;
     let mut count: usize = 0;

@@ -6,13 +6,12 @@ ghost use Rattle.sheet.specs.Steps.{windowOk, stepOk};
 ghost use Rattle.sheet.specs.Laws.Within.{TensorsWithin, Within};
 ghost use Rattle.registers.specs.Sized.{Sized, SizedType};
 ghost use Rattle.whole_steps.specs.Within.{WholeOk};
-ghost use Rattle.accesses.specs.Marks.{noMarks};
+ghost use Rattle.accesses.specs.Marks.{Scratch};
 ghost use Rattle.checking.specs.Steps.{accessOf, objectRegister, stepCheck, accessCheck, wholeCheck, stepTypes, checkedStep};
 ghost use Rattle.checking.specs.Checking.{checkRefused, checked, memoryLimit};
 use super::CheckAnswer;
 use super::StepCheck;
 use super::windows;
-use accesses::ELEMENTS;
 use accesses::clashes;
 use accesses::clashes::MARKS;
 use refusals::EMPTY_REGISTER;
@@ -24,6 +23,7 @@ use sheet::Step;
 use sheet::Tensors;
 use sheet::WholeStep;
 use sheet::Window;
+use sheet::sizes::PLACES;
 use sheet::sizes::REGISTERS;
 
 pub fn check_refused(refusal: Refusal) -> CheckAnswer
@@ -45,7 +45,7 @@ fn plain_check(number: u8, types: [MatrixType; REGISTERS]) -> StepCheck
 
 // A load or a store of a matrix of type t, with the types before and after it.
 fn check_window(
-    entries: &mut [u32; ELEMENTS],
+    entries: &mut [u32; PLACES],
     marks: &mut [u32; MARKS],
     tensors: Tensors,
     load: bool,
@@ -56,8 +56,8 @@ fn check_window(
     memory: usize,
 ) -> StepCheck
     requires { ⌜ TensorsWithin tensors × (windowOk (tensors .layouts) (tensors .views) window ≡ true) × (memory ≤ memoryLimit) ⌝ }
-    requires { ⌜ SizedType t × (now marks ≡ noMarks) ⌝ }
-    ensures { λ _. ⌜ now (marks .exit) ≡ noMarks ⌝ }
+    requires { ⌜ SizedType t × Scratch (now entries) (now marks) ⌝ }
+    ensures { λ _. ⌜ Scratch (now (entries .exit)) (now (marks .exit)) ⌝ }
     ensures { λ r. ⌜ r ≡ accessCheck before after t (accessOf tensors load window t memory) ⌝ }
 {
     if registers::is_empty(t) {
@@ -82,7 +82,7 @@ fn check_whole(
     requires { ⌜ WholeOk step ⌝ }
     ensures { λ r. ⌜ r ≡ wholeCheck edition types memory step ⌝ }
 {
-    let stop = whole_steps::refusals::whole_refusal(edition, types, memory, step);
+    let stop = whole_steps::stops::whole_refusal(edition, types, memory, step);
     let after = whole_steps::types::whole_types(types, step);
     StepCheck {
         stop,
@@ -101,9 +101,9 @@ fn object_register(register: u8, object: Object) -> u8
     }
 }
 
-// The arrays that are lent are room to work in; the marks are clear between uses.
+// The entries and the marks are lent room.
 pub fn check_step(
-    entries: &mut [u32; ELEMENTS],
+    entries: &mut [u32; PLACES],
     marks: &mut [u32; MARKS],
     edition: u8,
     tensors: Tensors,
@@ -111,8 +111,8 @@ pub fn check_step(
     memory: usize,
     step: Step,
 ) -> StepCheck
-    requires { ⌜ TensorsWithin tensors × (memory ≤ memoryLimit) × Sized types × (stepOk edition (tensors .layouts) (tensors .views) step ≡ true) × (now marks ≡ noMarks) ⌝ }
-    ensures { λ _. ⌜ now (marks .exit) ≡ noMarks ⌝ }
+    requires { ⌜ TensorsWithin tensors × (memory ≤ memoryLimit) × Sized types × (stepOk edition (tensors .layouts) (tensors .views) step ≡ true) × Scratch (now entries) (now marks) ⌝ }
+    ensures { λ _. ⌜ Scratch (now (entries .exit)) (now (marks .exit)) ⌝ }
     ensures { λ r. ⌜ r ≡ checkedStep edition tensors types memory step ⌝ }
 {
     match step {
@@ -186,7 +186,7 @@ pub fn check(sheet: Sheet, memory: usize) -> CheckAnswer
     let edition = sheet.edition;
     let tensors = sheet.tensors;
     let steps = sheet.steps;
-    let mut entries = [0u32; ELEMENTS];
+    let mut entries = accesses::no_entries();
     let mut marks = clashes::no_marks();
     let mut types = [none; REGISTERS];
     let mut count: usize = 0;

@@ -25,7 +25,7 @@ use Rattle.round_trip.specs.Sheets.{Within, within, sheet-short}
 use Rattle.round_trip.specs.Growing.{reading}
 use Rattle.round_trip.specs.Theorems.{not-refused, read-within}
 use Rattle.registers.specs.Types.{theType, isEmpty}
-use Rattle.registers.specs.Sized.{SizedType, Sized, sized-empty, sized-room}
+use Rattle.registers.specs.Sized.{SizedType, Sized, sized-empty, sized-places}
 use Rattle.registers.specs.Registers.{emptyRegisters}
 use Rattle.registers.specs.declared.MatrixType.{MatrixType}
 use Rattle.addressing.specs.declared.Access.{Access}
@@ -126,7 +126,7 @@ access-among a rows n =
 
 -- of at most 256
 sized-among : (a : Access) (t : MatrixType) → SizedType t → accessRefusal a (t .rows) (t .columns) .element ≤ 256
-sized-among a t s = omega (arith, access-among a (t .rows) (t .columns), sized-room t s)
+sized-among a t s = omega (arith, access-among a (t .rows) (t .columns), sized-places t s)
 
 step-element : (sh : Sheet) (ts : List MatrixType) (len : ℕ) (step : Step) → Sized ts → checkedStep sh ts len step .stop .element ≤ 256
 unfolding checkedStep loadCheck storeCheck accesses.checked

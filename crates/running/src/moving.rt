@@ -5,7 +5,7 @@ ghost use mathlib.Core.List.{List};
 ghost use Prim.Native.Nat.{ℕ, _+_, _*_, _<_, _≤_};
 ghost use lib.ListN.{length};
 ghost use Rattle.kinds.specs.Laws.{ElementSize};
-ghost use Rattle.registers.specs.Registers.{room};
+ghost use Rattle.sheet.specs.Sizes.{matrixPlaces};
 ghost use Rattle.registers.specs.Sized.{Sized};
 ghost use Rattle.registers.specs.Types.{theType};
 ghost use Rattle.transfers.specs.Acts.{state};
@@ -34,7 +34,7 @@ fn take_elements(
     up: usize,
     down: usize,
 )
-    requires { ⌜ ElementSize size × (register < 4) × (first + count ≤ room) × Bytes byte up down ⌝ }
+    requires { ⌜ ElementSize size × (register < 4) × (first + count ≤ matrixPlaces) × Bytes byte up down ⌝ }
     requires { ⌜ bytesInside size (length (now memory)) count byte up down ≡ true ⌝ }
     ensures { λ _. ⌜ ((n : ℕ) → state (now (elements .exit)) (now (memory .entry)) (n + count) ≡ inOrder (taking size register first byte up down) count (state (now (elements .entry)) (now (memory .entry)) n)) ⌝ }
 {
@@ -58,7 +58,7 @@ fn put_elements(
     up: usize,
     down: usize,
 )
-    requires { ⌜ ElementSize size × (register < 4) × (first + count ≤ room) × Bytes byte up down ⌝ }
+    requires { ⌜ ElementSize size × (register < 4) × (first + count ≤ matrixPlaces) × Bytes byte up down ⌝ }
     requires { ⌜ bytesInside size (length (now memory)) count byte up down ≡ true ⌝ }
     ensures { λ _. ⌜ ((n : ℕ) → state (now (elements .entry)) (now (memory .exit)) (n + count) ≡ inOrder (putting size register first byte up down) count (state (now (elements .entry)) (now (memory .entry)) n)) ⌝ }
 {
@@ -72,7 +72,7 @@ fn put_elements(
 }
 
 fn fill_elements(elements: &mut [u32; 1024], register: u8, first: usize, count: usize, value: u32)
-    requires { ⌜ (register < 4) × (first + count ≤ room) ⌝ }
+    requires { ⌜ (register < 4) × (first + count ≤ matrixPlaces) ⌝ }
     ensures { λ _. ⌜ ((memory : List ℕ) (n : ℕ) → state (now (elements .exit)) memory n ≡ inOrder (filling register first value) count (state (now (elements .entry)) memory n)) ⌝ }
 {
     let mut i = 0;

@@ -1,26 +1,21 @@
 // Elements between registers and memory.
 ghost use mathlib.Core.Path.{_≡_};
 ghost use Prim.Native.Nat.{_<_, _^_};
-ghost use Rattle.addressing.specs.Capacities.{matrixPlaces};
+ghost use Rattle.sheet.specs.Sizes.{registerCount, matrixPlaces};
 ghost use Rattle.addressing.specs.Valid.{Planned};
 ghost use lib.ListN.{length};
 ghost use Rattle.kinds.specs.Laws.{ElementSize};
-ghost use Rattle.registers.specs.Registers.{room};
 ghost use Rattle.accesses.specs.Refusals.{accessRefusal};
 ghost use Rattle.transfers.specs.Acts.{state, loaded, stored, Inside};
 ghost use Rattle.transfers.specs.Transfers.{loadedElements, storedElements};
-use accesses::ELEMENTS;
 use addressing::Plan;
 use outcomes::Outcome;
-use registers::ROOM;
-use sheet::sizes::REGISTERS;
-
-// The places of all registers.
-pub const PLACES: usize = REGISTERS * ROOM;
+use sheet::sizes::ELEMENTS;
+use sheet::sizes::PLACES;
 
 // One element of a load. The answer is the count, one more where the element had a byte.
 pub fn load_element(
-    elements: &mut [u32; PLACES],
+    elements: &mut [u32; ELEMENTS],
     memory: &[u8],
     size: usize,
     register: u8,
@@ -28,7 +23,7 @@ pub fn load_element(
     o: Outcome,
     count: usize,
 ) -> usize
-    requires { ⌜ (register < 4) × (element < room) × (count < 2 ^ 32) × ElementSize size ⌝ }
+    requires { ⌜ (register < registerCount) × (element < matrixPlaces) × (count < 2 ^ 32) × ElementSize size ⌝ }
     requires { ⌜ Inside size (length (now memory)) o ⌝ }
     ensures { λ r. ⌜ now (elements .exit) ≡ loaded size register element o (state (now (elements .entry)) (now (memory .entry)) count) .elements ⌝ }
     ensures { λ r. ⌜ r ≡ loaded size register element o (state (now (elements .entry)) (now (memory .entry)) count) .count ⌝ }
@@ -50,7 +45,7 @@ pub fn load_element(
 
 // One element of a store. The answer is the count, one more where the element had a byte.
 pub fn store_element(
-    elements: &[u32; PLACES],
+    elements: &[u32; ELEMENTS],
     memory: &mut [u8],
     size: usize,
     register: u8,
@@ -58,7 +53,7 @@ pub fn store_element(
     o: Outcome,
     count: usize,
 ) -> usize
-    requires { ⌜ (register < 4) × (element < room) × (count < 2 ^ 32) × ElementSize size ⌝ }
+    requires { ⌜ (register < registerCount) × (element < matrixPlaces) × (count < 2 ^ 32) × ElementSize size ⌝ }
     requires { ⌜ Inside size (length (now memory)) o ⌝ }
     ensures { λ r. ⌜ now (memory .exit) ≡ stored size register element o (state (now (elements .entry)) (now (memory .entry)) count) .memory ⌝ }
     ensures { λ r. ⌜ r ≡ stored size register element o (state (now (elements .entry)) (now (memory .entry)) count) .count ⌝ }
@@ -77,15 +72,15 @@ pub fn store_element(
 
 // The elements of a load that is not refused. The answer is the count with each element that had a byte. The entries are lent room.
 pub fn load_elements(
-    elements: &mut [u32; PLACES],
+    elements: &mut [u32; ELEMENTS],
     memory: &[u8],
-    entries: &mut [u32; ELEMENTS],
+    entries: &mut [u32; PLACES],
     p: Plan,
     register: u8,
     counted: usize,
 ) -> usize
     requires { ⌜ Planned p × (accessRefusal (p .access) .number ≡ 0) × (p .access .memory ≡ length (now memory)) ⌝ }
-    requires { ⌜ (register < 4) × (counted < 2 ^ 31) × (length (now entries) ≡ matrixPlaces) ⌝ }
+    requires { ⌜ (register < registerCount) × (counted < 2 ^ 31) × (length (now entries) ≡ matrixPlaces) ⌝ }
     ensures { λ _. ⌜ length (now (entries .exit)) ≡ matrixPlaces ⌝ }
     ensures { λ r. ⌜ now (elements .exit) ≡ loadedElements (p .access) register (state (now (elements .entry)) (now (memory .entry)) counted) .elements ⌝ }
     ensures { λ r. ⌜ r ≡ loadedElements (p .access) register (state (now (elements .entry)) (now (memory .entry)) counted) .count ⌝ }
@@ -106,15 +101,15 @@ pub fn load_elements(
 
 // The elements of a store that is not refused. The answer is the count with each element that had a byte. The entries are lent room.
 pub fn store_elements(
-    elements: &[u32; PLACES],
+    elements: &[u32; ELEMENTS],
     memory: &mut [u8],
-    entries: &mut [u32; ELEMENTS],
+    entries: &mut [u32; PLACES],
     p: Plan,
     register: u8,
     counted: usize,
 ) -> usize
     requires { ⌜ Planned p × (accessRefusal (p .access) .number ≡ 0) × (p .access .memory ≡ length (now memory)) ⌝ }
-    requires { ⌜ (register < 4) × (counted < 2 ^ 31) × (length (now entries) ≡ matrixPlaces) ⌝ }
+    requires { ⌜ (register < registerCount) × (counted < 2 ^ 31) × (length (now entries) ≡ matrixPlaces) ⌝ }
     ensures { λ _. ⌜ length (now (entries .exit)) ≡ matrixPlaces ⌝ }
     ensures { λ r. ⌜ now (memory .exit) ≡ storedElements (p .access) register (state (now (elements .entry)) (now (memory .entry)) counted) .memory ⌝ }
     ensures { λ r. ⌜ r ≡ storedElements (p .access) register (state (now (elements .entry)) (now (memory .entry)) counted) .count ⌝ }

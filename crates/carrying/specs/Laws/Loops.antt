@@ -6,7 +6,7 @@ use mathlib.Core.List.{List}
 use native.Mathlib.Omega.{arith}
 use lib.ListN.{length}
 use Rattle.sheet.specs.Steps.{theStep}
-use Rattle.sheet.specs.Sizes.{registerCount}
+use Rattle.sheet.specs.Sizes.{registerCount, matrixPlaces}
 use Rattle.sheet.specs.declared.Object.{Object}
 use Rattle.sheet.specs.declared.Window.{Window}
 use Rattle.sheet.specs.declared.Tensors.{Tensors}
@@ -30,7 +30,7 @@ use Rattle.carrying.specs.Laws.Counts.{step-count}
 -- a machine before step k of n more: well formed, few elements counted, the rest accepted, and the rest leaves what the whole sheet leaves
 pub record Ready (n : ℕ) (sh : Sheet) (k : ℕ) (m start : Machine) : Type 0 where
   pub formed : Formed m
-  pub few : m .count ≤ k * 256
+  pub few : m .count ≤ k * matrixPlaces
   pub kept : length (m .memory) ≡ length (start .memory)
   pub counted : ℕ
   pub clear : checkFrom n sh k m counted .refusal .number ≡ 0

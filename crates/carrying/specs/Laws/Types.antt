@@ -9,7 +9,7 @@ use lib.ListN.{length, length-replicate}
 use lib.Seq.{set-getD, getD-set-same}
 use Rattle.numbers.specs.Lists.{length-line}
 use Rattle.sheet.specs.Steps.{theStep, stepOk}
-use Rattle.sheet.specs.Sizes.{registerCount}
+use Rattle.sheet.specs.Sizes.{registerCount, matrixPlaces, elementPlaces}
 use Rattle.sheet.specs.declared.Object.{Object}
 use Rattle.sheet.specs.declared.Object.the-variants.{Kept, Register}
 use Rattle.sheet.specs.declared.Tensors.{Tensors}
@@ -18,7 +18,7 @@ use Rattle.sheet.specs.declared.Step.{Step}
 use Rattle.sheet.specs.declared.Step.the-variants.{Nothing, Load, Store, Whole}
 use Rattle.sheet.specs.Laws.Within.{Within}
 use Rattle.registers.specs.Types.{noType, theType, withType}
-use Rattle.registers.specs.Registers.{room, placeOf, elementOf, emptyRegisters}
+use Rattle.registers.specs.Registers.{placeOf, elementOf, emptyRegisters}
 use Rattle.registers.specs.declared.Registers.{Registers}
 use Rattle.registers.specs.Sized.{sized-empty}
 use Rattle.whole_steps.specs.Whole.{wholeResult}
@@ -44,7 +44,7 @@ module _ (register : ℕ) where
   with-places : (object : Object) (g : Registers) → length (withObject register object g .elements) ≡ length (g .elements)
   unfolding withObject
   with-places Kept g = refl
-  with-places (Register object) g = length-line (g .elements) (placeOf register 0) (elementOf (g .elements) object) room
+  with-places (Register object) g = length-line (g .elements) (placeOf register 0) (elementOf (g .elements) object) matrixPlaces
 
 module _ (register : ℕ) (object : Object) (m : Machine) where
   pub object-types : objectDone register object m .registers .types ≡ withType (m .registers .types) register (theType (m .registers .types) (objectRegister register object))
@@ -90,12 +90,12 @@ step-places tensors (Load register object window) m =
     ∙ object-places register object m
 step-places tensors (Store register window) m =
     ap length (transferred-keeps (λ (s : State). s .elements) _ (stored-elements _ register) _ _ (stateOf m))
-step-places tensors (Whole whole) m = length-line (m .registers .elements) (placeOf (wholeResult whole) 0) _ room
+step-places tensors (Whole whole) m = length-line (m .registers .elements) (placeOf (wholeResult whole) 0) _ matrixPlaces
 
 pub started-formed : (memory : List ℕ) → Formed (started memory)
 unfolding emptyRegisters
 started-formed memory =
-    record { registers = length-replicate registerCount noType; sized = sized-empty; places = length-replicate {A = ℕ} 1024 0 }
+    record { registers = length-replicate registerCount noType; sized = sized-empty; places = length-replicate {A = ℕ} elementPlaces 0 }
 
 pub step-formed : (edition : ℕ) (tensors : Tensors) (step : Step) (m : Machine) (edition′ layouts views : ℕ)
     → stepOk edition′ layouts views step ≡ true → Accepted edition tensors step m → Formed m → Formed (performedStep tensors step m)

@@ -1,6 +1,6 @@
 use Rattle.checking.proofs.Laws.{large, unread, readable, refused-not}
 use Rattle.checking.specs.Checking.{checkRefused, checked}
-use Rattle.round_trip.specs.Theorems.{not-refused, read-within}
+use Rattle.sheet_reader.specs.Laws.Growing.{read-within}
 use Rattle.sheet_reader.specs.declared.ReadAnswer.{ReadAnswer}
 use Rattle.sheet_reader.specs.Reading.{readSheet}
 use denote.Ref.{now}
@@ -40,7 +40,7 @@ check-requires : tie.Need-check-requires
 check-requires c κs = let r = c .before .before .before .before .read-sheet in
     let s = now (c .before .before .before .before .before .before .before .args .sheet) in
     let n : readSheet s .refusal .number ≤ 0 = rw (r .ensures) at (c .before .if2 .left) in
-    (rw (r .ensures) (read-within s _ (not-refused s (omega arith))), c .before .before .before .before .before .if1 .left)
+    (rw (r .ensures) (read-within s (omega arith)), c .before .before .before .before .before .if1 .left)
 
 returns-3 : tie.Need-returns-3
 returns-3 c = let r = c .before .before .before .before .before .read-sheet in

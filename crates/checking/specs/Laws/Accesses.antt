@@ -12,14 +12,16 @@ use Rattle.kinds.specs.Widths.{bytesOf}
 use Rattle.kinds.specs.Laws.{bytes-size, bytes-low, bytes-high}
 use Rattle.refusals.specs.Refusals.{emptyRegister}
 use Rattle.sheet.specs.Steps.{viewingOk, windowOk}
+use Rattle.sheet.specs.Layouts.{theLayout}
 use Rattle.sheet.specs.Views.{viewOk}
+use Rattle.sheet.specs.declared.View.{View}
 use Rattle.sheet.specs.Laws.Within.{TensorsWithin}
 use Rattle.sheet.specs.declared.Viewing.{Viewing}
 use Rattle.sheet.specs.declared.Viewing.the-variants.{Plain, Through}
 use Rattle.sheet.specs.declared.Window.{Window}
 use Rattle.sheet.specs.declared.Tensors.{Tensors}
 use Rattle.registers.specs.Types.{isEmpty}
-use Rattle.registers.specs.Sized.{SizedType, sized-room}
+use Rattle.registers.specs.Sized.{SizedType, sized-places}
 use Rattle.registers.specs.declared.MatrixType.{MatrixType}
 use Rattle.addressing.specs.Valid.{SizedAccess}
 use Rattle.addressing.specs.declared.Access.{Access}
@@ -53,8 +55,16 @@ access-sized tensors w load window ok t s e len m =
       odd = bytes-not-three (t .kind);
       memory = m;
       wide = s .some (omega arith);
-      area = sized-room t s;
+      area = sized-places t s;
     }
+
+-- the same of one made of its parts, as the code makes it
+pub access-made : (tensors : Tensors) → TensorsWithin tensors → (load : Bool) (window : Window) → windowOk (tensors .layouts) (tensors .views) window ≡ true
+    → (t : MatrixType) → SizedType t → isEmpty t ≡ false → (len : ℕ) → len ≤ memoryLimit → {viewed : Bool} {view : View} {size : ℕ}
+    → viewed ≡ isViewed (window .view) → view ≡ viewNamed tensors (window .view) → size ≡ bytesOf (t .kind)
+    → let a : Access = record { load = load; layout = theLayout (tensors .layout) (window .layout); viewed = viewed; view = view; base = window .base; size = size; memory = len; rows = t .rows; columns = t .columns } in
+    (a ≡ accessOf tensors load window t len) × SizedAccess a
+access-made tensors w load window ok t s e len m p q r = rw (p, q, r) (refl, access-sized tensors w load window ok t s e len m)
 
 module _ (before after : List MatrixType) (t : MatrixType) (a : Access) where
   -- a load or a store that is not refused is of a register that is not empty

@@ -19,7 +19,7 @@ pub window-view : (layouts views : ℕ) (w : Window) → windowOk layouts views 
 unfolding windowOk
 window-view layouts views w e = both-right _ _ e
 
-module _ {layouts views register : ℕ} {window : Window} where
+module _ (layouts views register : ℕ) (window : Window) where
   pub store-register : storeOk layouts views register window ≡ true → register < registerCount
   unfolding storeOk
   store-register e = ltb-true register registerCount (both-left _ _ e)
@@ -32,7 +32,7 @@ object-small : (register : ℕ) (object : Object) → register < registerCount �
 object-small register Kept h e = h
 object-small register (Register object) h e = ltb-true object registerCount e
 
-module _ {layouts views register : ℕ} {object : Object} {window : Window} where
+module _ (layouts views register : ℕ) (object : Object) (window : Window) where
   pub load-register : loadOk layouts views register object window ≡ true → register < registerCount
   unfolding loadOk
   load-register e = ltb-true register registerCount (both-left _ _ e)

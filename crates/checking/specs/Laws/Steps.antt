@@ -1,6 +1,6 @@
 -- What the check of a step tells.
 use mathlib.Core.Path.{_≡_, refl, ap}
-use mathlib.Core.Bool.{true}
+use mathlib.Core.Bool.{true, false}
 use mathlib.Core.List.{List}
 use Prim.Native.Nat.{ℕ, _≤_}
 use native.Mathlib.Omega.{arith}
@@ -14,8 +14,8 @@ use Rattle.sheet.specs.declared.Tensors.{Tensors}
 use Rattle.sheet.specs.declared.Step.{Step}
 use Rattle.sheet.specs.declared.Step.the-variants.{Nothing, Load, Store, Whole}
 use Rattle.registers.specs.Types.{theType, isEmpty, withType}
-use Rattle.registers.specs.Registers.{room}
-use Rattle.registers.specs.Sized.{Sized, sized-with, SizedType, sized-room}
+use Rattle.sheet.specs.Sizes.{matrixPlaces}
+use Rattle.registers.specs.Sized.{Sized, sized-with, SizedType, sized-places}
 use Rattle.registers.specs.declared.MatrixType.{MatrixType}
 use Rattle.whole_steps.specs.Whole.{wholeResult}
 use Rattle.whole_steps.specs.Within.{whole-ok, sized-whole}
@@ -72,22 +72,22 @@ checked-most : (f : ℕ → Located) (n : ℕ) (s : Stop) → accesses.checked f
 unfolding accesses.checked
 checked-most f n s = pick-case (λ (x : ℕ). x ≤ n) (eqb (s .number) 0) (placedCount f n) 0 (λ e. placed-most f n) (λ e. omega arith)
 
-moved-most : (before after : List MatrixType) (t : MatrixType) (a : Access) → elementsOf a ≤ room → accessCheck before after t a .placed ≤ room
+moved-most : (before after : List MatrixType) (t : MatrixType) (a : Access) → elementsOf a ≤ matrixPlaces → accessCheck before after t a .placed ≤ matrixPlaces
 unfolding accessCheck
 moved-most before after t a s =
-    pick-case (λ (c : StepCheck). c .placed ≤ room) (isEmpty t) _ _ (λ e. omega arith)
+    pick-case (λ (c : StepCheck). c .placed ≤ matrixPlaces) (isEmpty t) _ _ (λ e. omega arith)
     (λ e. omega (arith, s, checked-most (elementOutcome a) (elementsOf a) (accesses.accessRefusal a)))
 
 -- A step has at most a register's elements with a byte.
-pub step-placed : (edition : ℕ) (tensors : Tensors) (ts : List MatrixType) (len : ℕ) (step : Step) → Sized ts → checkedStep edition tensors ts len step .placed ≤ room
+pub step-placed : (edition : ℕ) (tensors : Tensors) (ts : List MatrixType) (len : ℕ) (step : Step) → Sized ts → checkedStep edition tensors ts len step .placed ≤ matrixPlaces
 unfolding checkedStep
 step-placed edition tensors ts len Nothing s = omega arith
 step-placed edition tensors ts len (Load register object window) s =
     let t = theType ts (objectRegister register object) in
-    moved-most ts (withType ts register t) t (accessOf tensors true window t len) (sized-room t (s .each (objectRegister register object)))
+    moved-most ts (withType ts register t) t (accessOf tensors true window t len) (sized-places t (s .each (objectRegister register object)))
 step-placed edition tensors ts len (Store register window) s =
     let t = theType ts register in
-    moved-most ts ts t (accessOf tensors false window t len) (sized-room t (s .each register))
+    moved-most ts ts t (accessOf tensors false window t len) (sized-places t (s .each register))
 step-placed edition tensors ts len (Whole whole) s = omega arith
 
 -- an access that is not refused has placed what it counts
