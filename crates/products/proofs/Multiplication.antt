@@ -8,20 +8,20 @@ use native.Mathlib.Numerals.{add-one}
 use native.Mathlib.Omega.{arith}
 use lib.IntN.{ℤ, _*ℤ_}
 use lib.ListN.{getD}
-use borrow.Author.Tests.{eqb-true}
-use Rattle.numbers.specs.Choice.{both-left, both-right}
 use Rattle.numbers.specs.Lists.{line}
 use Rattle.numbers.specs.Lines.{line-inside}
 use Rattle.kinds.specs.Modulo.{modZ}
 use Rattle.kinds.specs.ModuloLaws.{dot-more, sum-more}
 use Rattle.sheet.specs.Sizes.{matrixPlaces}
-use Rattle.registers.specs.Sized.{SizedType, sized-places}
+use Rattle.registers.specs.Sized.{SizedType}
+use Rattle.registers.specs.Laws.Sized.{sized-places}
+use Rattle.registers.specs.Grids.{blank}
+use Rattle.registers.specs.Laws.Grids.{row-end, length-blank}
 use Rattle.registers.specs.declared.MatrixType.{MatrixType}
-use Rattle.whole_steps.specs.Grids.{blank}
-use Rattle.whole_steps.specs.GridLaws.{row-end, length-blank}
-use Rattle.whole_steps.specs.Multiplying.{sumZ, valueAt, productAt, multiplied}
-use Rattle.whole_steps.specs.Refusals.{multiplyAgrees}
-use Rattle.whole_steps.specs.Products.{residueAt, residuesOf, dotOf, dotPlus}
+use Rattle.products.specs.Laws.Shapes.{rows-agree, inner-agree, columns-agree}
+use Rattle.products.specs.Multiplying.{sumZ, valueAt, productAt, multiplied}
+use Rattle.products.specs.Shapes.{multiplyAgrees}
+use Rattle.products.specs.Residues.{residueAt, residuesOf, dotOf, dotPlus}
 
 -- a product of two residues and a third fit 64 bits
 pub sum-fits : (s x y : ℕ) → s < 2 ^ 32 → x < 2 ^ 32 → y < 2 ^ 32 → s + x * y < 2 ^ 64
@@ -53,19 +53,6 @@ dot-sum x y p q n a b zero f g = refl
 dot-sum x y p q n a b (suc t) f g =
     dot-more (2 ^ 32) (omega arith) (dotOf x y p q n t) (getD x (p + t) 0) (getD y (q + t * n) 0) (sumZ (λ (k : ℕ). a k *ℤ b k) t) (a t) (b t)
     (dot-sum x y p q n a b t (λ k l. f k (omega arith)) (λ k l. g k (omega arith))) (f t (omega arith)) (g t (omega arith))
-
--- the sides that a multiply-add's matrices share
-pub rows-agree : (a b c : MatrixType) → multiplyAgrees a b c ≡ true → a .rows ≡ c .rows
-unfolding multiplyAgrees
-rows-agree a b c e = eqb-true _ _ (both-left _ _ e)
-
-pub inner-agree : (a b c : MatrixType) → multiplyAgrees a b c ≡ true → a .columns ≡ b .rows
-unfolding multiplyAgrees
-inner-agree a b c e = eqb-true _ _ (both-left _ _ (both-right _ _ e))
-
-pub columns-agree : (a b c : MatrixType) → multiplyAgrees a b c ≡ true → b .columns ≡ c .columns
-unfolding multiplyAgrees
-columns-agree a b c e = eqb-true _ _ (both-left _ _ (both-right _ _ (both-right _ _ e)))
 
 -- what the code computes from residues is the element of a multiply-add
 pub multiplied-at : (es : List ℕ) (a : ℕ) (ta : MatrixType) (b : ℕ) (tb : MatrixType) (c : ℕ) (tc : MatrixType) → SizedType ta → SizedType tb → SizedType tc

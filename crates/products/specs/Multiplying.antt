@@ -4,8 +4,8 @@ use Prim.Native.Nat.{ℕ, zero, suc, _^_}
 use lib.IntN.{ℤ, pos, _+ℤ_, _*ℤ_}
 use Rattle.kinds.specs.Values.{value}
 use Rattle.kinds.specs.Modulo.{modZ}
+use Rattle.registers.specs.Grids.{matrixAt}
 use Rattle.registers.specs.declared.MatrixType.{MatrixType}
-use Rattle.whole_steps.specs.Grids.{matrixAt}
 
 -- the sum of g 0 .. g (n - 1)
 unfoldable pub sumZ : (ℕ → ℤ) → ℕ → ℤ

@@ -6,8 +6,8 @@ use Rattle.numbers.specs.Lists.{line}
 use Rattle.kinds.specs.Values.{value}
 use Rattle.kinds.specs.Modulo.{modZ}
 use Rattle.registers.specs.Registers.{elementOf}
+use Rattle.registers.specs.Grids.{blank}
 use Rattle.registers.specs.declared.MatrixType.{MatrixType}
-use Rattle.whole_steps.specs.Grids.{blank}
 
 -- the value of element number e modulo 2^32
 abbrev pub residueAt : List ℕ → ℕ → MatrixType → ℕ → ℕ

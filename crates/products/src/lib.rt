@@ -1,4 +1,6 @@
 // Multiply-add on values modulo 2^32, each taken once.
+pub mod shapes;
+
 ghost use mathlib.Core.Path.{_≡_};
 ghost use Prim.Native.Nat.{ℕ, _+_, _*_, _%_, _^_, _<_, _≤_};
 ghost use mathlib.Core.Bool.{true};
@@ -6,10 +8,10 @@ ghost use lib.ListN.{getD};
 ghost use Rattle.numbers.specs.Lists.{line};
 ghost use Rattle.sheet.specs.Sizes.{registerCount, sidePlaces, matrixPlaces};
 ghost use Rattle.registers.specs.Sized.{SizedType};
-ghost use Rattle.whole_steps.specs.Grids.{block};
-ghost use Rattle.whole_steps.specs.Multiplying.{multiplied};
-ghost use Rattle.whole_steps.specs.Refusals.{multiplyAgrees};
-ghost use Rattle.whole_steps.specs.Products.{residuesOf, dotOf, dotPlus};
+ghost use Rattle.registers.specs.Grids.{block};
+ghost use Rattle.products.specs.Multiplying.{multiplied};
+ghost use Rattle.products.specs.Shapes.{multiplyAgrees};
+ghost use Rattle.products.specs.Residues.{residuesOf, dotOf, dotPlus};
 use registers::MatrixType;
 use sheet::sizes::PLACES;
 

@@ -8,15 +8,15 @@ use lib.ListN.{getD, length, length-replicate}
 use Rattle.numbers.specs.Lists.{line}
 use Rattle.numbers.specs.Lines.{line-inside}
 use Rattle.sheet.specs.Sizes.{sidePlaces}
-use Rattle.registers.specs.Registers.{placeOf}
-use Rattle.registers.specs.declared.MatrixType.{MatrixType}
 use Rattle.sheet.specs.declared.ReduceMode.{ReduceMode}
 use Rattle.sheet.specs.declared.ReduceMode.the-variants.{TwoByTwo}
 use Rattle.sheet.specs.declared.Combine.{Combine}
+use Rattle.registers.specs.Registers.{placeOf}
+use Rattle.registers.specs.declared.MatrixType.{MatrixType}
 use Rattle.combines.specs.Combining.{folded}
-use Rattle.combines.specs.Laws.{folded-same}
-use Rattle.whole_steps.specs.Reducing.{partAt, laterOf, reduced}
-use Rattle.whole_steps.specs.Parts.{foldAt, noFolds, folds, quad}
+use Rattle.combines.specs.Laws.Combining.{folded-same}
+use Rattle.reduces.specs.Reducing.{partAt, laterOf, reduced}
+use Rattle.reduces.specs.Parts.{foldAt, noFolds, folds, quad}
 
 length-no : length noFolds ≡ sidePlaces
 unfolding noFolds

@@ -1,11 +1,11 @@
 -- What each element of a reduce is combined from, and how.
 use mathlib.Core.List.{List}
 use Prim.Native.Nat.{ℕ, _+_, _-_, _*_, _/_, _%_}
-use Rattle.registers.specs.Registers.{elementOf}
-use Rattle.registers.specs.declared.MatrixType.{MatrixType}
 use Rattle.sheet.specs.declared.ReduceMode.{ReduceMode}
 use Rattle.sheet.specs.declared.ReduceMode.the-variants.{Row, Column, Both, TwoByTwo}
 use Rattle.sheet.specs.declared.Combine.{Combine}
+use Rattle.registers.specs.Registers.{elementOf}
+use Rattle.registers.specs.declared.MatrixType.{MatrixType}
 use Rattle.combines.specs.Combining.{folded}
 
 -- the number of the t-th source element of result (i, j), for a source of n columns: each of row i, each of column j, each of the

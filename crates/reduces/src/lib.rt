@@ -1,44 +1,19 @@
 // Reduces: each part of the source folded once, and its value put where the result has it.
+pub mod parts;
+pub mod shapes;
+
 ghost use mathlib.Core.Path.{_≡_};
-ghost use Prim.Native.Nat.{ℕ, _+_, _*_, _^_, _<_, _≤_};
+ghost use Prim.Native.Nat.{_<_, _≤_};
+ghost use Rattle.sheet.specs.Sizes.{registerCount, sidePlaces};
 ghost use Rattle.sheet.specs.declared.ReduceMode.the-variants.{Row, Column, Both, TwoByTwo};
-ghost use lib.ListN.{getD};
-ghost use Rattle.numbers.specs.Lists.{line};
-ghost use Rattle.sheet.specs.Sizes.{registerCount, sidePlaces, matrixPlaces, elementPlaces};
+ghost use Rattle.registers.specs.Grids.{block};
 ghost use Rattle.registers.specs.Sized.{SizedType};
-ghost use Rattle.combines.specs.Combining.{folded};
-ghost use Rattle.whole_steps.specs.Grids.{block};
-ghost use Rattle.whole_steps.specs.Reducing.{reduced};
-ghost use Rattle.whole_steps.specs.Parts.{folds, quad};
-use super::blocks;
+ghost use Rattle.reduces.specs.Reducing.{reduced};
 use registers::MatrixType;
+use registers::blocks;
 use sheet::Combine;
 use sheet::ReduceMode;
 use sheet::sizes::PLACES;
-use sheet::sizes::SIDE;
-
-// The folds of `count` parts whose first elements are `apart` places apart, each of `later` more elements in steps.
-fn fold_parts(
-    elements: &[u32],
-    kind: u8,
-    combine: Combine,
-    first: usize,
-    apart: usize,
-    step: usize,
-    later: usize,
-    count: usize,
-) -> [u32; SIDE]
-    requires { ⌜ (first ≤ elementPlaces) × (apart ≤ sidePlaces) × (step ≤ sidePlaces) × (later ≤ matrixPlaces) × (count ≤ sidePlaces) ⌝ }
-    ensures { λ r. ⌜ r ≡ folds (now (elements .entry)) kind combine first apart step later count ⌝ }
-{
-    let mut out = [0u32; SIDE];
-    let mut k = 0;
-    while k < count {
-        out[k] = combines::fold(elements, kind, combine, first + k * apart, step, later);
-        k += 1;
-    }
-    out
-}
 
 // Each row of the result has the value of the source's row.
 fn row_block(
@@ -54,7 +29,7 @@ fn row_block(
 {
     let n = t.columns as usize;
     let first = registers::place_of(source, 0);
-    let values = fold_parts(elements, t.kind, combine, first, n, 1, n - 1, rows);
+    let values = parts::fold_parts(elements, t.kind, combine, first, n, 1, n - 1, rows);
     blocks::spread(&values, 0, 1, 0, rows, columns)
 }
 
@@ -73,7 +48,7 @@ fn column_block(
     let m = t.rows as usize;
     let n = t.columns as usize;
     let first = registers::place_of(source, 0);
-    let values = fold_parts(elements, t.kind, combine, first, 1, n, m - 1, columns);
+    let values = parts::fold_parts(elements, t.kind, combine, first, 1, n, m - 1, columns);
     blocks::spread(&values, 0, 0, 1, rows, columns)
 }
 
@@ -96,42 +71,6 @@ fn both_block(
     blocks::fill_block(value, rows, columns)
 }
 
-// Two elements at a place and the two a row of n below them, combined.
-fn quad(elements: &[u32], kind: u8, combine: Combine, n: usize, first: usize) -> u32
-    requires { ⌜ (n ≤ sidePlaces) × (first < 2 ^ 16) ⌝ }
-    ensures { λ r. ⌜ r ≡ quad (now (elements .entry)) kind combine n first ⌝ }
-{
-    let top = combines::combine(
-        kind,
-        combine,
-        numbers::at(elements, first),
-        numbers::at(elements, first + 1),
-    );
-    let three = combines::combine(kind, combine, top, numbers::at(elements, first + n));
-    combines::combine(kind, combine, three, numbers::at(elements, first + n + 1))
-}
-
-// A row of a block: the blocks of 2 by 2 from a place on.
-fn quad_row(
-    out: &mut [u32; PLACES],
-    start: usize,
-    elements: &[u32],
-    kind: u8,
-    combine: Combine,
-    n: usize,
-    first: usize,
-    columns: usize,
-)
-    requires { ⌜ (start + columns ≤ matrixPlaces) × (n ≤ sidePlaces) × (first ≤ 2 * elementPlaces) ⌝ }
-    ensures { λ _. ⌜ now (out .exit) ≡ line (now (out .entry)) start (λ (j : ℕ). quad (now (elements .entry)) kind combine n (first + 2 * j)) columns ⌝ }
-{
-    let mut j = 0;
-    while j < columns {
-        out[start + j] = quad(elements, kind, combine, n, first + 2 * j);
-        j += 1;
-    }
-}
-
 // Each element of the result has the value of a block of 2 by 2.
 fn quad_block(
     elements: &[u32],
@@ -150,7 +89,7 @@ fn quad_block(
     let mut out = [0u32; PLACES];
     let mut i = 0;
     while i < rows {
-        quad_row(
+        parts::quad_row(
             &mut out,
             i * columns,
             elements,

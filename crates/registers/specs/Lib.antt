@@ -1,4 +1,5 @@
 pub mod Types
 pub mod Registers
+pub mod Grids
 pub mod Sized
 pub mod Laws

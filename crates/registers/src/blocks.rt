@@ -3,12 +3,8 @@ ghost use mathlib.Core.Path.{_≡_};
 ghost use Prim.Native.Nat.{ℕ, _+_, _*_, _^_, _<_, _≤_};
 ghost use lib.ListN.{getD};
 ghost use Rattle.numbers.specs.Lists.{line};
-ghost use Rattle.sheet.specs.Sizes.{registerCount, sidePlaces, matrixPlaces, elementPlaces};
-ghost use Rattle.registers.specs.Registers.{placeOf};
-ghost use Rattle.registers.specs.Sized.{SizedType};
-ghost use Rattle.whole_steps.specs.Grids.{block};
-ghost use Rattle.whole_steps.specs.Whole.{transposed};
-use registers::MatrixType;
+ghost use Rattle.sheet.specs.Sizes.{sidePlaces, matrixPlaces, elementPlaces};
+ghost use Rattle.registers.specs.Grids.{block};
 use sheet::sizes::PLACES;
 
 // A row of a block: elements of a list from a place on, a step apart.
@@ -65,20 +61,4 @@ pub fn fill_block(value: u32, rows: usize, columns: usize) -> [u32; PLACES]
 {
     let one = [value; 1];
     spread(&one, 0, 0, 0, rows, columns)
-}
-
-pub fn transpose_block(elements: &[u32], source: u8, t: MatrixType) -> [u32; PLACES]
-    requires { ⌜ (source < registerCount) × SizedType t ⌝ }
-    ensures { λ r. ⌜ r ≡ block (t .columns) (t .rows) (transposed (now (elements .entry)) source t) ⌝ }
-{
-    let rows = t.rows as usize;
-    let columns = t.columns as usize;
-    spread(
-        elements,
-        registers::place_of(source, 0),
-        1,
-        columns,
-        columns,
-        rows,
-    )
 }

@@ -3,11 +3,11 @@ use Prim.Native.Nat.{_≤_, _<_, _-_, _^_}
 use native.Mathlib.Nat.{mod-lt}
 use native.Mathlib.Omega.{arith}
 use borrow.Author.Needs.{needs}
-use Rattle.whole_steps.proofs.Multiplication.{sum-fits, product-fits, dot-next}
-use Rattle.whole_steps.proofs.Laws.{row-fits}
-use Rattle.whole_steps.specs.Products.{dotOf}
-use Rattle.whole_steps.proofs.products.dot.Statement.{statement}
-use Rattle.whole_steps.proofs.products.dot.Tie as tie
+use Rattle.registers.specs.Laws.Grids.{row-fits}
+use Rattle.products.proofs.Multiplication.{sum-fits, product-fits, dot-next}
+use Rattle.products.specs.Residues.{dotOf}
+use Rattle.products.proofs.dot.Statement.{statement}
+use Rattle.products.proofs.dot.Tie as tie
 
 abbrev Inv-loop : tie.InvT-loop
 Inv-loop x y p q n count sum₀ t₀ sum t = (t ≤ count) × (sum ≡ dotOf x y p q n t) × (sum < 2 ^ 32)

@@ -1,11 +1,11 @@
 use mathlib.Core.Path.{_∙_}
 use borrow.Author.Needs.{needs}
-use Rattle.whole_steps.proofs.Multiplication.{multiplied-at}
-use Rattle.whole_steps.specs.GridLaws.{block-same}
-use Rattle.whole_steps.specs.Products.{dotPlus}
-use Rattle.whole_steps.specs.Grids.{block}
-use Rattle.whole_steps.proofs.products.multiply_block.Statement.{statement}
-use Rattle.whole_steps.proofs.products.multiply_block.Tie as tie
+use Rattle.products.proofs.Multiplication.{multiplied-at}
+use Rattle.registers.specs.Laws.Grids.{block-same}
+use Rattle.registers.specs.Grids.{block}
+use Rattle.products.specs.Residues.{dotPlus}
+use Rattle.products.proofs.multiply_block.Statement.{statement}
+use Rattle.products.proofs.multiply_block.Tie as tie
 
 residues-requires : tie.Need-residues-requires
 residues-requires c κs = search needs

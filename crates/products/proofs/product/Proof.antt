@@ -2,13 +2,12 @@ use mathlib.Core.Path.{_≡_, refl, _∙_}
 use Prim.Native.Nat.{_≤_, _-_}
 use native.Mathlib.Omega.{arith}
 use borrow.Author.Needs.{needs}
-use Rattle.registers.specs.Sized.{sides}
-use Rattle.whole_steps.proofs.Laws.{row-fits}
-use Rattle.whole_steps.specs.GridLaws.{rowsOf, rows-none, rows-more, rows-all}
-use Rattle.whole_steps.specs.Products.{dotPlus}
-use Rattle.whole_steps.specs.Grids.{blank}
-use Rattle.whole_steps.proofs.products.product.Statement.{statement}
-use Rattle.whole_steps.proofs.products.product.Tie as tie
+use Rattle.registers.specs.Laws.Sized.{sides}
+use Rattle.registers.specs.Laws.Grids.{row-fits, rowsOf, rows-none, rows-more, rows-all}
+use Rattle.registers.specs.Grids.{blank}
+use Rattle.products.specs.Residues.{dotPlus}
+use Rattle.products.proofs.product.Statement.{statement}
+use Rattle.products.proofs.product.Tie as tie
 
 abbrev Inv-loop : tie.InvT-loop
 Inv-loop x y z rows inner columns out₀ i₀ out i = (i ≤ rows) × (out ≡ rowsOf columns (dotPlus x y z inner columns) i)

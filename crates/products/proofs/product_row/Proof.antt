@@ -5,9 +5,9 @@ use lib.ListN.{getD}
 use borrow.Author.Needs.{needs}
 use Rattle.numbers.specs.Lines.{line-next}
 use Rattle.numbers.specs.Lists.{line, line-none}
-use Rattle.whole_steps.specs.Products.{dotOf}
-use Rattle.whole_steps.proofs.products.product_row.Statement.{statement}
-use Rattle.whole_steps.proofs.products.product_row.Tie as tie
+use Rattle.products.specs.Residues.{dotOf}
+use Rattle.products.proofs.product_row.Statement.{statement}
+use Rattle.products.proofs.product_row.Tie as tie
 
 abbrev Inv-loop : tie.InvT-loop
 Inv-loop out₀ start x y z p inner n j₀ out j = (j ≤ n) × (out ≡ line out₀ start (λ (k : ℕ). (dotOf x y p k n inner + getD z (start + k) 0) % 2 ^ 32) j)

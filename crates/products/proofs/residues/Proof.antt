@@ -9,11 +9,11 @@ use Rattle.kinds.specs.Modulo.{modZ}
 use Rattle.kinds.specs.Values.{value}
 use Rattle.sheet.specs.Sizes.{matrixPlaces}
 use Rattle.registers.specs.Registers.{placeOf}
-use Rattle.registers.specs.Sized.{sides}
-use Rattle.whole_steps.specs.Products.{residuesOf}
-use Rattle.whole_steps.specs.Grids.{blank}
-use Rattle.whole_steps.proofs.products.residues.Statement.{statement}
-use Rattle.whole_steps.proofs.products.residues.Tie as tie
+use Rattle.registers.specs.Laws.Sized.{sides}
+use Rattle.registers.specs.Grids.{blank}
+use Rattle.products.specs.Residues.{residuesOf}
+use Rattle.products.proofs.residues.Statement.{statement}
+use Rattle.products.proofs.residues.Tie as tie
 
 abbrev Inv-loop : tie.InvT-loop
 Inv-loop elements source count first kind out₀ e₀ out e = (e ≤ count) × (count ≤ matrixPlaces) × (out ≡ line blank 0 (λ (k : ℕ). modZ (value kind (getD elements (first + k) 0)) (2 ^ 32)) e)

@@ -2,12 +2,12 @@ use mathlib.Core.Path.{refl, _∙_}
 use native.Mathlib.Nat.{mul-le-mul}
 use native.Mathlib.Omega.{arith}
 use borrow.Author.Needs.{needs}
-use Rattle.whole_steps.proofs.Folding.{fold-part}
-use Rattle.registers.specs.Sized.{sides}
-use Rattle.whole_steps.specs.GridLaws.{block-same}
+use Rattle.reduces.proofs.Folding.{fold-part}
 use Rattle.sheet.specs.declared.ReduceMode.the-variants.{Both}
-use Rattle.whole_steps.proofs.reduces.both_block.Statement.{statement}
-use Rattle.whole_steps.proofs.reduces.both_block.Tie as tie
+use Rattle.registers.specs.Laws.Sized.{sides}
+use Rattle.registers.specs.Laws.Grids.{block-same}
+use Rattle.reduces.proofs.both_block.Statement.{statement}
+use Rattle.reduces.proofs.both_block.Tie as tie
 
 cast-m : tie.Need-cast-m
 cast-m c = search needs

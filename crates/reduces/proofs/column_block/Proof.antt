@@ -2,11 +2,11 @@ use mathlib.Core.Path.{refl, _∙_}
 use Prim.Native.Nat.{_+_, _*_}
 use native.Mathlib.Omega.{arith}
 use borrow.Author.Needs.{needs}
-use Rattle.whole_steps.proofs.Folding.{part-at}
-use Rattle.whole_steps.specs.GridLaws.{block-same}
+use Rattle.reduces.proofs.Folding.{part-at}
 use Rattle.sheet.specs.declared.ReduceMode.the-variants.{Column}
-use Rattle.whole_steps.proofs.reduces.column_block.Statement.{statement}
-use Rattle.whole_steps.proofs.reduces.column_block.Tie as tie
+use Rattle.registers.specs.Laws.Grids.{block-same}
+use Rattle.reduces.proofs.column_block.Statement.{statement}
+use Rattle.reduces.proofs.column_block.Tie as tie
 
 cast-m : tie.Need-cast-m
 cast-m c = search needs

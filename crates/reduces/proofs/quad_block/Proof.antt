@@ -2,14 +2,13 @@ use mathlib.Core.Path.{_≡_, refl, _∙_}
 use Prim.Native.Nat.{ℕ, _+_, _-_, _*_, _≤_}
 use native.Mathlib.Omega.{arith}
 use borrow.Author.Needs.{needs}
-use Rattle.whole_steps.proofs.Folding.{quad-part}
-use Rattle.registers.specs.Sized.{sides}
-use Rattle.whole_steps.proofs.Laws.{row-fits}
-use Rattle.whole_steps.specs.GridLaws.{rowsOf, rows-none, rows-more, rows-all, block-same}
-use Rattle.whole_steps.specs.Parts.{quad}
-use Rattle.whole_steps.specs.Grids.{blank}
-use Rattle.whole_steps.proofs.reduces.quad_block.Statement.{statement}
-use Rattle.whole_steps.proofs.reduces.quad_block.Tie as tie
+use Rattle.reduces.proofs.Folding.{quad-part}
+use Rattle.registers.specs.Laws.Sized.{sides}
+use Rattle.registers.specs.Laws.Grids.{row-fits, rowsOf, rows-none, rows-more, rows-all, block-same}
+use Rattle.registers.specs.Grids.{blank}
+use Rattle.reduces.specs.Parts.{quad}
+use Rattle.reduces.proofs.quad_block.Statement.{statement}
+use Rattle.reduces.proofs.quad_block.Tie as tie
 
 abbrev Inv-loop : tie.InvT-loop
 Inv-loop elements source combine rows columns n kind first out₀ i₀ out i = (i ≤ rows) × (out ≡ rowsOf columns (λ (a b : ℕ). quad elements kind combine n (first + 2 * (a * n) + 2 * b)) i)

@@ -1,6 +1,6 @@
 use borrow.Author.Needs.{needs}
-use Rattle.whole_steps.proofs.reduces.reduce_block.Statement.{statement}
-use Rattle.whole_steps.proofs.reduces.reduce_block.Tie as tie
+use Rattle.reduces.proofs.reduce_block.Statement.{statement}
+use Rattle.reduces.proofs.reduce_block.Tie as tie
 
 enum-told : tie.Need-enum-told
 enum-told c = search needs

@@ -8,12 +8,17 @@ use native.Mathlib.Omega.{arith}
 use lib.ListN.{getD, length, length-replicate}
 use Rattle.numbers.specs.Lists.{line, line-none}
 use Rattle.numbers.specs.Lines.{line-inside, line-same, line-joined}
-use Rattle.sheet.specs.Sizes.{matrixPlaces}
-use Rattle.whole_steps.specs.Grids.{numbered, blank, block}
+use Rattle.sheet.specs.Sizes.{sidePlaces, matrixPlaces}
+use Rattle.registers.specs.Laws.Sized.{sides}
+use Rattle.registers.specs.Grids.{numbered, blank, block}
 
 -- the elements of a row stand before the next row's start
 pub row-end : (i m n j : ℕ) → i < m → j < n → i * n + j < m * n
 row-end i m n j l h = let e : suc i * n ≤ m * n = mul-le-mul-right n l in omega (arith, suc-mul i n)
+
+-- a row ends within the places of a matrix
+pub row-fits : (i n : ℕ) → i < sidePlaces → n ≤ sidePlaces → i * n + n ≤ matrixPlaces
+row-fits i n p q = let h : suc i * n ≤ matrixPlaces = sides (suc i) n p q in omega (arith, suc-mul i n)
 
 -- element (i, j) has number i * columns + j
 pub number-at : (columns : ℕ) (f : ℕ → ℕ → ℕ) (i j : ℕ) → j < columns → numbered columns f (i * columns + j) ≡ f i j

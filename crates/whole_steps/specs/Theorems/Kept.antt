@@ -5,11 +5,11 @@ use mathlib.Core.List.{List}
 use Prim.Native.Nat.{ℕ, _<_}
 use lib.Seq.{getD-set-other}
 use Rattle.sheet.specs.Sizes.{matrixPlaces}
+use Rattle.sheet.specs.declared.WholeStep.{WholeStep}
 use Rattle.registers.specs.Types.{noType, theType}
 use Rattle.registers.specs.Registers.{elementOf}
-use Rattle.registers.specs.Laws.{others-kept}
+use Rattle.registers.specs.Laws.Registers.{others-kept}
 use Rattle.registers.specs.declared.MatrixType.{MatrixType}
-use Rattle.sheet.specs.declared.WholeStep.{WholeStep}
 use Rattle.whole_steps.specs.Whole.{wholeResult, wholeTypes, wholeElements}
 
 -- another register keeps its type

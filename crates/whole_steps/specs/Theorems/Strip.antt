@@ -7,16 +7,16 @@ use Rattle.numbers.specs.Choice.{pick}
 use Rattle.numbers.specs.Lists.{line}
 use Rattle.kinds.specs.Widths.{width}
 use Rattle.sheet.specs.Sizes.{registerCount, elementPlaces}
-use Rattle.registers.specs.Types.{noType}
-use Rattle.registers.specs.Registers.{elementOf}
-use Rattle.registers.specs.declared.Registers.{Registers}
 use Rattle.sheet.specs.declared.ReduceMode.the-variants.{TwoByTwo}
 use Rattle.sheet.specs.declared.Combine.the-variants.{Add}
 use Rattle.sheet.specs.declared.WholeStep.the-variants.{Reduce}
+use Rattle.registers.specs.Types.{noType, matrixType}
+use Rattle.registers.specs.Registers.{elementOf}
+use Rattle.registers.specs.Grids.{blank, block}
+use Rattle.registers.specs.declared.Registers.{Registers}
 use Rattle.combines.specs.Combining.{folded}
-use Rattle.whole_steps.specs.Grids.{blank, block}
-use Rattle.whole_steps.specs.Reducing.{reduced}
-use Rattle.whole_steps.specs.Whole.{matrixType, wholeDone}
+use Rattle.reduces.specs.Reducing.{reduced}
+use Rattle.whole_steps.specs.Whole.{wholeDone}
 
 -- register 0 holds the matrix of 200, 100 over 1, 2
 pub stripStart : Registers

@@ -1,8 +1,8 @@
 use borrow.Author.Needs.{needs}
 use Rattle.numbers.specs.Choice.{tests, stop, pass}
-use Rattle.whole_steps.specs.Refusals.{multiplyAgrees}
-use Rattle.whole_steps.proofs.stops.multiply_agrees.Statement.{statement}
-use Rattle.whole_steps.proofs.stops.multiply_agrees.Tie as tie
+use Rattle.products.specs.Shapes.{multiplyAgrees}
+use Rattle.products.proofs.shapes.multiply_agrees.Statement.{statement}
+use Rattle.products.proofs.shapes.multiply_agrees.Tie as tie
 
 returns : tie.Need-returns
 unfolding multiplyAgrees

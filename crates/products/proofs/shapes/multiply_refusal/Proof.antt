@@ -1,9 +1,9 @@
 use mathlib.Core.Path.{refl}
 use borrow.Author.Needs.{needs}
 use Rattle.numbers.specs.Choice.{taken, left, tests}
-use Rattle.whole_steps.specs.Refusals.{multiplyRefusal}
-use Rattle.whole_steps.proofs.stops.multiply_refusal.Statement.{statement}
-use Rattle.whole_steps.proofs.stops.multiply_refusal.Tie as tie
+use Rattle.products.specs.Shapes.{multiplyRefusal}
+use Rattle.products.proofs.shapes.multiply_refusal.Statement.{statement}
+use Rattle.products.proofs.shapes.multiply_refusal.Tie as tie
 
 is-empty-requires : tie.Need-is-empty-requires
 is-empty-requires c κs = search needs

@@ -3,10 +3,10 @@ use Prim.Native.Nat.{ℕ, _≤_, _-_, _+_, _*_}
 use native.Mathlib.Omega.{arith}
 use borrow.Author.Needs.{needs}
 use Rattle.numbers.specs.Lists.{line, line-none, line-step}
-use Rattle.registers.specs.Sized.{sides}
-use Rattle.whole_steps.specs.Parts.{foldAt, noFolds, folds}
-use Rattle.whole_steps.proofs.reduces.fold_parts.Statement.{statement}
-use Rattle.whole_steps.proofs.reduces.fold_parts.Tie as tie
+use Rattle.registers.specs.Laws.Sized.{sides}
+use Rattle.reduces.specs.Parts.{foldAt, noFolds, folds}
+use Rattle.reduces.proofs.parts.fold_parts.Statement.{statement}
+use Rattle.reduces.proofs.parts.fold_parts.Tie as tie
 
 abbrev Inv-loop : tie.InvT-loop
 Inv-loop elements kind combine first apart step later count out₀ k₀ out k = (k ≤ count) × (out ≡ line noFolds 0 (λ (p : ℕ). foldAt elements kind combine step later (first + p * apart)) k)

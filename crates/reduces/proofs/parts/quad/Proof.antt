@@ -1,8 +1,8 @@
 use native.Mathlib.Nat.{add-zero, zero-mul, one-mul}
 use borrow.Author.Needs.{needs}
 use Rattle.combines.specs.Combining.{folded}
-use Rattle.whole_steps.proofs.reduces.quad.Statement.{statement}
-use Rattle.whole_steps.proofs.reduces.quad.Tie as tie
+use Rattle.reduces.proofs.parts.quad.Statement.{statement}
+use Rattle.reduces.proofs.parts.quad.Tie as tie
 
 at-requires : tie.Need-at-requires
 at-requires c κs = search needs

@@ -4,9 +4,9 @@ use native.Mathlib.Omega.{arith}
 use borrow.Author.Needs.{needs}
 use Rattle.numbers.specs.Lines.{line-next}
 use Rattle.numbers.specs.Lists.{line, line-none}
-use Rattle.whole_steps.specs.Parts.{quad}
-use Rattle.whole_steps.proofs.reduces.quad_row.Statement.{statement}
-use Rattle.whole_steps.proofs.reduces.quad_row.Tie as tie
+use Rattle.reduces.specs.Parts.{quad}
+use Rattle.reduces.proofs.parts.quad_row.Statement.{statement}
+use Rattle.reduces.proofs.parts.quad_row.Tie as tie
 
 abbrev Inv-loop : tie.InvT-loop
 Inv-loop out₀ start elements kind combine n first columns j₀ out j = (j ≤ columns) × (out ≡ line out₀ start (λ (k : ℕ). quad elements kind combine n (first + 2 * k)) j)

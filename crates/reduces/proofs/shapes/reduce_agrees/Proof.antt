@@ -1,6 +1,6 @@
 use borrow.Author.Needs.{needs}
-use Rattle.whole_steps.proofs.stops.reduce_agrees.Statement.{statement}
-use Rattle.whole_steps.proofs.stops.reduce_agrees.Tie as tie
+use Rattle.reduces.proofs.shapes.reduce_agrees.Statement.{statement}
+use Rattle.reduces.proofs.shapes.reduce_agrees.Tie as tie
 
 enum-told : tie.Need-enum-told
 enum-told c = search needs

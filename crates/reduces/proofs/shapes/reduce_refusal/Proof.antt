@@ -1,9 +1,9 @@
 use mathlib.Core.Path.{refl}
 use borrow.Author.Needs.{needs}
 use Rattle.numbers.specs.Choice.{taken, left, tests}
-use Rattle.whole_steps.specs.Refusals.{reduceRefusal}
-use Rattle.whole_steps.proofs.stops.reduce_refusal.Statement.{statement}
-use Rattle.whole_steps.proofs.stops.reduce_refusal.Tie as tie
+use Rattle.reduces.specs.Shapes.{reduceRefusal}
+use Rattle.reduces.proofs.shapes.reduce_refusal.Statement.{statement}
+use Rattle.reduces.proofs.shapes.reduce_refusal.Tie as tie
 
 is-empty-requires : tie.Need-is-empty-requires
 is-empty-requires c κs = search needs

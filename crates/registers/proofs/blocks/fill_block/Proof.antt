@@ -4,9 +4,9 @@ use Prim.Native.Nat.{ℕ, _+_, _*_}
 use native.Mathlib.Omega.{arith}
 use lib.ListN.{getD}
 use borrow.Author.Needs.{needs}
-use Rattle.whole_steps.specs.GridLaws.{block-same}
-use Rattle.whole_steps.proofs.blocks.fill_block.Statement.{statement}
-use Rattle.whole_steps.proofs.blocks.fill_block.Tie as tie
+use Rattle.registers.specs.Laws.Grids.{block-same}
+use Rattle.registers.proofs.blocks.fill_block.Statement.{statement}
+use Rattle.registers.proofs.blocks.fill_block.Tie as tie
 
 slice-aggregate-spread : tie.Need-slice-aggregate-spread
 slice-aggregate-spread c = search needs

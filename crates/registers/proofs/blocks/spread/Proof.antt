@@ -3,12 +3,11 @@ use Prim.Native.Nat.{ℕ, _≤_, _-_, _+_, _*_}
 use native.Mathlib.Omega.{arith}
 use lib.ListN.{getD}
 use borrow.Author.Needs.{needs}
-use Rattle.registers.specs.Sized.{sides}
-use Rattle.whole_steps.proofs.Laws.{row-fits}
-use Rattle.whole_steps.specs.GridLaws.{rowsOf, rows-none, rows-more, rows-all}
-use Rattle.whole_steps.specs.Grids.{blank}
-use Rattle.whole_steps.proofs.blocks.spread.Statement.{statement}
-use Rattle.whole_steps.proofs.blocks.spread.Tie as tie
+use Rattle.registers.specs.Laws.Sized.{sides}
+use Rattle.registers.specs.Laws.Grids.{row-fits, rowsOf, rows-none, rows-more, rows-all}
+use Rattle.registers.specs.Grids.{blank}
+use Rattle.registers.proofs.blocks.spread.Statement.{statement}
+use Rattle.registers.proofs.blocks.spread.Tie as tie
 
 abbrev Inv-loop : tie.InvT-loop
 Inv-loop from first down across rows columns out₀ i₀ out i = (i ≤ rows) × (out ≡ rowsOf columns (λ (a b : ℕ). getD from (first + a * down + b * across) 0) i)

@@ -5,9 +5,9 @@ use lib.ListN.{getD}
 use borrow.Author.Needs.{needs}
 use Rattle.numbers.specs.Lines.{line-next}
 use Rattle.numbers.specs.Lists.{line, line-none}
-use Rattle.whole_steps.proofs.Laws.{small}
-use Rattle.whole_steps.proofs.blocks.spread_row.Statement.{statement}
-use Rattle.whole_steps.proofs.blocks.spread_row.Tie as tie
+use Rattle.registers.proofs.Laws.{small}
+use Rattle.registers.proofs.blocks.spread_row.Statement.{statement}
+use Rattle.registers.proofs.blocks.spread_row.Tie as tie
 
 abbrev Inv-loop : tie.InvT-loop
 Inv-loop out₀ start from first across columns j₀ out j = (j ≤ columns) × (out ≡ line out₀ start (λ (k : ℕ). getD from (first + k * across) 0) j)

@@ -3,10 +3,10 @@ use Prim.Native.Nat.{ℕ, _+_, _*_}
 use native.Mathlib.Omega.{arith}
 use lib.ListN.{getD}
 use borrow.Author.Needs.{needs}
-use Rattle.whole_steps.specs.GridLaws.{block-same}
+use Rattle.registers.specs.Laws.Grids.{block-same}
 use Rattle.registers.specs.Registers.{placeOf}
-use Rattle.whole_steps.proofs.blocks.transpose_block.Statement.{statement}
-use Rattle.whole_steps.proofs.blocks.transpose_block.Tie as tie
+use Rattle.whole_steps.proofs.transposes.transpose_block.Statement.{statement}
+use Rattle.whole_steps.proofs.transposes.transpose_block.Tie as tie
 
 cast-rows : tie.Need-cast-rows
 cast-rows c = search needs

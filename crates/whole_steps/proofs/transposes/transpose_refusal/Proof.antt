@@ -1,9 +1,9 @@
 use mathlib.Core.Path.{refl}
 use borrow.Author.Needs.{needs}
 use Rattle.numbers.specs.Choice.{taken, left, tests}
-use Rattle.whole_steps.specs.Refusals.{transposeRefusal}
-use Rattle.whole_steps.proofs.stops.transpose_refusal.Statement.{statement}
-use Rattle.whole_steps.proofs.stops.transpose_refusal.Tie as tie
+use Rattle.whole_steps.specs.Transposing.{transposeRefusal}
+use Rattle.whole_steps.proofs.transposes.transpose_refusal.Statement.{statement}
+use Rattle.whole_steps.proofs.transposes.transpose_refusal.Tie as tie
 
 is-empty-requires : tie.Need-is-empty-requires
 is-empty-requires c κs = search needs

@@ -1,0 +1,5 @@
+-- What is proved of the definitions.
+pub mod Types
+pub mod Registers
+pub mod Sized
+pub mod Grids
