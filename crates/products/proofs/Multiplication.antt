@@ -1,22 +1,18 @@
 -- Sums of products of residues are the elements of a multiply-add.
-use mathlib.Core.Path.{_≡_, refl, sym, ap, _∙_}
+use mathlib.Core.Path.{_≡_, refl, ap, _∙_}
 use mathlib.Core.List.{List}
 use mathlib.Core.Bool.{true}
 use Prim.Native.Nat.{ℕ, zero, suc, _+_, _*_, _%_, _^_, _<_, _≤_}
-use native.Mathlib.Nat.{mul-le-mul, zero-add, add-comm}
+use native.Mathlib.Nat.{mul-le-mul, add-comm}
 use native.Mathlib.Numerals.{add-one}
 use native.Mathlib.Omega.{arith}
 use lib.IntN.{ℤ, _*ℤ_}
 use lib.ListN.{getD}
-use Rattle.numbers.specs.Lists.{line}
-use Rattle.numbers.specs.Lines.{line-inside}
 use Rattle.kinds.specs.Modulo.{modZ}
 use Rattle.kinds.specs.ModuloLaws.{dot-more, sum-more}
-use Rattle.sheet.specs.Sizes.{matrixPlaces}
 use Rattle.registers.specs.Sized.{SizedType}
 use Rattle.registers.specs.Laws.Sized.{sized-places}
-use Rattle.registers.specs.Grids.{blank}
-use Rattle.registers.specs.Laws.Grids.{row-end, length-blank}
+use Rattle.registers.specs.Laws.Grids.{row-end, blank-given}
 use Rattle.registers.specs.declared.MatrixType.{MatrixType}
 use Rattle.products.specs.Laws.Shapes.{rows-agree, inner-agree, columns-agree}
 use Rattle.products.specs.Multiplying.{sumZ, valueAt, productAt, multiplied}
@@ -40,10 +36,7 @@ dot-next x y p q n t e f g = (λ i. (e i + f i * g i) % 2 ^ 32) ∙ rw add-one
 
 residues-at : (es : List ℕ) (s : ℕ) (t : MatrixType) → SizedType t → (e : ℕ) → e < t .rows * t .columns → getD (residuesOf es s t) e 0 ≡ residueAt es s t e
 unfolding residuesOf
-residues-at es s t z e l =
-    let h : t .rows * t .columns ≤ matrixPlaces = sized-places t z in
-    ap (λ (k : ℕ). getD (line blank 0 (residueAt es s t) (t .rows * t .columns)) k 0) (sym (zero-add e))
-    ∙ line-inside blank 0 (residueAt es s t) (t .rows * t .columns) e 0 l (omega (arith, length-blank))
+residues-at es s t z e l = blank-given (residueAt es s t) (t .rows * t .columns) (sized-places t z) e l
 
 -- sums of products of residues are residues of the sum of products
 dot-sum : (x y : List ℕ) (p q n : ℕ) (a b : ℕ → ℤ) (count : ℕ) → ((t : ℕ) → t < count → getD x (p + t) 0 ≡ modZ (a t) (2 ^ 32))

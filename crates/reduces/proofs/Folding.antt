@@ -1,12 +1,11 @@
 -- The folds that the code computes are the elements of a reduce.
-use mathlib.Core.Path.{_≡_, sym, ap, ap₂, _∙_}
+use mathlib.Core.Path.{_≡_, ap, ap₂, _∙_}
 use mathlib.Core.List.{List}
 use Prim.Native.Nat.{ℕ, _+_, _*_, _/_, _%_, _<_, _≤_}
-use native.Mathlib.Nat.{zero-add, add-mul, mul-assoc}
+use native.Mathlib.Nat.{add-mul, mul-assoc}
 use native.Mathlib.Omega.{arith}
-use lib.ListN.{getD, length, length-replicate}
-use Rattle.numbers.specs.Lists.{line}
-use Rattle.numbers.specs.Lines.{line-inside}
+use lib.ListN.{getD}
+use Rattle.numbers.specs.Places.{places-given}
 use Rattle.sheet.specs.Sizes.{sidePlaces}
 use Rattle.sheet.specs.declared.ReduceMode.{ReduceMode}
 use Rattle.sheet.specs.declared.ReduceMode.the-variants.{TwoByTwo}
@@ -18,17 +17,11 @@ use Rattle.combines.specs.Laws.Combining.{folded-same}
 use Rattle.reduces.specs.Reducing.{partAt, laterOf, reduced}
 use Rattle.reduces.specs.Parts.{foldAt, noFolds, folds, quad}
 
-length-no : length noFolds ≡ sidePlaces
-unfolding noFolds
-length-no = length-replicate {A = ℕ} sidePlaces 0
-
 folds-at : (es : List ℕ) (kind : ℕ) (op : Combine) (first apart step later count k : ℕ) → k < count → count ≤ sidePlaces
     → getD (folds es kind op first apart step later count) k 0 ≡ foldAt es kind op step later (first + k * apart)
-unfolding folds
+unfolding folds noFolds
 folds-at es kind op first apart step later count k l h =
-    let g : ℕ → ℕ = λ (p : ℕ). foldAt es kind op step later (first + p * apart) in
-    ap (λ (p : ℕ). getD (line noFolds 0 g count) p 0) (sym (zero-add k))
-    ∙ line-inside noFolds 0 g count k 0 l (omega (arith, length-no))
+    places-given sidePlaces 0 0 (λ (p : ℕ). foldAt es kind op step later (first + p * apart)) count h k l
 
 module _ (es : List ℕ) (s : ℕ) (t : MatrixType) (mode : ReduceMode) (op : Combine) (i j : ℕ) where
   -- a fold over the places of a part is the element of the reduce

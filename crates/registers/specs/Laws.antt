@@ -3,3 +3,4 @@ pub mod Types
 pub mod Registers
 pub mod Sized
 pub mod Grids
+pub mod Fits

@@ -2,4 +2,5 @@ pub mod Types
 pub mod Registers
 pub mod Grids
 pub mod Sized
+pub mod Fits
 pub mod Laws

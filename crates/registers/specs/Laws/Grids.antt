@@ -5,9 +5,10 @@ use Prim.Native.Nat.{ℕ, zero, suc, _+_, _*_, _/_, _%_, _<_, _≤_}
 use native.Mathlib.Nat.{mul-le-mul-right, mul-add-div-right, mul-add-mod-self-right, suc-mul, div-eq-of-lt, mod-eq-of-lt, mod-lt, zero-add, add-zero, zero-mul, mul-zero, div-lt-iff-lt-mul, not-suc-le-zero}
 use native.Mathlib.Numerals.{add-one}
 use native.Mathlib.Omega.{arith}
-use lib.ListN.{getD, length, length-replicate}
+use lib.ListN.{getD}
 use Rattle.numbers.specs.Lists.{line, line-none}
-use Rattle.numbers.specs.Lines.{line-inside, line-same, line-joined}
+use Rattle.numbers.specs.Lines.{line-same, line-joined}
+use Rattle.numbers.specs.Places.{places-given, places-past}
 use Rattle.sheet.specs.Sizes.{sidePlaces, matrixPlaces}
 use Rattle.registers.specs.Laws.Sized.{sides}
 use Rattle.registers.specs.Grids.{numbered, blank, block}
@@ -29,11 +30,11 @@ number-at columns f i j h =
     ap₂ f d r
 
 -- a number of the matrix is that of a row and a column
-number-row : (rows columns e : ℕ) → e < rows * columns → e / columns < rows
+pub number-row : (rows columns e : ℕ) → e < rows * columns → e / columns < rows
 number-row rows zero e h = absurd (not-suc-le-zero (rw (mul-zero rows) at h))
 number-row rows (suc n) e h = div-lt-iff-lt-mul {k = suc n} {x = e} {y = rows} (omega arith) .1 h
 
-number-column : (rows columns e : ℕ) → e < rows * columns → e % columns < columns
+pub number-column : (rows columns e : ℕ) → e < rows * columns → e % columns < columns
 number-column rows zero e h = absurd (not-suc-le-zero (rw (mul-zero rows) at h))
 number-column rows (suc n) e h = mod-lt e (omega arith)
 
@@ -69,14 +70,12 @@ rows-more columns f i g e o h =
     ∙ line-joined blank 0 (numbered columns f) (i * columns) columns
     ∙ ap (λ (k : ℕ). line blank 0 (numbered columns f) k) n
 
-pub length-blank : length blank ≡ matrixPlaces
-unfolding blank
-length-blank = length-replicate {A = ℕ} matrixPlaces 0
+-- what is written from the first place on stands there, and 0 past it
+module _ (g : ℕ → ℕ) (n : ℕ) (h : n ≤ matrixPlaces) where
+  pub blank-given : (e : ℕ) → e < n → getD (line blank 0 g n) e 0 ≡ g e
+  unfolding blank
+  blank-given e l = places-given matrixPlaces 0 0 g n h e l
 
--- what stands in a block
-pub block-inside : (rows columns : ℕ) (f : ℕ → ℕ → ℕ) (i j : ℕ) → rows * columns ≤ matrixPlaces → i < rows → j < columns → getD (block rows columns f) (i * columns + j) 0 ≡ f i j
-unfolding block
-block-inside rows columns f i j s l h =
-    ap (λ (k : ℕ). getD (line blank 0 (numbered columns f) (rows * columns)) k 0) (sym (zero-add (i * columns + j)))
-    ∙ line-inside blank 0 (numbered columns f) (rows * columns) (i * columns + j) 0 (row-end i rows columns j l h) (omega (arith, length-blank))
-    ∙ number-at columns f i j h
+  pub blank-past : (e : ℕ) → n ≤ e → e < matrixPlaces → getD (line blank 0 g n) e 0 ≡ 0
+  unfolding blank
+  blank-past e l m = places-past matrixPlaces 0 0 g n h e l m

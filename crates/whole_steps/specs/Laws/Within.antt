@@ -35,7 +35,7 @@ whole-ok edition (Fill register rows columns kind value) e =
     let f = both-right _ _ e in
     let g = both-right _ _ f in
     let h = both-right _ _ g in
-    record { result = ltb-true _ _ (both-left _ _ e); parts = (side edition rows (both-left _ _ f), side edition columns (both-left _ _ g), both-left _ _ h) }
+    record { result = ltb-true _ _ (both-left _ _ e); parts = (side edition rows (both-left _ _ f), side edition columns (both-left _ _ g), both-left _ _ h, both-right _ _ h) }
 whole-ok edition (Reduce result source rows columns mode combine) e =
     let f = both-right _ _ e in
     let g = both-right _ _ f in
@@ -64,7 +64,7 @@ sized-transposed t s =
     }
 
 -- the type that a whole step makes is within Sizes
-sized-type : (ts : List MatrixType) (w : WholeStep) → Sized ts → WholeParts w → SizedType (wholeType ts w)
+pub sized-type : (ts : List MatrixType) (w : WholeStep) → Sized ts → WholeParts w → SizedType (wholeType ts w)
 sized-type ts (Fill register rows columns kind value) s p = sized-sides kind rows columns (p .2) (p .0) (p .1)
 sized-type ts (Reduce result source rows columns mode combine) s p = sized-sides _ rows columns (s .each source .kind) (p .1) (p .2)
 sized-type ts (Transpose result source) s p = sized-transposed (theType ts source) (s .each source)
