@@ -1,4 +1,6 @@
 pub mod Types
 pub mod Registers
+pub mod Grids
 pub mod Sized
+pub mod Fits
 pub mod Laws

@@ -10,6 +10,9 @@ use Rattle.registers.specs.declared.MatrixType.{MatrixType}
 abbrev pub noType : MatrixType
 noType = record { kind = 0; rows = 0; columns = 0 }
 
+abbrev pub matrixType : ℕ → ℕ → ℕ → MatrixType
+matrixType kind rows columns = record { kind = kind; rows = rows; columns = columns }
+
 abbrev pub theType : List MatrixType → ℕ → MatrixType
 theType ts r = getD ts r noType
 

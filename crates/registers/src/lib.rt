@@ -1,7 +1,8 @@
 // The four registers: a type each, and their elements in one array.
+pub mod blocks;
+
 ghost use mathlib.Core.Path.{_≡_};
-ghost use Prim.Native.Nat.{_<_, _≤_};
-ghost use lib.ListN.{getD};
+ghost use Prim.Native.Nat.{_<_};
 ghost use Rattle.sheet.specs.Sizes.{registerCount, matrixPlaces};
 ghost use Rattle.registers.specs.Types.{noType, theType, isEmpty, withType};
 ghost use Rattle.registers.specs.Registers.{placeOf, elementOf, withElementOf, withBlock, copiedElements, emptyRegisters};

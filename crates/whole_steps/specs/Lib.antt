@@ -1,11 +1,6 @@
-pub mod Grids
-pub mod Reducing
-pub mod Multiplying
+pub mod Transposing
 pub mod Refusals
 pub mod Whole
-pub mod Parts
-pub mod Products
-pub mod GridLaws
 pub mod Within
+pub mod Laws
 pub mod Theorems
-pub mod Strip

@@ -2,29 +2,17 @@
 -- source: the old contents are read.
 use mathlib.Core.List.{List}
 use Prim.Native.Nat.{ℕ}
-use Rattle.registers.specs.Types.{theType, withType}
-use Rattle.registers.specs.Registers.{withBlock}
-use Rattle.registers.specs.declared.MatrixType.{MatrixType}
-use Rattle.registers.specs.declared.Registers.{Registers}
 use Rattle.sheet.specs.declared.WholeStep.{WholeStep}
 use Rattle.sheet.specs.declared.WholeStep.the-variants.{Fill, Reduce, Transpose, MultiplyAdd}
-use Rattle.whole_steps.specs.Grids.{matrixAt, block, made}
-use Rattle.whole_steps.specs.Reducing.{reduced}
-use Rattle.whole_steps.specs.Multiplying.{multiplied}
-
-abbrev pub matrixType : ℕ → ℕ → ℕ → MatrixType
-matrixType kind rows columns = record { kind = kind; rows = rows; columns = columns }
-
--- the result keeps the source's kind
-abbrev pub reducedType : MatrixType → ℕ → ℕ → MatrixType
-reducedType t rows columns = matrixType (t .kind) rows columns
-
--- transpose swaps rows and columns
-abbrev pub transposedType : MatrixType → MatrixType
-transposedType t = matrixType (t .kind) (t .columns) (t .rows)
-
-abbrev pub transposed : List ℕ → ℕ → MatrixType → ℕ → ℕ → ℕ
-transposed es s t i j = matrixAt es s t j i
+use Rattle.registers.specs.Types.{theType, withType, matrixType}
+use Rattle.registers.specs.Registers.{withBlock}
+use Rattle.registers.specs.Grids.{block, made}
+use Rattle.registers.specs.declared.MatrixType.{MatrixType}
+use Rattle.registers.specs.declared.Registers.{Registers}
+use Rattle.reduces.specs.Shapes.{reducedType}
+use Rattle.reduces.specs.Reducing.{reduced}
+use Rattle.products.specs.Multiplying.{multiplied}
+use Rattle.whole_steps.specs.Transposing.{transposedType, transposed}
 
 -- the register that is made
 abbrev pub wholeResult : WholeStep → ℕ

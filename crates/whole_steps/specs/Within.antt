@@ -1,33 +1,20 @@
--- Whole steps whose registers and sides are within Sizes: what a sheet's whole step keeps to, that its result's type does, and that the element
--- of its refusal is.
-use mathlib.Core.Path.{_≡_, ap}
+-- Whole steps whose registers, sides, kind and value are within Sizes: a bound that contracts cite.
+use mathlib.Core.Path.{_≡_}
 use mathlib.Core.Bool.{true}
-use mathlib.Core.List.{List}
 use Prim.Native.Nat.{ℕ, _<_, _≤_}
-use native.Mathlib.Decide.{ℕ-discrete}
-use native.Mathlib.Omega.{arith}
-use borrow.Author.Tests.{ltb-true}
-use Rattle.numbers.specs.Choice.{both-left, both-right, between-low, between-high}
-use Rattle.kinds.specs.Widths.{kindOk}
-use Rattle.registers.specs.Types.{theType}
-use Rattle.registers.specs.Sized.{SizedType, Sized, sized-with}
-use Rattle.registers.specs.declared.MatrixType.{MatrixType}
-use Rattle.sheet.specs.Sizes.{registerCount, sidePlaces, matrixPlaces}
-use Rattle.sheet.specs.Editions.{limits, sideOk}
-use Rattle.sheet.specs.Laws.Editions.{limits-side}
-use Rattle.sheet.specs.Steps.{fillOk, reduceOk, transposeOk, multiplyOk, wholeOk}
+use Rattle.kinds.specs.Widths.{kindOk, fits}
+use Rattle.sheet.specs.Sizes.{registerCount, sidePlaces}
 use Rattle.sheet.specs.declared.WholeStep.{WholeStep}
 use Rattle.sheet.specs.declared.WholeStep.the-variants.{Fill, Reduce, Transpose, MultiplyAdd}
-use Rattle.whole_steps.specs.Refusals.{wholeRefusal}
-use Rattle.whole_steps.specs.Whole.{matrixType, transposedType, wholeResult, wholeType, wholeTypes}
+use Rattle.whole_steps.specs.Whole.{wholeResult}
 
 pub record Side (x : ℕ) : Type 0 where
   pub low : 1 ≤ x
   pub high : x ≤ sidePlaces
 
--- beside its result: the registers that it reads, its sides and its kind
+-- beside its result: the registers that it reads, its sides, its kind and its value
 abbrev pub WholeParts : WholeStep → Type 0
-WholeParts (Fill register rows columns kind value) = Side rows × Side columns × (kindOk kind ≡ true)
+WholeParts (Fill register rows columns kind value) = Side rows × Side columns × (kindOk kind ≡ true) × (fits kind value ≡ true)
 WholeParts (Reduce result source rows columns mode combine) = (source < registerCount) × Side rows × Side columns
 WholeParts (Transpose result source) = source < registerCount
 WholeParts (MultiplyAdd result a b c) = (a < registerCount) × (b < registerCount) × (c < registerCount)
@@ -35,66 +22,3 @@ WholeParts (MultiplyAdd result a b c) = (a < registerCount) × (b < registerCoun
 pub record WholeOk (w : WholeStep) : Type 0 where
   pub result : wholeResult w < registerCount
   pub parts : WholeParts w
-
-side : (edition x : ℕ) → sideOk edition x ≡ true → Side x
-side edition x e =
-    let most : ℕ = limits edition .side in
-    record { low = between-low 1 most x e; high = omega (arith, between-high 1 most x e, limits-side edition) }
-
--- a whole step that a sheet may hold
-pub whole-ok : (edition : ℕ) (w : WholeStep) → wholeOk edition w ≡ true → WholeOk w
-unfolding fillOk reduceOk transposeOk multiplyOk
-whole-ok edition (Fill register rows columns kind value) e =
-    let f = both-right _ _ e in
-    let g = both-right _ _ f in
-    let h = both-right _ _ g in
-    record { result = ltb-true _ _ (both-left _ _ e); parts = (side edition rows (both-left _ _ f), side edition columns (both-left _ _ g), both-left _ _ h) }
-whole-ok edition (Reduce result source rows columns mode combine) e =
-    let f = both-right _ _ e in
-    let g = both-right _ _ f in
-    record { result = ltb-true _ _ (both-left _ _ e); parts = (ltb-true _ _ (both-left _ _ f), side edition rows (both-left _ _ g), side edition columns (both-right _ _ g)) }
-whole-ok edition (Transpose result source) e = record { result = ltb-true _ _ (both-left _ _ e); parts = ltb-true _ _ (both-right _ _ e) }
-whole-ok edition (MultiplyAdd result a b c) e =
-    let f = both-right _ _ e in
-    let g = both-right _ _ f in
-    record { result = ltb-true _ _ (both-left _ _ e); parts = (ltb-true _ _ (both-left _ _ f), ltb-true _ _ (both-left _ _ g), ltb-true _ _ (both-right _ _ g)) }
-
-sized-sides : (kind rows columns : ℕ) → kindOk kind ≡ true → Side rows → Side columns → SizedType (matrixType kind rows columns)
-sized-sides kind rows columns k m n =
-    record { kind = k; rows = m .high; columns = n .high; some = λ h. n .low; none = λ e. absurd (omega (arith, m .low)) }
-
-sized-transposed : (t : MatrixType) → SizedType t → SizedType (transposedType t)
-sized-transposed t s =
-    record {
-      kind = s .kind;
-      rows = s .columns;
-      columns = s .rows;
-      some = λ h. go (ℕ-discrete (t .rows) 0) h;
-      none = λ e. ap transposedType (s .none (empty (ℕ-discrete (t .rows) 0) e));
-    }
-  where
-    go : Dec (t .rows ≡ 0) → 0 < t .columns → 0 < t .rows
-    go (yes e) h = let z : t .columns ≡ 0 = ap (λ (u : MatrixType). u .columns) (s .none e) in absurd (omega arith)
-    go (no d) h = omega arith
-
-    empty : Dec (t .rows ≡ 0) → t .columns ≡ 0 → t .rows ≡ 0
-    empty (yes e) z = e
-    empty (no d) z = let h : 0 < t .columns = s .some (omega arith) in absurd (omega arith)
-
--- the type that a whole step makes is within Sizes
-sized-type : (ts : List MatrixType) (w : WholeStep) → Sized ts → WholeParts w → SizedType (wholeType ts w)
-sized-type ts (Fill register rows columns kind value) s p = sized-sides kind rows columns (p .2) (p .0) (p .1)
-sized-type ts (Reduce result source rows columns mode combine) s p = sized-sides _ rows columns (s .each source .kind) (p .1) (p .2)
-sized-type ts (Transpose result source) s p = sized-transposed (theType ts source) (s .each source)
-sized-type ts (MultiplyAdd result a b c) s p = s .each c
-
--- so the types that it leaves are
-pub sized-whole : (ts : List MatrixType) (w : WholeStep) → Sized ts → WholeOk w → Sized (wholeTypes ts w)
-sized-whole ts w s ok = sized-with ts (wholeResult w) (wholeType ts w) s (sized-type ts w s (ok .parts))
-
--- the element that a refusal names is one of a matrix
-pub refusal-element : (edition : ℕ) (ts : List MatrixType) (len : ℕ) (w : WholeStep) → wholeRefusal edition ts len w .element ≤ matrixPlaces
-refusal-element edition ts len (Fill register rows columns kind value) = omega arith
-refusal-element edition ts len (Reduce result source rows columns mode combine) = omega arith
-refusal-element edition ts len (Transpose result source) = omega arith
-refusal-element edition ts len (MultiplyAdd result a b c) = omega arith

@@ -1,8 +1,6 @@
-// Fill, reduce, transpose and multiply-add.
-pub mod blocks;
-pub mod products;
-pub mod reduces;
+// Whole steps: fill, reduce, transpose and multiply-add. Each makes one matrix in one register.
 pub mod stops;
+pub mod transposes;
 pub mod types;
 
 ghost use mathlib.Core.Path.{_≡_};
@@ -35,7 +33,7 @@ fn whole_block(
             columns,
             kind: _,
             value,
-        } => blocks::fill_block(value, rows as usize, columns as usize),
+        } => registers::blocks::fill_block(value, rows as usize, columns as usize),
         WholeStep::Reduce {
             result: _,
             source,
@@ -57,7 +55,7 @@ fn whole_block(
         }
         WholeStep::Transpose { result: _, source } => {
             let t = registers::the_type(types, source);
-            blocks::transpose_block(elements, source, t)
+            transposes::transpose_block(elements, source, t)
         }
         WholeStep::MultiplyAdd { result: _, a, b, c } => {
             let ta = registers::the_type(types, a);

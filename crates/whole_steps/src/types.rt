@@ -2,6 +2,8 @@
 ghost use mathlib.Core.Path.{_≡_};
 ghost use Rattle.whole_steps.specs.Whole.{wholeResult, wholeType, wholeTypes};
 ghost use Rattle.whole_steps.specs.Within.{WholeOk};
+use super::transposes;
+use reduces::shapes::reduced_type;
 use registers::MatrixType;
 use sheet::WholeStep;
 use sheet::sizes::REGISTERS;
@@ -60,19 +62,11 @@ pub fn whole_type(types: [MatrixType; REGISTERS], step: WholeStep) -> MatrixType
             combine: _,
         } => {
             let t = registers::the_type(types, source);
-            MatrixType {
-                kind: t.kind,
-                rows,
-                columns,
-            }
+            reduced_type(t, rows, columns)
         }
         WholeStep::Transpose { result: _, source } => {
             let t = registers::the_type(types, source);
-            MatrixType {
-                kind: t.kind,
-                rows: t.columns,
-                columns: t.rows,
-            }
+            transposes::transposed_type(t)
         }
         WholeStep::MultiplyAdd {
             result: _,

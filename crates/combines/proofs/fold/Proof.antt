@@ -5,7 +5,7 @@ use native.Mathlib.Omega.{arith}
 use lib.ListN.{getD}
 use borrow.Author.Needs.{needs}
 use Rattle.sheet.specs.Sizes.{sidePlaces, matrixPlaces}
-use Rattle.combines.specs.Laws.{folded-more}
+use Rattle.combines.specs.Laws.Combining.{folded-more}
 use Rattle.combines.specs.Combining.{folded}
 use Rattle.combines.proofs.fold.Statement.{statement}
 use Rattle.combines.proofs.fold.Tie as tie

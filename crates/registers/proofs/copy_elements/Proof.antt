@@ -5,8 +5,8 @@ use borrow.Author.Needs.{needs}
 use Rattle.numbers.specs.Lines.{line-next}
 use Rattle.numbers.specs.Lists.{line, line-none}
 use Rattle.sheet.specs.Sizes.{matrixPlaces}
-use Rattle.registers.proofs.Laws.{unwritten}
 use Rattle.registers.specs.Registers.{elementOf}
+use Rattle.registers.proofs.Laws.{unwritten}
 use Rattle.registers.proofs.copy_elements.Statement.{statement}
 use Rattle.registers.proofs.copy_elements.Tie as tie
 

@@ -1,10 +1,11 @@
 use mathlib.Core.Path.{sym, ap, _∙_, subst}
 use Prim.Native.Nat.{_<_}
-use Rattle.registers.specs.declared.MatrixType.{MatrixType}
 use Rattle.registers.specs.Sized.{SizedType}
-use Rattle.whole_steps.proofs.Accepted.{some-rows, agreed}
-use Rattle.whole_steps.specs.Grids.{block}
-use Rattle.whole_steps.specs.Whole.{transposed}
+use Rattle.registers.specs.Grids.{block}
+use Rattle.registers.specs.declared.MatrixType.{MatrixType}
+use Rattle.reduces.specs.Laws.Shapes.{some-rows}
+use Rattle.products.specs.Laws.Shapes.{agreed}
+use Rattle.whole_steps.specs.Transposing.{transposed}
 use Rattle.whole_steps.specs.Within.{WholeParts}
 use denote.Ref.{now}
 use borrow.Author.Needs.{needs}

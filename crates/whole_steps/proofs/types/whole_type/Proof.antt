@@ -13,11 +13,17 @@ enum-known-step-2 c = search needs
 the-type-requires : tie.Need-the-type-requires
 the-type-requires c κs = subst WholeParts (c .before .step2 .given .1) (c .before .before .before .pre .parts) .0
 
+reduced-type-requires : tie.Need-reduced-type-requires
+reduced-type-requires c κs = search needs
+
 enum-known-step-3 : tie.Need-enum-known-step-3
 enum-known-step-3 c = search needs
 
 the-type-requires-2 : tie.Need-the-type-requires-2
 the-type-requires-2 c κs = subst WholeParts (c .before .step3 .given .1) (c .before .before .before .pre .parts)
+
+transposed-type-requires : tie.Need-transposed-type-requires
+transposed-type-requires c κs = search needs
 
 enum-known-step-4 : tie.Need-enum-known-step-4
 enum-known-step-4 c = search needs
@@ -29,10 +35,10 @@ returns : tie.Need-returns
 returns c = rw (c .before .step .given .1)
 
 returns-2 : tie.Need-returns-2
-returns-2 c = rw (c .before .before .step2 .given .1, ← c .the-type .ensures)
+returns-2 c = rw (c .before .before .before .step2 .given .1, ← c .before .the-type .ensures) (c .reduced-type .ensures)
 
 returns-3 : tie.Need-returns-3
-returns-3 c = rw (c .before .before .step3 .given .1, ← c .the-type2 .ensures)
+returns-3 c = rw (c .before .before .before .step3 .given .1, ← c .before .the-type2 .ensures) (c .transposed-type .ensures)
 
 returns-4 : tie.Need-returns-4
 returns-4 c = rw (c .before .before .step4 .given .1) (c .the-type3 .ensures)
@@ -44,8 +50,10 @@ whole-type-spec =
     enum-known-step
     enum-known-step-2
     the-type-requires
+    reduced-type-requires
     enum-known-step-3
     the-type-requires-2
+    transposed-type-requires
     enum-known-step-4
     the-type-requires-3
     returns

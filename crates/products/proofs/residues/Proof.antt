@@ -1,0 +1,100 @@
+use mathlib.Core.Path.{_≡_, sym, ap, _∙_}
+use Prim.Native.Nat.{ℕ, _≤_, _-_, _+_, _*_, _^_}
+use native.Mathlib.Omega.{arith}
+use lib.ListN.{getD}
+use borrow.Author.Needs.{needs}
+use Rattle.numbers.specs.Lines.{line-same}
+use Rattle.numbers.specs.Lists.{line, line-none, line-step}
+use Rattle.kinds.specs.Modulo.{modZ}
+use Rattle.kinds.specs.Values.{value}
+use Rattle.sheet.specs.Sizes.{matrixPlaces}
+use Rattle.registers.specs.Registers.{placeOf}
+use Rattle.registers.specs.Laws.Sized.{sides}
+use Rattle.registers.specs.Grids.{blank}
+use Rattle.products.specs.Residues.{residuesOf}
+use Rattle.products.proofs.residues.Statement.{statement}
+use Rattle.products.proofs.residues.Tie as tie
+
+abbrev Inv-loop : tie.InvT-loop
+Inv-loop elements source count first kind out₀ e₀ out e = (e ≤ count) × (count ≤ matrixPlaces) × (out ≡ line blank 0 (λ (k : ℕ). modZ (value kind (getD elements (first + k) 0)) (2 ^ 32)) e)
+
+abbrev μ-loop : tie.MeasureT-loop
+μ-loop elements source count first kind out₀ e₀ out e = count - e
+
+cast-count : tie.Need-cast-count Inv-loop μ-loop
+cast-count c = search needs
+
+cast-count-2 : tie.Need-cast-count-2 Inv-loop μ-loop
+cast-count-2 c = search needs
+
+mul-count : tie.Need-mul-count Inv-loop μ-loop
+mul-count c = let t = c .before .before .before .args .t in omega (arith, sides (t .rows) (t .columns) (omega arith) (omega arith))
+
+place-of-requires : tie.Need-place-of-requires Inv-loop μ-loop
+place-of-requires c κs = search needs
+
+loop-holds : tie.Need-loop-holds Inv-loop μ-loop
+unfolding blank
+loop-holds c =
+    let t = c .before .before .before .before .args .t in
+    (search needs, sides (t .rows) (t .columns) (omega arith) (omega arith), sym (line-none _ _ _))
+
+add-at : tie.Need-add-at Inv-loop μ-loop
+add-at c = search needs
+
+at-requires : tie.Need-at-requires Inv-loop μ-loop
+at-requires c κs = search needs
+
+residue-requires : tie.Need-residue-requires Inv-loop μ-loop
+residue-requires c κs = search needs
+
+mul-out : tie.Need-mul-out Inv-loop μ-loop
+mul-out c = search needs
+
+array-write-out : tie.Need-array-write-out Inv-loop μ-loop
+array-write-out c = search needs
+
+add-e : tie.Need-add-e Inv-loop μ-loop
+add-e c = search needs
+
+loop-less : tie.Need-loop-less Inv-loop μ-loop
+loop-less c = search needs
+
+loop-again : tie.Need-loop-again Inv-loop μ-loop
+loop-again c = (
+  search needs,
+  c .before .before .before .loop .inv .1,
+  line-step _ _ _ (c .before .before .before .loop .inv .2) (c .residue .ensures ∙ ap (λ (x : ℕ). modZ (value (c .before .before .before .before .before .before .before .before .args .t .kind) x) (2 ^ 32)) (c .before .at .ensures)),
+)
+
+returns : tie.Need-returns Inv-loop μ-loop
+unfolding residuesOf
+returns c =
+    let a = c .before .before .before .before .before .before .args in
+    let p = c .before .before .place-of in
+    let e : c .before .loop .e ≡ a .t .rows * a .t .columns = omega arith in
+    rw e at (c .before .loop .inv .2)
+    ∙ line-same _ _ _ _ _ (λ k l.
+    let q : p .result + k ≡ placeOf (a .source) k = omega (arith, p .ensures) in
+    ap (λ (x : ℕ). modZ (value (a .t .kind) (getD (a .elements .now) x 0)) (2 ^ 32)) q)
+
+pub residues-spec : {M : Type 1} → statement M
+residues-spec =
+    tie.close
+    (tie.spec
+    Inv-loop
+    μ-loop
+    cast-count
+    cast-count-2
+    mul-count
+    place-of-requires
+    loop-holds
+    add-at
+    at-requires
+    residue-requires
+    mul-out
+    array-write-out
+    add-e
+    loop-less
+    loop-again
+    returns)

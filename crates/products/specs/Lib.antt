@@ -1,0 +1,4 @@
+pub mod Shapes
+pub mod Multiplying
+pub mod Residues
+pub mod Laws

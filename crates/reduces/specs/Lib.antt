@@ -1,0 +1,4 @@
+pub mod Shapes
+pub mod Reducing
+pub mod Parts
+pub mod Laws

@@ -1,0 +1,41 @@
+-- A sized type's elements have places, and every change of types keeps to Sizes.
+use mathlib.Core.Path.{refl}
+use mathlib.Core.List.{List, [], _∷_}
+use Prim.Native.Nat.{ℕ, zero, suc, _*_, _≤_}
+use native.Mathlib.Nat.{mul-le-mul}
+use native.Mathlib.Omega.{arith}
+use lib.ListN.{replicate}
+use Rattle.sheet.specs.Sizes.{registerCount, sidePlaces, matrixPlaces}
+use Rattle.registers.specs.Types.{noType, theType, withType}
+use Rattle.registers.specs.Registers.{emptyRegisters}
+use Rattle.registers.specs.Sized.{SizedType, Sized}
+use Rattle.registers.specs.declared.MatrixType.{MatrixType}
+
+pub sides : (a b : ℕ) → a ≤ sidePlaces → b ≤ sidePlaces → a * b ≤ matrixPlaces
+sides a b p q = mul-le-mul {n₂ = sidePlaces} {m₂ = sidePlaces} p q
+
+-- the elements of a matrix have places
+pub sized-places : (t : MatrixType) → SizedType t → t .rows * t .columns ≤ matrixPlaces
+sized-places t s = sides (t .rows) (t .columns) (s .rows) (s .columns)
+
+pub sized-none : SizedType noType
+sized-none = record { kind = refl; rows = omega arith; columns = omega arith; some = λ h. h; none = λ e. refl }
+
+at-set : (P : MatrixType → Type 0) (ts : List MatrixType) (r : ℕ) (t : MatrixType) (k : ℕ) → P (theType ts k) → P t → P (theType (withType ts r t) k)
+at-set P [] r t k p q = p
+at-set P (x ∷ ts) zero t zero p q = q
+at-set P (x ∷ ts) zero t (suc k) p q = p
+at-set P (x ∷ ts) (suc r) t zero p q = p
+at-set P (x ∷ ts) (suc r) t (suc k) p q = at-set P ts r t k p q
+
+pub sized-with : (ts : List MatrixType) (r : ℕ) (t : MatrixType) → Sized ts → SizedType t → Sized (withType ts r t)
+sized-with ts r t s p = record { each = λ k. at-set SizedType ts r t k (s .each k) p }
+
+none-at : (n k : ℕ) → SizedType (theType (replicate n noType) k)
+none-at zero k = sized-none
+none-at (suc n) zero = sized-none
+none-at (suc n) (suc k) = none-at n k
+
+pub sized-empty : Sized (emptyRegisters .types)
+unfolding emptyRegisters
+sized-empty = record { each = λ k. none-at registerCount k }

@@ -1,0 +1,64 @@
+// The blocks of results: the places of a register, of which a matrix takes the first.
+ghost use mathlib.Core.Path.{_≡_};
+ghost use Prim.Native.Nat.{ℕ, _+_, _*_, _^_, _<_, _≤_};
+ghost use lib.ListN.{getD};
+ghost use Rattle.numbers.specs.Lists.{line};
+ghost use Rattle.sheet.specs.Sizes.{sidePlaces, matrixPlaces, elementPlaces};
+ghost use Rattle.registers.specs.Grids.{block};
+use sheet::sizes::PLACES;
+
+// A row of a block: elements of a list from a place on, a step apart.
+fn spread_row(
+    out: &mut [u32; PLACES],
+    start: usize,
+    from: &[u32],
+    first: usize,
+    across: usize,
+    columns: usize,
+)
+    requires { ⌜ (start + columns ≤ matrixPlaces) × (first < 2 ^ 16) × (across ≤ sidePlaces) ⌝ }
+    ensures { λ _. ⌜ now (out .exit) ≡ line (now (out .entry)) start (λ (j : ℕ). getD (now (from .entry)) (first + j * across) 0) columns ⌝ }
+{
+    let mut j = 0;
+    while j < columns {
+        out[start + j] = numbers::at(from, first + j * across);
+        j += 1;
+    }
+}
+
+// Element (i, j) stands i steps down and j across in a list, from a place on.
+pub fn spread(
+    from: &[u32],
+    first: usize,
+    down: usize,
+    across: usize,
+    rows: usize,
+    columns: usize,
+) -> [u32; PLACES]
+    requires { ⌜ (first ≤ elementPlaces) × (down ≤ sidePlaces) × (across ≤ sidePlaces) × (rows ≤ sidePlaces) × (columns ≤ sidePlaces) ⌝ }
+    ensures { λ r. ⌜ r ≡ block rows columns (λ (i j : ℕ). getD (now (from .entry)) (first + i * down + j * across) 0) ⌝ }
+{
+    let mut out = [0u32; PLACES];
+    let mut i = 0;
+    while i < rows {
+        spread_row(
+            &mut out,
+            i * columns,
+            from,
+            first + i * down,
+            across,
+            columns,
+        );
+        i += 1;
+    }
+    out
+}
+
+// A matrix of one value.
+pub fn fill_block(value: u32, rows: usize, columns: usize) -> [u32; PLACES]
+    requires { ⌜ (rows ≤ sidePlaces) × (columns ≤ sidePlaces) ⌝ }
+    ensures { λ r. ⌜ r ≡ block rows columns (λ (i j : ℕ). value) ⌝ }
+{
+    let one = [value; 1];
+    spread(&one, 0, 0, 0, rows, columns)
+}
