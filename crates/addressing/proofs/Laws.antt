@@ -15,7 +15,7 @@ use Rattle.numbers.specs.Choice.{pick, pick-case}
 use Rattle.sheet.specs.Facts.{InSize, layout-span, view-most, view-size}
 use Rattle.sheet.specs.Views.{theViewDimension}
 use Rattle.addressing.specs.Valid.{ValidAccess, Planned}
-use Rattle.addressing.specs.Remainder.{remainder-lt}
+use Rattle.addressing.specs.Laws.Remainder.{remainder-lt}
 use Rattle.addressing.specs.declared.Plan.{Plan}
 use Rattle.sheet.specs.declared.ClampMode.{ClampMode}
 use Rattle.sheet.specs.declared.ClampMode.the-variants.{Undefined, Constant, ClampToEdge, Repeat, MirrorRepeat}

@@ -15,7 +15,8 @@ use Rattle.addressing.specs.declared.Access.{Access}
 use Rattle.addressing.specs.declared.Located.{Located}
 use Rattle.addressing.specs.Rules.{elementsOf}
 use Rattle.addressing.specs.Valid.{SizedAccess, ValidAccess}
-use Rattle.addressing.specs.Sound.{Sound, located-sound, low-bits-fit}
+use Rattle.addressing.specs.Sound.{Sound}
+use Rattle.addressing.specs.Laws.Sound.{located-sound, low-bits-fit}
 use Rattle.stops.specs.Stops.{stopAt}
 use Rattle.stops.specs.declared.Stop.{Stop}
 use Rattle.accesses.specs.Refusals.{elementOutcome, misplaced, ranksDiffer, storeBlocked, firstRefused, sameAt, meets, clashFrom, clashRefusal, elementsRefusal, accessRefusal, placedOne, placedCount}
