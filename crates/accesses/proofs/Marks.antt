@@ -3,21 +3,21 @@ use Prim.Native.Nat.{ℕ, zero, suc, _+_, _-_, _*_, _/_, _%_, _^_, _<_, _≤_, z
 use mathlib.Core.Path.{_≡_, refl, sym, ap, _∙_}
 use mathlib.Core.Bool.{Bool, true, false, true≢false, not}
 use mathlib.Core.List.{List}
-use native.Mathlib.Nat.{not-suc-le-zero, mod-lt, div-add-mod', zero-div, zero-mod, div-self, div-eq-of-lt, pow-suc, mul-mod-left, one-mul, div-lt-iff-lt-mul}
+use native.Mathlib.Nat.{mod-lt, div-add-mod', zero-div, zero-mod, div-self, div-eq-of-lt, pow-suc, mul-mod-left, one-mul, div-lt-iff-lt-mul}
 use native.Mathlib.Numerals.{add-one}
 use native.Mathlib.Omega.{arith}
 use lib.Bits.{bitOr, or-shr, or-mod, or-zero-l, or-zero-r, or-self}
 use lib.Dec.{eqb, ltb}
-use lib.ListN.{length, getD, set, replicate, length-set, length-replicate}
+use lib.ListN.{length, getD, set, length-set, length-replicate}
 use lib.Pow.{pow-pos, pow-lt, pow-add, shl-shr, shl-exact}
 use lib.Seq.{ext-getD, getD-set-same, getD-set-other}
-use borrow.Author.Tests.{eqb-true, eqb-false, eq-eqb, ne-eqb, ltb-true}
-use Rattle.numbers.specs.Choice.{pick, both, both-left, both-right}
+use borrow.Author.Tests.{eq-eqb, ne-eqb, ltb-true}
+use Rattle.numbers.specs.Choice.{pick, both, both-right}
 use Rattle.numbers.specs.All.{all, all-none, all-more, all-false}
 use Rattle.numbers.specs.Places.{by-test, by-place, by-order, none-all}
 use Rattle.accesses.specs.Refusals.{meets, apart}
 use Rattle.accesses.specs.Entries.{hasByte, hits, sameEntry}
-use Rattle.accesses.specs.Marks.{markWords, noMarks, wordOf, placeOf, bitAt, fresh, withMark, withoutMarks, Clear}
+use Rattle.accesses.specs.Marks.{markWords, noMarks, wordOf, bitOf, bitAt, fresh, withMark, withoutMarks, ClearFrom}
 
 -- a bit that is set, and the others
 or-one : (x : ℕ) → x < 2 → bitOr x 1 ≡ 1
@@ -64,28 +64,28 @@ module _ (x : ℕ) (h : hasByte x ≡ true) where
 
 -- one more mark
 module _ (ws : List ℕ) (long : length ws ≡ markWords) where
-  place-differs : (y x : ℕ) → hasByte y ≡ true → hasByte x ≡ true → (y ≡ x → ⊥) → wordOf y ≡ wordOf x → placeOf y ≡ placeOf x → ⊥
+  place-differs : (y x : ℕ) → hasByte y ≡ true → hasByte x ≡ true → (y ≡ x → ⊥) → wordOf y ≡ wordOf x → bitOf y ≡ bitOf x → ⊥
   place-differs y x hy hx d w e =
-      let p : wordOf y * 32 + placeOf y ≡ y - 1 = div-add-mod' (y - 1) 32 in
-      let q : wordOf x * 32 + placeOf x ≡ x - 1 = div-add-mod' (x - 1) 32 in
+      let p : wordOf y * 32 + bitOf y ≡ y - 1 = div-add-mod' (y - 1) 32 in
+      let q : wordOf x * 32 + bitOf x ≡ x - 1 = div-add-mod' (x - 1) 32 in
       d (omega (arith, byte-some y hy, byte-some x hx))
 
   same-word : (y x : ℕ) → hasByte y ≡ true → hasByte x ≡ true → (y ≡ x → ⊥) → wordOf y ≡ wordOf x
-      → bitAt (getD (set ws (wordOf y) (bitOr (getD ws (wordOf y) 0) (2 ^ placeOf y))) (wordOf x) 0) (placeOf x) ≡ bitAt (getD ws (wordOf x) 0) (placeOf x)
+      → bitAt (getD (set ws (wordOf y) (bitOr (getD ws (wordOf y) 0) (2 ^ bitOf y))) (wordOf x) 0) (bitOf x) ≡ bitAt (getD ws (wordOf x) 0) (bitOf x)
   same-word y x hy hx d w =
-      rw (w, getD-set-same ws (wordOf x) (bitOr (getD ws (wordOf x) 0) (2 ^ placeOf y)) 0 (rw long (word-inside x hx)))
-      (bit-other (getD ws (wordOf x) 0) (placeOf y) (placeOf x) (place-differs y x hy hx d w))
+      rw (w, getD-set-same ws (wordOf x) (bitOr (getD ws (wordOf x) 0) (2 ^ bitOf y)) 0 (rw long (word-inside x hx)))
+      (bit-other (getD ws (wordOf x) 0) (bitOf y) (bitOf x) (place-differs y x hy hx d w))
 
   pub mark-more : (y x : ℕ) → fresh (withMark ws y) x ≡ pick (hits y x) false (fresh ws x)
   unfolding fresh withMark hits both pick
   mark-more y x =
       by-test (hasByte x)
       (λ hx. by-place y x
-      (λ q. rw (q, hx, getD-set-same ws (wordOf x) (bitOr (getD ws (wordOf x) 0) (2 ^ placeOf x)) 0 (rw long (word-inside x hx)), bit-same (getD ws (wordOf x) 0) (placeOf x), eq-eqb x x refl))
+      (λ q. rw (q, hx, getD-set-same ws (wordOf x) (bitOr (getD ws (wordOf x) 0) (2 ^ bitOf x)) 0 (rw long (word-inside x hx)), bit-same (getD ws (wordOf x) 0) (bitOf x), eq-eqb x x refl))
       (λ d. by-test (hasByte y)
       (λ hy. by-place (wordOf y) (wordOf x)
       (λ w. rw (hx, hy, ne-eqb y x d, same-word y x hy hx d w))
-      (λ w. rw (hx, hy, ne-eqb y x d, getD-set-other ws (wordOf y) (wordOf x) (bitOr (getD ws (wordOf y) 0) (2 ^ placeOf y)) 0 (λ e. w (sym e)))))
+      (λ w. rw (hx, hy, ne-eqb y x d, getD-set-other ws (wordOf y) (wordOf x) (bitOr (getD ws (wordOf y) 0) (2 ^ bitOf y)) 0 (λ e. w (sym e)))))
       (λ hy. rw (hx, hy, ne-eqb y x d))))
       (λ hx. rw hx)
 
@@ -115,17 +115,17 @@ none-long = length-replicate {A = ℕ} markWords 0
 
 -- no mark in a word that no element has its byte in, before and after one of them is marked, and unmarked
 module _ (entries : List ℕ) (m : ℕ) (ws : List ℕ) where
-  pub clear-mark : (j k : ℕ) → Clear entries j m ws → j ≤ k → k < m → Clear entries j m (withMark ws (getD entries k 0))
+  pub clear-mark : (j k : ℕ) → ClearFrom entries j m ws → j ≤ k → k < m → ClearFrom entries j m (withMark ws (getD entries k 0))
   unfolding withMark pick
   clear-mark j k c g h =
       by-test (hasByte (getD entries k 0))
       (λ t. rw t record {
-        long = length-set ws (wordOf (getD entries k 0)) (bitOr (getD ws (wordOf (getD entries k 0)) 0) (2 ^ placeOf (getD entries k 0))) ∙ c .long;
-        clear = λ w free. getD-set-other ws (wordOf (getD entries k 0)) w (bitOr (getD ws (wordOf (getD entries k 0)) 0) (2 ^ placeOf (getD entries k 0))) 0 (λ e. free k g h t (sym e)) ∙ c .clear w free;
+        long = length-set ws (wordOf (getD entries k 0)) (bitOr (getD ws (wordOf (getD entries k 0)) 0) (2 ^ bitOf (getD entries k 0))) ∙ c .long;
+        clear = λ w free. getD-set-other ws (wordOf (getD entries k 0)) w (bitOr (getD ws (wordOf (getD entries k 0)) 0) (2 ^ bitOf (getD entries k 0))) 0 (λ e. free k g h t (sym e)) ∙ c .clear w free;
       })
       (λ t. rw t c)
 
-  pub clear-unmark : (k : ℕ) → Clear entries k m ws → Clear entries (k + 1) m (withoutMarks ws (getD entries k 0))
+  pub clear-unmark : (k : ℕ) → ClearFrom entries k m ws → ClearFrom entries (k + 1) m (withoutMarks ws (getD entries k 0))
   unfolding withoutMarks pick
   clear-unmark k c =
       by-test (hasByte (getD entries k 0))
@@ -142,14 +142,14 @@ module _ (entries : List ℕ) (m : ℕ) (ws : List ℕ) where
         clear = λ w free. c .clear w (λ i g h u e. by-place i k (λ s. true≢false (sym u ∙ ap (λ (n : ℕ). hasByte (getD entries n 0)) s ∙ t)) (λ s. free i (omega arith) h u e));
       })
 
-  pub clear-end : (k : ℕ) → Clear entries k m ws → m ≤ k → ws ≡ noMarks
+  pub clear-end : (k : ℕ) → ClearFrom entries k m ws → m ≤ k → ws ≡ noMarks
   clear-end k c h =
       ext-getD 0 ws noMarks (c .long ∙ sym none-long) (λ w l. c .clear w (λ i g n u e. absurd (omega arith)) ∙ sym (none-marked w))
 
 -- The bytes of the first k of m elements are marked, and each was new.
 pub record Marking (entries : List ℕ) (m k : ℕ) (ws : List ℕ) : Type 0 where
   pub inside : k ≤ m
-  pub marks : Clear entries 0 m ws
+  pub marks : ClearFrom entries 0 m ws
   pub each : (x : ℕ) → fresh ws x ≡ not (seen entries x k)
   pub far : all k (λ (i : ℕ). not (meets (sameEntry entries) i i)) ≡ true
 
@@ -157,11 +157,11 @@ pub record Marking (entries : List ℕ) (m k : ℕ) (ws : List ℕ) : Type 0 whe
 unmarked : (x : ℕ) → fresh noMarks x ≡ true
 unfolding fresh pick
 unmarked x =
-    let e : bitAt (getD noMarks (wordOf x) 0) (placeOf x) ≡ 0 = rw (none-marked (wordOf x)) (ap (λ (n : ℕ). n % 2) (zero-div (2 ^ placeOf x))) in
+    let e : bitAt (getD noMarks (wordOf x) 0) (bitOf x) ≡ 0 = rw (none-marked (wordOf x)) (ap (λ (n : ℕ). n % 2) (zero-div (2 ^ bitOf x))) in
     by-test (hasByte x) (λ h. rw h (eq-eqb _ 0 e)) (λ h. rw h)
 
 module _ (entries : List ℕ) (m : ℕ) where
-  no-marks : Clear entries 0 m noMarks
+  no-marks : ClearFrom entries 0 m noMarks
   no-marks = record { long = none-long; clear = λ w free. none-marked w }
 
   pub marking-start : (ws : List ℕ) → ws ≡ noMarks → Marking entries m 0 ws

@@ -1,6 +1,5 @@
 pub mod Refusals
 pub mod Entries
 pub mod Marks
-pub mod Accepted
 pub mod Strips
-pub mod Surveys
+pub mod Laws

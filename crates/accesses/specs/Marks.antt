@@ -26,8 +26,8 @@ pub record Scratch (entries marks : List ℕ) : Type 0 where
 abbrev pub wordOf : ℕ → ℕ
 wordOf x = (x - 1) / 32
 
-abbrev pub placeOf : ℕ → ℕ
-placeOf x = (x - 1) % 32
+abbrev pub bitOf : ℕ → ℕ
+bitOf x = (x - 1) % 32
 
 -- the bit at a place of a word
 abbrev pub bitAt : ℕ → ℕ → ℕ
@@ -35,16 +35,16 @@ bitAt word place = word / 2 ^ place % 2
 
 -- an entry's byte has no mark
 unfoldable pub fresh : List ℕ → ℕ → Bool
-fresh ws x = pick (hasByte x) (eqb (bitAt (getD ws (wordOf x) 0) (placeOf x)) 0) true
+fresh ws x = pick (hasByte x) (eqb (bitAt (getD ws (wordOf x) 0) (bitOf x)) 0) true
 
 unfoldable pub withMark : List ℕ → ℕ → List ℕ
-withMark ws x = pick (hasByte x) (set ws (wordOf x) (bitOr (getD ws (wordOf x) 0) (2 ^ placeOf x))) ws
+withMark ws x = pick (hasByte x) (set ws (wordOf x) (bitOr (getD ws (wordOf x) 0) (2 ^ bitOf x))) ws
 
 -- the word of an entry's byte without any mark
 unfoldable pub withoutMarks : List ℕ → ℕ → List ℕ
 withoutMarks ws x = pick (hasByte x) (set ws (wordOf x) 0) ws
 
 -- there is no mark in a word that no element from k on has its byte in
-pub record Clear (entries : List ℕ) (k m : ℕ) (ws : List ℕ) : Type 0 where
+pub record ClearFrom (entries : List ℕ) (k m : ℕ) (ws : List ℕ) : Type 0 where
   pub long : length ws ≡ markWords
   pub clear : (w : ℕ) → ((i : ℕ) → k ≤ i → i < m → hasByte (getD entries i 0) ≡ true → wordOf (getD entries i 0) ≡ w → ⊥) → getD ws w 0 ≡ 0

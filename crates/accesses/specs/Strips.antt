@@ -1,5 +1,5 @@
 -- Document 01's strips 1 to 10 as one list: what becomes of each element, in order, and the step's refusal and count of elements with a byte.
-use Prim.Native.Nat.{ℕ, zero, suc, _*_}
+use Prim.Native.Nat.{ℕ, zero, suc}
 use mathlib.Core.Path.{_≡_, refl}
 use mathlib.Core.Bool.{Bool, true, false}
 use mathlib.Core.List.{List, [], _∷_, map}

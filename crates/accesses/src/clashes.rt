@@ -4,7 +4,7 @@ ghost use Prim.Native.Nat.{_≤_};
 ghost use Rattle.addressing.specs.Capacities.{matrixPlaces};
 ghost use Rattle.accesses.specs.Refusals.{clashFrom, apart};
 ghost use Rattle.accesses.specs.Entries.{hasByte, hits, sameEntry};
-ghost use Rattle.accesses.specs.Marks.{noMarks, fresh, withMark, withoutMarks, Clear};
+ghost use Rattle.accesses.specs.Marks.{noMarks, fresh, withMark, withoutMarks, ClearFrom};
 use super::FILLED;
 use sheet::sizes::PLACES;
 
@@ -57,7 +57,7 @@ fn unmark(marks: &mut [u32; MARKS], x: u32)
 // Marks the bytes of `count` elements, up to the first that has a mark. The answer: none had.
 fn mark_all(marks: &mut [u32; MARKS], entries: &[u32; PLACES], count: usize) -> bool
     requires { ⌜ (now marks ≡ noMarks) × (count ≤ matrixPlaces) ⌝ }
-    ensures { λ r. ⌜ (r ≡ apart (sameEntry (now (entries .entry))) count) × Clear (now (entries .entry)) 0 count (now (marks .exit)) ⌝ }
+    ensures { λ r. ⌜ (r ≡ apart (sameEntry (now (entries .entry))) count) × ClearFrom (now (entries .entry)) 0 count (now (marks .exit)) ⌝ }
 {
     let mut k = 0;
     while k < count {
@@ -70,7 +70,7 @@ fn mark_all(marks: &mut [u32; MARKS], entries: &[u32; PLACES], count: usize) -> 
 }
 
 fn unmark_all(marks: &mut [u32; MARKS], entries: &[u32; PLACES], count: usize)
-    requires { ⌜ Clear (now entries) 0 count (now marks) × (count ≤ matrixPlaces) ⌝ }
+    requires { ⌜ ClearFrom (now entries) 0 count (now marks) × (count ≤ matrixPlaces) ⌝ }
     ensures { λ _. ⌜ now (marks .exit) ≡ noMarks ⌝ }
 {
     let mut k = 0;

@@ -15,7 +15,7 @@ use Rattle.numbers.specs.Choice.{pick, pick-case}
 use Rattle.sheet.specs.Laws.Facts.{InSize, layout-span, view-most, view-size}
 use Rattle.sheet.specs.Views.{theViewDimension}
 use Rattle.addressing.specs.Valid.{ValidAccess, Planned}
-use Rattle.addressing.specs.Remainder.{remainder-lt}
+use Rattle.addressing.specs.Laws.Remainder.{remainder-lt}
 use Rattle.addressing.specs.declared.Plan.{Plan}
 use Rattle.sheet.specs.declared.ClampMode.{ClampMode}
 use Rattle.sheet.specs.declared.ClampMode.the-variants.{Undefined, Constant, ClampToEdge, Repeat, MirrorRepeat}
@@ -53,8 +53,8 @@ module _ (v : View) (row col : ℕ) (e : outsideView v row col ≡ false) where
       (λ t q. absurd (true≢false q)) (λ t q. q) e
 
 -- the product of a row and a width
-pub sides : (a b : ℕ) → a < matrixPlaces → b ≤ matrixPlaces → a * b ≤ 65280
-sides a b g h = mul-le-mul {n₁ = a} {m₁ = b} {n₂ = 255} {m₂ = 256} (omega arith) (omega arith)
+pub sides : (a b : ℕ) → a < matrixPlaces → b ≤ matrixPlaces → a * b ≤ matrixPlaces * matrixPlaces
+sides a b g h = mul-le-mul {n₁ = a} {m₁ = b} {n₂ = matrixPlaces} {m₂ = matrixPlaces} (omega arith) h
 
 -- an element's row, its column and the columns are no more than the elements
 pub column-few : (k n : ℕ) → k % n ≤ k

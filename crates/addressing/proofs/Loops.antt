@@ -1,7 +1,7 @@
 -- Rules 2 and 3 to 5 as loops from the last dimension to the first, which keep no coordinates.
 use Prim.Native.Nat.{ℕ, zero, suc, _+_, _-_, _*_, _/_, _%_, _^_, _<_, _≤_}
 use mathlib.Core.Path.{_≡_, refl, sym, ap, _∙_}
-use mathlib.Core.Bool.{Bool, true, false, not}
+use mathlib.Core.Bool.{Bool, true, false}
 use mathlib.Core.List.{List}
 use native.Mathlib.Nat.{add-zero, zero-add, zero-mul, mod-lt, mul-le-mul, not-suc-le-zero}
 use native.Mathlib.Omega.{arith}

@@ -1,6 +1,6 @@
 pub mod Capacities
 pub mod Rules
 pub mod Plans
-pub mod Remainder
 pub mod Valid
 pub mod Sound
+pub mod Laws

@@ -1,120 +1,16 @@
--- What is known of an element's outcome, whatever the layout and the view: a law for all who act on outcomes.
-use Prim.Native.Nat.{ℕ, zero, suc, _+_, _*_, _^_, _<_, _≤_}
-use mathlib.Core.Path.{_≡_, refl}
-use mathlib.Core.Bool.{Bool, true, false}
-use mathlib.Core.List.{List}
-use native.Mathlib.Nat.{mod-lt}
-use lib.Pow.{pow-pos}
-use lib.Dec.{leb}
-use lib.IntN.{ℤ, pos, negsuc, _+ℤ_}
-use lib.ListN.{getD}
-use borrow.Author.Tests.{leb-true}
-use Rattle.numbers.specs.Choice.{pick-case}
-use Rattle.sheet.specs.Layouts.{theDimension}
-use Rattle.sheet.specs.declared.ClampMode.{ClampMode}
-use Rattle.sheet.specs.declared.ClampMode.the-variants.{Undefined, Constant, ClampToEdge, Repeat, MirrorRepeat}
-use Rattle.sheet.specs.declared.Dimension.{Dimension}
-use Rattle.sheet.specs.declared.Layout.{Layout}
+-- What is known of an element's outcome, whatever the layout and the view.
+use Prim.Native.Nat.{ℕ, _+_, _*_, _≤_}
+use mathlib.Core.Path.{_≡_}
+use mathlib.Core.Bool.{true, false}
 use Rattle.outcomes.specs.declared.Outcome.{Outcome}
-use Rattle.outcomes.specs.declared.Outcome.the-variants as outcome
+use Rattle.outcomes.specs.declared.Outcome.the-variants.{Skipped, Filled, Discarded, Placed}
 use Rattle.addressing.specs.declared.Access.{Access}
-use Rattle.addressing.specs.declared.Indexed.{Indexed}
-use Rattle.addressing.specs.declared.Indexed.the-variants.{Skipped, Index}
-use Rattle.addressing.specs.declared.Clamped.{Clamped}
-use Rattle.addressing.specs.declared.Clamped.the-variants.{Refused, Discarded, Filled, At}
-use Rattle.addressing.specs.declared.Located.{Located}
-use Rattle.addressing.specs.Rules.{onLoad, onStore, outside, clamped, twos, scaled, part, plus, tensorIndex, spanCoordinates, lowBits, addressed, settled, reached, indexed, landed, located}
+use Rattle.addressing.specs.Rules.{lowBits}
 
 -- only a load fills, with the low bits of the clamp value, and only a store discards;
 -- an element's bytes lie in memory, a multiple of the element size from the base
 abbrev pub Sound : Access → Outcome → Type 0
-Sound a outcome.Skipped = Unit {0}
-Sound a (outcome.Filled bits) = (a .load ≡ true) × (bits ≡ lowBits a)
-Sound a outcome.Discarded = a .load ≡ false
-Sound a (outcome.Placed byte) = (byte + a .size ≤ a .memory) × ((t : ℕ) × (byte ≡ a .base + t * a .size))
-
--- rule 4 fills on a load and discards on a store
-abbrev ByLoad : Bool → Clamped → Type 0
-ByLoad load Refused = Unit {0}
-ByLoad load Discarded = load ≡ false
-ByLoad load Filled = load ≡ true
-ByLoad load (At x) = Unit {0}
-
-onLoad-by : (mode : ClampMode) (c : ℤ) (n : ℕ) (load : Bool) → load ≡ true → ByLoad load (onLoad mode c n)
-onLoad-by Undefined c n load e = tt
-onLoad-by Constant c n load e = e
-onLoad-by ClampToEdge c n load e = tt
-onLoad-by Repeat c n load e = tt
-onLoad-by MirrorRepeat c n load e = tt
-
-onStore-by : (mode : ClampMode) (load : Bool) → load ≡ false → ByLoad load (onStore mode)
-onStore-by Undefined load e = tt
-onStore-by Constant load e = e
-onStore-by ClampToEdge load e = e
-onStore-by Repeat load e = e
-onStore-by MirrorRepeat load e = e
-
-outside-by : (load : Bool) (mode : ClampMode) (c : ℤ) (n : ℕ) → ByLoad load (outside load mode c n)
-unfolding outside
-outside-by load mode c n = pick-case (ByLoad load) load _ _ (onLoad-by mode c n load) (onStore-by mode load)
-
-clamped-by : (load : Bool) (mode : ClampMode) (c : ℤ) (n : ℕ) → ByLoad load (clamped load mode c n)
-unfolding clamped
-clamped-by load mode (negsuc a) n = outside-by load mode (negsuc a) n
-clamped-by load mode (pos a) n = pick-case (ByLoad load) (leb n a) _ _ (λ t. outside-by load mode (pos a) n) (λ t. tt)
-
-scaled-by : (load : Bool) (d : Dimension) (x : Clamped) → ByLoad load x → ByLoad load (scaled d x)
-scaled-by load d Refused h = h
-scaled-by load d Discarded h = h
-scaled-by load d Filled h = h
-scaled-by load d (At x) h = h
-
-plus-by : (load : Bool) (x y : Clamped) → ByLoad load x → ByLoad load y → ByLoad load (plus x y)
-plus-by load Refused y g h = g
-plus-by load Discarded y g h = g
-plus-by load Filled y g h = g
-plus-by load (At x) Refused g h = h
-plus-by load (At x) Discarded g h = h
-plus-by load (At x) Filled g h = h
-plus-by load (At x) (At y) g h = tt
-
-tensor-by : (load : Bool) (l : Layout) (cs : List ℕ) (n : ℕ) → ByLoad load (tensorIndex load l cs n)
-unfolding tensorIndex part
-tensor-by load l cs zero = tt
-tensor-by load l cs (suc n) =
-    let d = theDimension (l .dimensions) n in
-    plus-by load (tensorIndex load l cs n) (part load (l .mode) d (getD cs n 0)) (tensor-by load l cs n)
-    (scaled-by load d (clamped load (l .mode) (pos (getD cs n 0) +ℤ twos (d .offset)) (d .size)) (clamped-by load (l .mode) _ (d .size)))
-
-abbrev SoundAt : Access → Located → Type 0
-SoundAt a r = Sound a (r .outcome)
-
-module _ (a : Access) where
-  addressed-sound : (t : ℕ) → SoundAt a (addressed a t)
-  unfolding addressed
-  addressed-sound t = pick-case (SoundAt a) (leb (a .base + t * a .size + a .size) (a .memory)) _ _ (λ e. (leb-true _ _ e, (t, refl))) (λ e. tt)
-
-  settled-sound : (x : Clamped) → ByLoad (a .load) x → SoundAt a (settled a x)
-  settled-sound Refused h = tt
-  settled-sound Discarded h = h
-  settled-sound Filled h = (h, refl)
-  settled-sound (At t) h = addressed-sound t
-
-  reached-sound : (index : ℕ) → SoundAt a (reached a index)
-  unfolding reached
-  reached-sound index =
-      pick-case (SoundAt a) (leb (2 ^ 32) index) _ _ (λ e. tt)
-      (λ e. let cs = spanCoordinates (a .layout) index in
-      settled-sound (tensorIndex (a .load) (a .layout) cs (a .layout .rank)) (tensor-by (a .load) (a .layout) cs (a .layout .rank)))
-
-  landed-sound : (x : Indexed) → SoundAt a (landed a x)
-  landed-sound Skipped = tt
-  landed-sound (Index i) = reached-sound i
-
-  pub located-sound : (row col : ℕ) → Sound a (located a row col .outcome)
-  unfolding located
-  located-sound row col = landed-sound (indexed a row col)
-
--- the low bits of the clamp value are an element's
-pub low-bits-fit : (a : Access) → lowBits a < 2 ^ (8 * a .size)
-low-bits-fit a = mod-lt (a .layout .clamp) (pow-pos (8 * a .size))
+Sound a Skipped = Unit {0}
+Sound a (Filled bits) = (a .load ≡ true) × (bits ≡ lowBits a)
+Sound a Discarded = a .load ≡ false
+Sound a (Placed byte) = (byte + a .size ≤ a .memory) × ((t : ℕ) × (byte ≡ a .base + t * a .size))

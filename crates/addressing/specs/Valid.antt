@@ -1,6 +1,6 @@
 -- What an access must keep to for its elements to be looked at.
 use Prim.Native.Nat.{ℕ, _^_, _<_, _≤_}
-use mathlib.Core.Path.{_≡_, ap}
+use mathlib.Core.Path.{_≡_}
 use mathlib.Core.Bool.{true, false}
 use lib.ListN.{getD}
 use Rattle.sheet.specs.Layouts.{layoutOk}
@@ -10,7 +10,7 @@ use Rattle.addressing.specs.declared.Plan.{Plan}
 use Rattle.addressing.specs.declared.Clamped.{Clamped}
 use Rattle.addressing.specs.declared.Clamped.the-variants.{Refused, Discarded, Filled, At}
 use Rattle.addressing.specs.Capacities.{matrixPlaces}
-use Rattle.addressing.specs.Rules.{elementsOf, lowBits}
+use Rattle.addressing.specs.Rules.{elementsOf}
 use Rattle.addressing.specs.Plans.{planned}
 
 -- the layout, the view and the memory keep to Sizes, an element is 1, 2 or 4 bytes, and the matrix has columns and at most a register's elements
@@ -35,18 +35,6 @@ pub record Planned (p : Plan) : Type 0 where
   pub same : p ≡ planned (p .access)
   pub few : p .count ≤ matrixPlaces
   pub strides : (i : ℕ) → getD (p .strides) i 0 ≤ 4096 ^ 4
-
-pub planned-access : (a : Access) {p : Plan} → p ≡ planned a → p .access ≡ a
-unfolding planned
-planned-access a e = ap (λ (q : Plan). q .access) e
-
-pub plan-count : (p : Plan) → Planned p → p .count ≡ elementsOf (p .access)
-unfolding planned
-plan-count p ok = ap (λ (q : Plan). q .count) (ok .same)
-
-pub plan-fill : (p : Plan) → Planned p → p .fill ≡ lowBits (p .access)
-unfolding planned
-plan-fill p ok = ap (λ (q : Plan). q .fill) (ok .same)
 
 -- what rule 5 gives is at most n, where it gives an index
 abbrev pub AtMost : ℕ → Clamped → Type 0

@@ -1,5 +1,5 @@
 -- What the outcome of one element does: on a load to the registers' elements, on a store to memory.
-use Prim.Native.Nat.{ℕ, _+_, _≤_}
+use Prim.Native.Nat.{ℕ, _+_, _<_, _≤_}
 use mathlib.Core.List.{List}
 use Rattle.outcomes.specs.declared.Outcome.{Outcome}
 use Rattle.outcomes.specs.declared.Outcome.the-variants.{Skipped, Filled, Discarded, Placed}
@@ -55,3 +55,10 @@ Inside size len Skipped = Unit {0}
 Inside size len (Filled bits) = Unit {0}
 Inside size len Discarded = Unit {0}
 Inside size len (Placed byte) = byte + size ≤ len
+
+-- byte b is one of the size bytes of an element with an outcome
+abbrev pub Has : ℕ → ℕ → Outcome → Type 0
+Has size b Skipped = ⊥
+Has size b (Filled bits) = ⊥
+Has size b Discarded = ⊥
+Has size b (Placed byte) = (byte ≤ b) × (b < byte + size)

@@ -1,4 +1,3 @@
 pub mod Acts
 pub mod Transfers
 pub mod Laws
-pub mod Effects

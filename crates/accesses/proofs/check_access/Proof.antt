@@ -1,8 +1,8 @@
 use mathlib.Core.Path.{_∙_}
 use borrow.Author.Needs.{needs}
 use Rattle.numbers.specs.Choice.{went, tests}
-use Rattle.addressing.specs.Valid.{planned-access}
-use Rattle.accesses.specs.Accepted.{ranks-agree}
+use Rattle.addressing.specs.Laws.Plans.{planned-access}
+use Rattle.accesses.specs.Laws.Accepted.{ranks-agree}
 use Rattle.accesses.proofs.Laws.{access-nine, access-ten, access-eleven, access-elements}
 use Rattle.accesses.proofs.check_access.Statement.{statement}
 use Rattle.accesses.proofs.check_access.Tie as tie

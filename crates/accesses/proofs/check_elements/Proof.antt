@@ -1,7 +1,7 @@
 use mathlib.Core.Path.{_∙_}
 use Rattle.numbers.specs.Choice.{went}
-use Rattle.addressing.specs.Valid.{plan-count}
-use Rattle.accesses.specs.Surveys.{element-near}
+use Rattle.addressing.specs.Laws.Plans.{plan-count}
+use Rattle.accesses.specs.Laws.Surveys.{element-near}
 use Rattle.accesses.proofs.Laws.{clash-surveyed, apart-none, apart-found, checked-refused, checked-load, checked-clash, checked-apart}
 use borrow.Author.Needs.{needs}
 use Rattle.accesses.proofs.check_elements.Statement.{statement}

@@ -1,6 +1,6 @@
 use Rattle.accesses.proofs.Laws.{Passed, passed-none, passed-stop, passed-more, passed-end}
-use Rattle.addressing.specs.Valid.{plan-count}
-use Rattle.accesses.specs.Surveys.{element-near}
+use Rattle.addressing.specs.Laws.Plans.{plan-count}
+use Rattle.accesses.specs.Laws.Surveys.{element-near}
 use Rattle.accesses.specs.Refusals.{elementOutcome, placedCount}
 use mathlib.Core.Path.{refl, ap, _∙_}
 use Prim.Native.Nat.{_-_}

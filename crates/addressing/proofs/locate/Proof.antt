@@ -1,4 +1,4 @@
-use Rattle.addressing.specs.Valid.{plan-fill}
+use Rattle.addressing.specs.Laws.Plans.{plan-fill}
 use Rattle.addressing.proofs.Laws.{plan-numbers}
 use Rattle.addressing.specs.Rules.{located}
 use mathlib.Core.Path.{_∙_}

@@ -1,11 +1,11 @@
-use Rattle.transfers.specs.Laws.{load-turn, loaded-count, transferred-none, transferred-same, sound-inside, access-size}
+use Rattle.transfers.specs.Laws.Elements.{load-turn, loaded-count, transferred-none, transferred-same, sound-inside, access-size}
 use Rattle.transfers.specs.Transfers.{transferred, outcomeOf}
 use Rattle.transfers.specs.Acts.{State, state, loaded}
 use Rattle.addressing.specs.Rules.{elementsOf}
-use Rattle.addressing.specs.Valid.{plan-count}
-use Rattle.accesses.specs.Surveys.{surveyed-outcome}
+use Rattle.addressing.specs.Laws.Plans.{plan-count}
+use Rattle.accesses.specs.Laws.Surveys.{surveyed-outcome}
 use Rattle.accesses.specs.Entries.{entryOutcome}
-use Rattle.accesses.specs.Accepted.{element-sound}
+use Rattle.accesses.specs.Laws.Accepted.{element-sound}
 use lib.ListN.{getD}
 use denote.Ref.{now}
 use mathlib.Core.Path.{_≡_, sym, ap, _∙_}

@@ -1,11 +1,11 @@
-use Rattle.transfers.specs.Laws.{store-turn, stored-count, stored-length, transferred-none, transferred-same, sound-inside, access-size}
+use Rattle.transfers.specs.Laws.Elements.{store-turn, stored-count, stored-length, transferred-none, transferred-same, sound-inside, access-size}
 use Rattle.transfers.specs.Transfers.{transferred, outcomeOf}
 use Rattle.transfers.specs.Acts.{State, state, stored}
 use Rattle.addressing.specs.Rules.{elementsOf}
-use Rattle.addressing.specs.Valid.{plan-count}
-use Rattle.accesses.specs.Surveys.{surveyed-outcome}
+use Rattle.addressing.specs.Laws.Plans.{plan-count}
+use Rattle.accesses.specs.Laws.Surveys.{surveyed-outcome}
 use Rattle.accesses.specs.Entries.{entryOutcome}
-use Rattle.accesses.specs.Accepted.{element-sound}
+use Rattle.accesses.specs.Laws.Accepted.{element-sound}
 use lib.ListN.{length, getD}
 use denote.Ref.{now}
 use mathlib.Core.Path.{_≡_, refl, sym, ap, _∙_}

@@ -5,7 +5,7 @@ use lib.Bits.{bitOr}
 use lib.ListN.{getD, set}
 use native.Mathlib.Omega.{arith}
 use Rattle.numbers.specs.Choice.{taken, left, went-not, went-past}
-use Rattle.accesses.specs.Marks.{wordOf, placeOf, fresh, withMark}
+use Rattle.accesses.specs.Marks.{wordOf, bitOf, fresh, withMark}
 use Rattle.accesses.proofs.Marks.{byte-some, word-inside, one-shifted}
 use borrow.Author.Needs.{needs}
 use Rattle.accesses.proofs.clashes.mark.Statement.{statement}
@@ -46,7 +46,7 @@ returns-2 : tie.Need-returns-2
 unfolding fresh withMark
 returns-2 c = let a = c .before .before .before .args in
     let h = went-past (c .before .before .has-byte .ensures) (c .before .if1 .left) in
-    let e = one-shifted (placeOf (a .x)) (mod-lt (a .x - 1) (omega arith)) in
+    let e = one-shifted (bitOf (a .x)) (mod-lt (a .x - 1) (omega arith)) in
     (taken _ h refl, taken _ h (ap (λ (n : ℕ). set (a .marks .now) (wordOf (a .x)) (bitOr (getD (a .marks .now) (wordOf (a .x)) 0) n)) e))
 
 pub mark-spec : {M : Type 1} → statement M

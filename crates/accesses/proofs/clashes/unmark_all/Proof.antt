@@ -1,13 +1,12 @@
 use Prim.Native.Nat.{_-_, _≤_, zero-le}
-use native.Mathlib.Omega.{arith}
-use Rattle.accesses.specs.Marks.{Clear}
+use Rattle.accesses.specs.Marks.{ClearFrom}
 use Rattle.accesses.proofs.Marks.{clear-unmark, clear-end}
 use borrow.Author.Needs.{needs}
 use Rattle.accesses.proofs.clashes.unmark_all.Statement.{statement}
 use Rattle.accesses.proofs.clashes.unmark_all.Tie as tie
 
 abbrev Inv-loop : tie.InvT-loop
-Inv-loop marks₀ entries count k₀ marks k = (k ≤ count) × Clear entries k count marks
+Inv-loop marks₀ entries count k₀ marks k = (k ≤ count) × ClearFrom entries k count marks
 
 abbrev μ-loop : tie.MeasureT-loop
 μ-loop marks₀ entries count k₀ marks k = count - k

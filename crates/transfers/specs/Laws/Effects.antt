@@ -11,7 +11,7 @@ use Rattle.memory.specs.Elements.{elementAt}
 use Rattle.memory.specs.Laws.{with-outside}
 use Rattle.addressing.specs.declared.Located.{Located}
 use Rattle.accesses.specs.Refusals.{placedOne, placedCount}
-use Rattle.transfers.specs.Acts.{State, loaded, stored}
+use Rattle.transfers.specs.Acts.{State, loaded, stored, Has}
 use Rattle.transfers.specs.Transfers.{transferred}
 
 -- what no element changes, all of them leave
@@ -51,13 +51,6 @@ module _ (size register : ℕ) where
   stored-counts k (Filled bits) s = sym (add-zero (s .count))
   stored-counts k Discarded s = sym (add-zero (s .count))
   stored-counts k (Placed byte) s = refl
-
--- byte b is one of the size bytes of an element with an outcome
-abbrev pub Has : ℕ → ℕ → Outcome → Type 0
-Has size b Skipped = ⊥
-Has size b (Filled bits) = ⊥
-Has size b Discarded = ⊥
-Has size b (Placed byte) = (byte ≤ b) × (b < byte + size)
 
 pub has-placed : (size b : ℕ) (o : Outcome) → Has size b o → (byte : ℕ) × ((o ≡ Placed byte) × ((byte ≤ b) × (b < byte + size)))
 has-placed size b Skipped h = absurd h

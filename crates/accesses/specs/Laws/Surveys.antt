@@ -12,13 +12,14 @@ use Rattle.addressing.specs.declared.Access.{Access}
 use Rattle.addressing.specs.declared.Located.{Located}
 use Rattle.addressing.specs.declared.Plan.{Plan}
 use Rattle.addressing.specs.Rules.{elementsOf, lowBits}
-use Rattle.addressing.specs.Valid.{SizedAccess, Planned, plan-fill}
+use Rattle.addressing.specs.Valid.{SizedAccess, Planned}
+use Rattle.addressing.specs.Laws.Plans.{plan-fill}
 use Rattle.addressing.specs.Sound.{Sound}
 use Rattle.refusals.specs.declared.Stop.{Stop}
 use Rattle.accesses.specs.declared.Tally.{Tally}
 use Rattle.accesses.specs.Refusals.{elementOutcome, firstRefused, accessRefusal}
 use Rattle.accesses.specs.Entries.{Near, entryOf, entryOutcome, Surveyed}
-use Rattle.accesses.specs.Accepted.{element-sound, element-accepted}
+use Rattle.accesses.specs.Laws.Accepted.{element-sound, element-accepted}
 
 sound-near : (a : Access) → SizedAccess a → (o : Outcome) → Sound a o → Near o
 sound-near a ok Skipped h = tt

@@ -1,0 +1,3 @@
+pub mod Remainder
+pub mod Plans
+pub mod Sound

@@ -1,0 +1,99 @@
+-- What one element's act keeps, and one more element.
+use Prim.Native.Nat.{ℕ, zero, suc, _+_, _<_, _≤_}
+use mathlib.Core.Path.{_≡_, refl, sym, ap₂, _∙_}
+use mathlib.Core.List.{List}
+use mathlib.Core.Logic.{inl, inr}
+use native.Mathlib.Nat.{le-refl}
+use native.Mathlib.Numerals.{add-one}
+use native.Mathlib.Omega.{arith}
+use lib.ListN.{length}
+use Rattle.numbers.specs.Places.{by-place}
+use Rattle.kinds.specs.Laws.{ElementSize}
+use Rattle.outcomes.specs.declared.Outcome.{Outcome}
+use Rattle.outcomes.specs.declared.Outcome.the-variants.{Skipped, Filled, Discarded, Placed}
+use Rattle.addressing.specs.declared.Access.{Access}
+use Rattle.addressing.specs.Valid.{SizedAccess}
+use Rattle.addressing.specs.Sound.{Sound}
+use Rattle.memory.specs.Laws.{length-with}
+use Rattle.transfers.specs.Acts.{State, state, loaded, stored, Inside}
+use Rattle.transfers.specs.Transfers.{transferred}
+
+module _ (size register element : ℕ) where
+  -- a load's element changes no memory, a store's no register
+  pub loaded-memory : (o : Outcome) (s : State) → loaded size register element o s .memory ≡ s .memory
+  loaded-memory Skipped s = refl
+  loaded-memory (Filled bits) s = refl
+  loaded-memory Discarded s = refl
+  loaded-memory (Placed byte) s = refl
+
+  pub stored-elements : (o : Outcome) (s : State) → stored size register element o s .elements ≡ s .elements
+  stored-elements Skipped s = refl
+  stored-elements (Filled bits) s = refl
+  stored-elements Discarded s = refl
+  stored-elements (Placed byte) s = refl
+
+  -- a store keeps the length of memory
+  pub stored-length : (o : Outcome) (s : State) → length (stored size register element o s .memory) ≡ length (s .memory)
+  stored-length Skipped s = refl
+  stored-length (Filled bits) s = refl
+  stored-length Discarded s = refl
+  stored-length (Placed byte) s = length-with (s .memory) byte size _
+
+  -- an element counts at most once
+  pub loaded-count : (o : Outcome) (s : State) → loaded size register element o s .count ≤ s .count + 1
+  loaded-count Skipped s = omega arith
+  loaded-count (Filled bits) s = omega arith
+  loaded-count Discarded s = omega arith
+  loaded-count (Placed byte) s = le-refl _
+
+  pub stored-count : (o : Outcome) (s : State) → stored size register element o s .count ≤ s .count + 1
+  stored-count Skipped s = omega arith
+  stored-count (Filled bits) s = omega arith
+  stored-count Discarded s = omega arith
+  stored-count (Placed byte) s = le-refl _
+
+-- one more element
+pub transferred-none : (act : ℕ → Outcome → State → State) (f : ℕ → Outcome) (s : State) → transferred act f 0 s ≡ s
+unfolding transferred
+transferred-none act f s = refl
+
+pub transferred-more : (act : ℕ → Outcome → State → State) (f : ℕ → Outcome) (n : ℕ) (s : State) → transferred act f (n + 1) s ≡ act n (f n) (transferred act f n s)
+unfolding transferred
+transferred-more act f n s = rw add-one
+
+-- an element's bytes lie in memory
+pub sound-inside : (a : Access) (o : Outcome) → Sound a o → Inside (a .size) (a .memory) o
+sound-inside a Skipped s = tt
+sound-inside a (Filled bits) s = tt
+sound-inside a Discarded s = tt
+sound-inside a (Placed byte) s = s .0
+
+-- the elements of an access have 1, 2 or 4 bytes
+pub access-size : (a : Access) → SizedAccess a → ElementSize (a .size)
+access-size a s =
+    by-place (a .size) 1 inl
+    (λ n. by-place (a .size) 2 (λ e. inr (inl e)) (λ m. let k : a .size ≡ 4 = omega (arith, s .some, s .most, s .odd) in inr (inr k)))
+
+-- a state by its parts
+made : (x : State) {es m : List ℕ} {n : ℕ} → es ≡ x .elements → m ≡ x .memory → n ≡ x .count → state es m n ≡ x
+made x p q r = rw (p, q, r)
+
+-- one turn of the loop over a load's elements, and over a store's
+module _ (size register k : ℕ) (f : ℕ → Outcome) (s : State) {es m : List ℕ} {n : ℕ} (o : Outcome) (q : o ≡ f k) where
+  pub load-turn : {es′ : List ℕ} {n′ : ℕ} → state es m n ≡ transferred (loaded size register) f k s → es′ ≡ loaded size register k o (state es m n) .elements → n′ ≡ loaded size register k o (state es m n) .count → state es′ m n′ ≡ transferred (loaded size register) f (k + 1) s
+  load-turn inv p r =
+      made (loaded size register k o (state es m n)) p (sym (loaded-memory size register k o (state es m n))) r
+      ∙ ap₂ (loaded size register k) q inv
+      ∙ sym (transferred-more (loaded size register) f k s)
+
+  pub store-turn : {m′ : List ℕ} {n′ : ℕ} → state es m n ≡ transferred (stored size register) f k s → m′ ≡ stored size register k o (state es m n) .memory → n′ ≡ stored size register k o (state es m n) .count → state es m′ n′ ≡ transferred (stored size register) f (k + 1) s
+  store-turn inv p r =
+      made (stored size register k o (state es m n)) (sym (stored-elements size register k o (state es m n))) p r
+      ∙ ap₂ (stored size register k) q inv
+      ∙ sym (transferred-more (stored size register) f k s)
+
+-- elements with the same outcomes act alike
+pub transferred-same : (act : ℕ → Outcome → State → State) {f g : ℕ → Outcome} (n : ℕ) (s : State) → ((k : ℕ) → k < n → f k ≡ g k) → transferred act f n s ≡ transferred act g n s
+unfolding transferred
+transferred-same act zero s h = refl
+transferred-same act (suc n) s h = ap₂ (act n) (h n (omega arith)) (transferred-same act n s (λ k l. h k (omega arith)))
