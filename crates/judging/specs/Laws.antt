@@ -1,4 +1,5 @@
 pub mod Bytes
 pub mod Elements
 pub mod Records
+pub mod Named
 pub mod Turns

@@ -4,7 +4,7 @@ use mathlib.Core.List.{List}
 use mathlib.Core.Bool.{Bool, false, not}
 use lib.Dec.{leb, ltb, eqb}
 use lib.IntN.{ℤ}
-use Rattle.numbers.specs.Choice.{both}
+use Rattle.numbers.specs.Choice.{pick, both}
 use Rattle.numbers.specs.All.{all}
 use Rattle.kinds.specs.Widths.{bytesOf, fits}
 use Rattle.sheet.specs.Steps.{theStep}
@@ -53,25 +53,44 @@ fillRecordOk t first count value = both (not (isEmpty t)) (both (elementsOk t fi
 -- op 4 names a whole step that would not be refused
 abbrev pub wholeClear : ℕ → List MatrixType → ℕ → Step → Bool
 wholeClear edition ts len Nothing = false
-wholeClear edition ts len (Load register object layout view base) = false
-wholeClear edition ts len (Store register layout view base) = false
+wholeClear edition ts len (Load register object window) = false
+wholeClear edition ts len (Store register window) = false
 wholeClear edition ts len (step.Whole whole) = eqb (wholeRefusal edition ts len whole .number) 0
 
-unfoldable pub wholeRecordOk : Sheet → List MatrixType → ℕ → ℕ → Bool
-wholeRecordOk sh ts len k = both (ltb k (sh .steps)) (wholeClear (sh .edition) ts len (theStep (sh .step) k))
+-- .. and one of so many that the sheet has
+unfoldable pub wholeRecordOk : ℕ → ℕ → List MatrixType → ℕ → Step → ℕ → Bool
+wholeRecordOk edition steps ts len named k = both (ltb k steps) (wholeClear edition ts len named)
 
--- what of refusal 17 depends on registers, memory and sheet
+-- the number of the step that a record names; only op 4 names one
+abbrev pub stepNamed : Record → ℕ
+stepNamed (Copy register object) = 0
+stepNamed (Take register first count byte up down) = 0
+stepNamed (Put register first count byte up down) = 0
+stepNamed (Fill register first count value) = 0
+stepNamed (Whole k) = k
+
+-- the place where it is looked up: the first where the sheet has no such step
+unfoldable pub placeOf : ℕ → ℕ → ℕ
+placeOf steps k = pick (ltb k steps) k 0
+
+-- what of refusal 17 depends on registers, memory and sheet: its edition, how many steps it has, and the step that the record names
+abbrev pub recordOkWith : ℕ → ℕ → List MatrixType → ℕ → Step → Record → Bool
+recordOkWith edition steps ts len named (Copy register object) = not (isEmpty (theType ts object))
+recordOkWith edition steps ts len named (Take register first count byte up down) = bytesRecordOk (theType ts register) len first count byte up down
+recordOkWith edition steps ts len named (Put register first count byte up down) = bytesRecordOk (theType ts register) len first count byte up down
+recordOkWith edition steps ts len named (Fill register first count value) = fillRecordOk (theType ts register) first count value
+recordOkWith edition steps ts len named (Whole k) = wholeRecordOk edition steps ts len named k
+
 abbrev pub recordOk : Sheet → List MatrixType → ℕ → Record → Bool
-recordOk sh ts len (Copy register object) = not (isEmpty (theType ts object))
-recordOk sh ts len (Take register first count byte up down) = bytesRecordOk (theType ts register) len first count byte up down
-recordOk sh ts len (Put register first count byte up down) = bytesRecordOk (theType ts register) len first count byte up down
-recordOk sh ts len (Fill register first count value) = fillRecordOk (theType ts register) first count value
-recordOk sh ts len (Whole step) = wholeRecordOk sh ts len step
+recordOk sh ts len r = recordOkWith (sh .edition) (sh .steps) ts len (theStep (sh .step) (stepNamed r)) r
 
--- the types that a record leaves
+-- the types that a record leaves, with the step that it names
+abbrev pub recordTypesWith : List MatrixType → Step → Record → List MatrixType
+recordTypesWith ts named (Copy register object) = withType ts register (theType ts object)
+recordTypesWith ts named (Take register first count byte up down) = ts
+recordTypesWith ts named (Put register first count byte up down) = ts
+recordTypesWith ts named (Fill register first count value) = ts
+recordTypesWith ts named (Whole k) = stepTypes ts named
+
 abbrev pub recordTypes : Sheet → List MatrixType → Record → List MatrixType
-recordTypes sh ts (Copy register object) = withType ts register (theType ts object)
-recordTypes sh ts (Take register first count byte up down) = ts
-recordTypes sh ts (Put register first count byte up down) = ts
-recordTypes sh ts (Fill register first count value) = ts
-recordTypes sh ts (Whole step) = stepTypes ts (theStep (sh .step) step)
+recordTypes sh ts r = recordTypesWith ts (theStep (sh .step) (stepNamed r)) r

@@ -3,24 +3,25 @@ ghost use mathlib.Core.Path.{_≡_};
 ghost use mathlib.Core.Bool.{true};
 ghost use Prim.Native.Nat.{ℕ, _+_, _*_, _<_, _≤_, _^_};
 ghost use lib.ListN.{length};
-ghost use Rattle.sheet.specs.Steps.{stepOk};
+ghost use Rattle.sheet.specs.Sizes.{recordPlaces};
+ghost use Rattle.registers.specs.Registers.{room};
 ghost use Rattle.registers.specs.Sized.{Sized, SizedType};
 ghost use Rattle.sheet.specs.Laws.Within.{Within};
 ghost use Rattle.records.specs.Ranges.{Bytes, Sound};
 ghost use Rattle.records.specs.declared.Decoded.the-variants.{Good};
 ghost use Rattle.records.specs.declared.Record.the-variants.{Whole};
-ghost use Rattle.judging.specs.Records.{elementsOk, byteInside, bytesInside, bytesRecordOk, fillRecordOk, wholeClear, wholeRecordOk, recordOk, recordTypes};
-ghost use Rattle.judging.specs.Judging.{tapeRecord, decodedOk, decodedTypes, rangeRefusal, tapeRefusal};
+ghost use Rattle.judging.specs.Records.{elementsOk, byteInside, bytesInside, bytesRecordOk, fillRecordOk, wholeClear, wholeRecordOk, stepNamed, placeOf, recordOkWith, recordTypesWith};
+ghost use Rattle.judging.specs.Judging.{tapeRecord, placeNamed, decodedOkWith, decodedTypesWith, rangeRefusal, tapeRefusal};
+ghost use Rattle.judging.specs.Laws.Named.{Placed};
 use checking::checks;
 use records::Decoded;
 use records::Record;
+use refusals::RECORD_OUT_OF_RANGE;
 use refusals::Refusal;
 use registers::MatrixType;
 use sheet::Sheet;
 use sheet::Step;
-
-// A record out of range, or a record count that does not fit.
-const OUT_OF_RANGE: u8 = 17;
+use sheet::sizes::REGISTERS;
 
 fn elements_ok(t: MatrixType, first: usize, count: usize) -> bool
     requires { ⌜ SizedType t × (first < 2 ^ 31) × (count < 2 ^ 31) ⌝ }
@@ -30,7 +31,7 @@ fn elements_ok(t: MatrixType, first: usize, count: usize) -> bool
 }
 
 fn byte_inside(size: usize, len: usize, byte: usize, up: usize, down: usize, i: usize) -> bool
-    requires { ⌜ (size ≤ 4) × (i < 256) × Bytes byte up down ⌝ }
+    requires { ⌜ (size ≤ 4) × (i < room) × Bytes byte up down ⌝ }
     ensures { λ r. ⌜ r ≡ byteInside size len byte up down i ⌝ }
 {
     let above = byte + i * up;
@@ -42,7 +43,7 @@ fn byte_inside(size: usize, len: usize, byte: usize, up: usize, down: usize, i: 
 }
 
 fn bytes_inside(size: usize, len: usize, count: usize, byte: usize, up: usize, down: usize) -> bool
-    requires { ⌜ (size ≤ 4) × (count ≤ 256) × Bytes byte up down ⌝ }
+    requires { ⌜ (size ≤ 4) × (count ≤ room) × Bytes byte up down ⌝ }
     ensures { λ r. ⌜ r ≡ bytesInside size len count byte up down ⌝ }
 {
     let mut i = 0;
@@ -91,8 +92,8 @@ fn fill_record_ok(t: MatrixType, first: usize, count: usize, value: u32) -> bool
 }
 
 // A whole step that would not be refused.
-fn whole_clear(edition: u8, types: [MatrixType; 4], len: usize, step: Step) -> bool
-    requires { ⌜ ((layouts views : ℕ) × (stepOk edition layouts views step ≡ true)) ⌝ }
+fn whole_clear(edition: u8, types: [MatrixType; REGISTERS], len: usize, step: Step) -> bool
+    requires { ⌜ Placed edition step ⌝ }
     ensures { λ r. ⌜ r ≡ wholeClear edition types len step ⌝ }
 {
     match step {
@@ -100,15 +101,11 @@ fn whole_clear(edition: u8, types: [MatrixType; 4], len: usize, step: Step) -> b
         Step::Load {
             register: _,
             object: _,
-            layout: _,
-            view: _,
-            base: _,
+            window: _,
         } => false,
         Step::Store {
             register: _,
-            layout: _,
-            view: _,
-            base: _,
+            window: _,
         } => false,
         Step::Whole(whole) => {
             let stop = whole_steps::refusals::whole_refusal(edition, types, len, whole);
@@ -118,21 +115,34 @@ fn whole_clear(edition: u8, types: [MatrixType; 4], len: usize, step: Step) -> b
 }
 
 // Op 4.
-fn whole_record_ok(sheet: Sheet, types: [MatrixType; 4], len: usize, step: usize) -> bool
-    requires { ⌜ Within sheet ⌝ }
-    ensures { λ r. ⌜ r ≡ wholeRecordOk sheet types len step ⌝ }
+fn whole_record_ok(
+    edition: u8,
+    steps: usize,
+    types: [MatrixType; REGISTERS],
+    len: usize,
+    named: Step,
+    step: usize,
+) -> bool
+    requires { ⌜ Placed edition named ⌝ }
+    ensures { λ r. ⌜ r ≡ wholeRecordOk edition steps types len named step ⌝ }
 {
-    if sheet.steps <= step {
+    if steps <= step {
         return false;
     }
-    let c = sheet.step[step];
-    let s = c.step;
-    whole_clear(sheet.edition, types, len, s)
+    whole_clear(edition, types, len, named)
 }
 
-fn record_ok(sheet: Sheet, types: [MatrixType; 4], len: usize, r: Record) -> bool
-    requires { ⌜ Within sheet × Sized types × Sound (Good r) ⌝ }
-    ensures { λ r′. ⌜ r′ ≡ recordOk sheet types len r ⌝ }
+// The sheet is not passed for each record: its edition, its number of steps and the step that the record names stand for it.
+fn record_ok(
+    edition: u8,
+    steps: usize,
+    types: [MatrixType; REGISTERS],
+    len: usize,
+    named: Step,
+    r: Record,
+) -> bool
+    requires { ⌜ Placed edition named × Sized types × Sound (Good r) ⌝ }
+    ensures { λ r′. ⌜ r′ ≡ recordOkWith edition steps types len named r ⌝ }
 {
     match r {
         Record::Copy {
@@ -170,23 +180,14 @@ fn record_ok(sheet: Sheet, types: [MatrixType; 4], len: usize, r: Record) -> boo
             let t = registers::the_type(types, register);
             fill_record_ok(t, first, count, value)
         }
-        Record::Whole { step } => whole_record_ok(sheet, types, len, step),
+        Record::Whole { step } => whole_record_ok(edition, steps, types, len, named, step),
     }
 }
 
-fn whole_record_types(sheet: Sheet, types: [MatrixType; 4], step: usize) -> [MatrixType; 4]
-    requires { ⌜ Within sheet × (step < sheet .steps) ⌝ }
-    ensures { λ r. ⌜ r ≡ recordTypes sheet types (Whole step) ⌝ }
-{
-    let c = sheet.step[step];
-    let s = c.step;
-    checks::step_types(types, s)
-}
-
 // The types that a record in range leaves.
-fn record_types(sheet: Sheet, types: [MatrixType; 4], len: usize, r: Record) -> [MatrixType; 4]
-    requires { ⌜ Within sheet × Sound (Good r) × (recordOk sheet types len r ≡ true) ⌝ }
-    ensures { λ r′. ⌜ r′ ≡ recordTypes sheet types r ⌝ }
+fn record_types(types: [MatrixType; REGISTERS], named: Step, r: Record) -> [MatrixType; REGISTERS]
+    requires { ⌜ Sound (Good r) × ((edition steps len : ℕ) × Placed edition named × (recordOkWith edition steps types len named r ≡ true)) ⌝ }
+    ensures { λ r′. ⌜ r′ ≡ recordTypesWith types named r ⌝ }
 {
     match r {
         Record::Copy { register, object } => {
@@ -215,48 +216,117 @@ fn record_types(sheet: Sheet, types: [MatrixType; 4], len: usize, r: Record) -> 
             count: _,
             value: _,
         } => types,
-        Record::Whole { step } => whole_record_types(sheet, types, step),
+        Record::Whole { step: _ } => checks::step_types(types, named),
     }
 }
 
-fn decoded_ok(sheet: Sheet, types: [MatrixType; 4], len: usize, d: Decoded) -> bool
-    requires { ⌜ Within sheet × Sized types × Sound d ⌝ }
-    ensures { λ r. ⌜ r ≡ decodedOk sheet types len d ⌝ }
+fn decoded_ok(
+    edition: u8,
+    steps: usize,
+    types: [MatrixType; REGISTERS],
+    len: usize,
+    named: Step,
+    d: Decoded,
+) -> bool
+    requires { ⌜ Placed edition named × Sized types × Sound d ⌝ }
+    ensures { λ r. ⌜ r ≡ decodedOkWith edition steps types len named d ⌝ }
 {
     match d {
-        Decoded::Good(r) => record_ok(sheet, types, len, r),
+        Decoded::Good(r) => record_ok(edition, steps, types, len, named, r),
         Decoded::Bad => false,
     }
 }
 
-fn decoded_types(sheet: Sheet, types: [MatrixType; 4], len: usize, d: Decoded) -> [MatrixType; 4]
-    requires { ⌜ Within sheet × Sound d × (decodedOk sheet types len d ≡ true) ⌝ }
-    ensures { λ r. ⌜ r ≡ decodedTypes sheet types d ⌝ }
+fn decoded_types(
+    types: [MatrixType; REGISTERS],
+    named: Step,
+    d: Decoded,
+) -> [MatrixType; REGISTERS]
+    requires { ⌜ Sound d × ((edition steps len : ℕ) × Placed edition named × (decodedOkWith edition steps types len named d ≡ true)) ⌝ }
+    ensures { λ r. ⌜ r ≡ decodedTypesWith types named d ⌝ }
 {
     match d {
-        Decoded::Good(r) => record_types(sheet, types, len, r),
+        Decoded::Good(r) => record_types(types, named, r),
         Decoded::Bad => types,
+    }
+}
+
+fn step_named(r: Record) -> usize
+    ensures { λ r′. ⌜ r′ ≡ stepNamed r ⌝ }
+{
+    match r {
+        Record::Copy {
+            register: _,
+            object: _,
+        } => 0,
+        Record::Take {
+            register: _,
+            first: _,
+            count: _,
+            byte: _,
+            up: _,
+            down: _,
+        } => 0,
+        Record::Put {
+            register: _,
+            first: _,
+            count: _,
+            byte: _,
+            up: _,
+            down: _,
+        } => 0,
+        Record::Fill {
+            register: _,
+            first: _,
+            count: _,
+            value: _,
+        } => 0,
+        Record::Whole { step } => step,
+    }
+}
+
+fn place_of(steps: usize, step: usize) -> usize
+    ensures { λ r. ⌜ r ≡ placeOf steps step ⌝ }
+{
+    if step < steps {
+        return step;
+    }
+    0
+}
+
+// The place of the step that a record names, in a sheet of so many steps; the first where there is no such step.
+pub fn place_named(steps: usize, d: Decoded) -> usize
+    ensures { λ r. ⌜ r ≡ placeNamed steps d ⌝ }
+{
+    match d {
+        Decoded::Good(r) => place_of(steps, step_named(r)),
+        Decoded::Bad => 0,
     }
 }
 
 // The first record out of range, from empty registers.
 fn range(sheet: Sheet, tape: &[i32], records: usize, len: usize) -> Refusal
-    requires { ⌜ Within sheet × (records ≤ 1024) × (records * 6 ≤ length (now tape)) ⌝ }
+    requires { ⌜ Within sheet × (records ≤ recordPlaces) × (records * 6 ≤ length (now tape)) ⌝ }
     ensures { λ r. ⌜ r ≡ rangeRefusal records sheet len (tapeRecord (now (tape .entry))) ⌝ }
 {
     let none = registers::no_type();
-    let mut types = [none; 4];
+    let edition = sheet.edition;
+    let steps = sheet.steps;
+    let mut types = [none; REGISTERS];
     let mut k: usize = 0;
     while k < records {
         let d = records::read_record(tape, k * records::NUMBERS);
-        if !decoded_ok(sheet, types, len, d) {
-            return checks::refusal_at(OUT_OF_RANGE, k, 0);
+        let at = place_named(steps, d);
+        let c = sheet.step[at];
+        let named = c.step;
+        if !decoded_ok(edition, steps, types, len, named, d) {
+            return refusals::refusal_at(RECORD_OUT_OF_RANGE, k, 0);
         }
-        let after = decoded_types(sheet, types, len, d);
+        let after = decoded_types(types, named, d);
         types = after;
         k += 1;
     }
-    checks::refusal_at(0, 0, 0)
+    refusals::not_refused()
 }
 
 // A record count that does not fit has place 0.
@@ -265,7 +335,7 @@ pub fn tape_refusal(sheet: Sheet, tape: &[i32], records: usize, len: usize) -> R
     ensures { λ r. ⌜ r ≡ tapeRefusal sheet (now (tape .entry)) records len ⌝ }
 {
     if !records::records_fit(sheet.edition, tape.len(), records) {
-        return checks::refusal_at(OUT_OF_RANGE, 0, 0);
+        return refusals::refusal_at(RECORD_OUT_OF_RANGE, 0, 0);
     }
     range(sheet, tape, records, len)
 }

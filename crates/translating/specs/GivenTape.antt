@@ -1,19 +1,22 @@
 -- The tape of a sheet for a memory of a length, as document 01 describes it.
-use Prim.Native.Nat.{ℕ, _*_, suc, _+_}
+use Prim.Native.Nat.{ℕ, suc, _+_}
 use mathlib.Core.Path.{_≡_}
 use mathlib.Core.List.{List, [], _++_}
 use mathlib.Core.Bool.{true, false}
 use lib.IntN.{ℤ}
 use Rattle.sheet.specs.Steps.{theStep}
+use Rattle.sheet.specs.declared.Object.{Object}
+use Rattle.sheet.specs.declared.Tensors.{Tensors}
 use Rattle.sheet.specs.declared.Sheet.{Sheet}
 use Rattle.sheet.specs.declared.Step.{Step}
 use Rattle.sheet.specs.declared.Step.the-variants as step
 use Rattle.registers.specs.declared.MatrixType.{MatrixType}
 use Rattle.registers.specs.Types.{theType}
 use Rattle.registers.specs.Registers.{emptyRegisters}
+use Rattle.addressing.specs.Rules.{elementsOf}
 use Rattle.addressing.specs.declared.Access.{Access}
 use Rattle.transfers.specs.Transfers.{outcomeOf}
-use Rattle.checking.specs.Steps.{accessOf, objectOf, checkedStep}
+use Rattle.checking.specs.Steps.{accessOf, objectRegister, checkedStep}
 use Rattle.records.specs.Records.{tapeNumbers, recordNumbers}
 use Rattle.records.specs.declared.Record.the-variants.{Whole}
 use Rattle.runs.specs.Even.{Stretch, Given}
@@ -21,39 +24,36 @@ use Rattle.runs.specs.RunRecords.{runNumbers}
 use Rattle.translating.specs.Tapes.{copyRecords}
 
 -- the list of runs that document 01 gives for a load or a store
-abbrev pub AccessGiven : Access → MatrixType → List Stretch → Type 0
-AccessGiven a t rs = Given (outcomeOf a (t .columns)) (t .rows * t .columns) rs
+abbrev pub AccessGiven : Access → List Stretch → Type 0
+AccessGiven a rs = Given (outcomeOf a) (elementsOf a) rs
 
 -- the runs of a load or a store, as numbers
-pub record AccessNumbers (a : Access) (register : ℕ) (t : MatrixType) (xs : List ℤ) : Type 0 where
+pub record AccessNumbers (a : Access) (register : ℕ) (xs : List ℤ) : Type 0 where
   pub runs : List Stretch
-  pub given : AccessGiven a t runs
+  pub given : AccessGiven a runs
   pub same : xs ≡ runNumbers (a .load) register runs
 
--- a copy (none for object 255), and then the runs
-pub record LoadNumbers (a : Access) (register object : ℕ) (t : MatrixType) (xs : List ℤ) : Type 0 where
+-- a copy, none where the register is its own object, and then the runs
+pub record LoadNumbers (a : Access) (register : ℕ) (object : Object) (xs : List ℤ) : Type 0 where
   pub rest : List ℤ
-  pub moves : AccessNumbers a register t rest
+  pub moves : AccessNumbers a register rest
   pub same : xs ≡ tapeNumbers (copyRecords register object) ++ rest
 
 -- step k, at the types that the steps before left: a whole step becomes one op 4; a load becomes a copy
 -- and its runs, a store its runs
-abbrev pub StepNumbers : Sheet → List MatrixType → ℕ → ℕ → Step → List ℤ → Type 0
-StepNumbers sh ts len k step.Nothing xs = xs ≡ []
-StepNumbers sh ts len k (step.Whole whole) xs = xs ≡ recordNumbers (Whole k)
-StepNumbers sh ts len k (step.Load register object layout view base) xs =
-    let t = theType ts (objectOf register object) in
-    LoadNumbers (accessOf sh true layout view base t len) register object t xs
-StepNumbers sh ts len k (step.Store register layout view base) xs =
-    let t = theType ts register in
-    AccessNumbers (accessOf sh false layout view base t len) register t xs
+abbrev pub StepNumbers : Tensors → List MatrixType → ℕ → ℕ → Step → List ℤ → Type 0
+StepNumbers tensors ts len k step.Nothing xs = xs ≡ []
+StepNumbers tensors ts len k (step.Whole whole) xs = xs ≡ recordNumbers (Whole k)
+StepNumbers tensors ts len k (step.Load register object window) xs =
+    LoadNumbers (accessOf tensors true window (theType ts (objectRegister register object)) len) register object xs
+StepNumbers tensors ts len k (step.Store register window) xs = AccessNumbers (accessOf tensors false window (theType ts register) len) register xs
 
 -- n steps more, the next of which is number k
 pub data NumbersFrom (sh : Sheet) (len : ℕ) : ℕ → ℕ → List MatrixType → List ℤ → Type 0 where
   none : {k : ℕ} {ts : List MatrixType} → NumbersFrom sh len 0 k ts []
   more : {n k : ℕ} {ts : List MatrixType} (xs ys : List ℤ)
-      → StepNumbers sh ts len k (theStep (sh .step) k) xs
-      → NumbersFrom sh len n (k + 1) (checkedStep sh ts len (theStep (sh .step) k) .types) ys
+      → StepNumbers (sh .tensors) ts len k (theStep (sh .step) k) xs
+      → NumbersFrom sh len n (k + 1) (checkedStep (sh .edition) (sh .tensors) ts len (theStep (sh .step) k) .types) ys
       → NumbersFrom sh len (suc n) k ts (xs ++ ys)
 
 -- the tape of a sheet that is accepted

@@ -1,4 +1,5 @@
 pub mod Tapes
 pub mod Translating
+pub mod Writing
 pub mod GivenTape
 pub mod Theorems

@@ -7,9 +7,10 @@ use lib.ListN.{length}
 use lib.Seq.{sets}
 use lib.Dec.{eqb}
 use Rattle.numbers.specs.Choice.{pick}
+use Rattle.refusals.specs.Refusals.{tapeTooLong, refusalAt, notRefused}
 use Rattle.refusals.specs.declared.Refusal.{Refusal}
 use Rattle.sheet_reader.specs.Reading.{readSheet}
-use Rattle.checking.specs.Checking.{refusalAt, checkedSheet}
+use Rattle.checking.specs.Checking.{checkedSheet}
 use Rattle.records.specs.Records.{tapeNumbers}
 use Rattle.records.specs.Room.{recordsFit}
 use Rattle.translating.specs.Tapes.{tapeOf}
@@ -27,8 +28,8 @@ translated s len room =
     let c = checkedSheet s len in
     pick (eqb (c .refusal .number) 0)
     (pick (fitsRoom s len room)
-    (translateAnswer (refusalAt 0 0 0) (c .count) (length (tapeOf (readSheet s .sheet) len)))
-    (translateAnswer (refusalAt 16 0 0) 0 0))
+    (translateAnswer notRefused (c .count) (length (tapeOf (readSheet s .sheet) len)))
+    (translateAnswer (refusalAt tapeTooLong 0 0) 0 0))
     (translateAnswer (c .refusal) 0 0)
 
 -- the room afterwards: the tape's numbers from its start on, and every number past them as it was; unchanged where the sheet is refused

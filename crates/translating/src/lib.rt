@@ -2,36 +2,40 @@
 ghost use mathlib.Core.Path.{_≡_};
 ghost use mathlib.Core.Bool.{true};
 ghost use mathlib.Core.List.{[], _∷_};
-ghost use Prim.Native.Nat.{ℕ, _+_, _*_, _<_, _≤_};
+ghost use Prim.Native.Nat.{ℕ, _*_, _<_, _≤_};
 ghost use lib.ListN.{length};
 ghost use lib.Seq.{sets};
-ghost use Rattle.sheet.specs.Sizes.{optionOk};
-ghost use Rattle.sheet.specs.Steps.{stepOk};
+ghost use Rattle.sheet.specs.Sizes.{registerCount, stepPlaces};
+ghost use Rattle.sheet.specs.Steps.{objectOk};
 ghost use Rattle.sheet.specs.Laws.Within.{Within};
-ghost use Rattle.registers.specs.Sized.{Sized, SizedType};
+ghost use Rattle.addressing.specs.Capacities.{matrixPlaces};
+ghost use Rattle.addressing.specs.Rules.{elementsOf};
+ghost use Rattle.addressing.specs.Plans.{planned};
 ghost use Rattle.addressing.specs.Valid.{Planned};
-ghost use Rattle.addressing.specs.Rules.{planned};
-ghost use Rattle.accesses.specs.Refusals.{elementOutcome};
+ghost use Rattle.accesses.specs.Refusals.{accessRefusal};
 ghost use Rattle.transfers.specs.Transfers.{outcomeOf};
-ghost use Rattle.checking.specs.Steps.{accessOf, checkedStep};
+ghost use Rattle.checking.specs.Steps.{accessOf};
 ghost use Rattle.checking.specs.Checking.{memoryLimit, checked};
-ghost use Rattle.checking.specs.Clear.{Clear};
 ghost use Rattle.records.specs.Records.{tapeNumbers};
-ghost use Rattle.runs.specs.Runs.{runs, runsRecords};
-ghost use Rattle.translating.specs.Tapes.{accessRecords, stepRecords, tapeOf};
+ghost use Rattle.runs.specs.Runs.{runs};
+ghost use Rattle.translating.specs.Tapes.{copyRecords, accessRecords, stepRecords, tapeOf};
 ghost use Rattle.translating.specs.Translating.{translateAnswer, translated, translatedRoom};
+ghost use Rattle.translating.specs.Writing.{ClearWindow, ClearStep, Room, Wrote};
+use accesses::ELEMENTS;
 use addressing::Plan;
 use checking::checks;
-use checking::memory_steps;
+use checking::windows;
 use records::Record;
 use refusals::Refusal;
+use refusals::TAPE_TOO_LONG;
 use registers::MatrixType;
 use runs::Run;
+use sheet::Object;
 use sheet::Sheet;
 use sheet::Step;
-use sheet::sizes;
-
-const TAPE_TOO_LONG: u8 = 16;
+use sheet::Tensors;
+use sheet::Window;
+use sheet::sizes::REGISTERS;
 
 // The answer of translating: a refusal, or how many elements of loads and stores have a byte and how many records were written.
 pub struct TranslateAnswer {
@@ -40,18 +44,20 @@ pub struct TranslateAnswer {
     pub records: usize,
 }
 
-// How many runs the first `n` elements of a load or a store make, of which none is refused.
-fn count_runs(p: Plan, n: usize) -> usize
-    requires { ⌜ Planned p × (0 < p .columns) × (p .columns < 256) × (n ≤ 256) × ((k : ℕ) → k < n → elementOutcome (p .access) (p .columns) k .refusal ≡ 0) ⌝ }
-    ensures { λ r. ⌜ r ≡ length (runs (outcomeOf (p .access) (p .columns)) n) ⌝ }
+// How many runs a load or a store makes that is not refused. The entries are lent room.
+fn count_runs(entries: &mut [u32; ELEMENTS], p: Plan) -> usize
+    requires { ⌜ Planned p × (accessRefusal (p .access) .number ≡ 0) × (length (now entries) ≡ matrixPlaces) ⌝ }
+    ensures { λ _. ⌜ length (now (entries .exit)) ≡ matrixPlaces ⌝ }
+    ensures { λ r. ⌜ r ≡ length (runs (outcomeOf (p .access)) (elementsOf (p .access))) ⌝ }
 {
-    let s = accesses::survey_of(p, n);
-    let entries = s.entries;
+    let n = p.count;
+    let fill = p.fill;
+    accesses::survey(entries, p);
     let mut held = Run::Idle;
     let mut records = 0;
     let mut k = 0;
     while k < n {
-        let o = accesses::outcome_of(entries[k], p.fill);
+        let o = accesses::outcome_of(entries[k], fill);
         let t = runs::next_run(held, k, o);
         let done = t.done;
         records += runs::records_of(done);
@@ -62,18 +68,27 @@ fn count_runs(p: Plan, n: usize) -> usize
 }
 
 // Writes their records from record `start` of a tape on: the next record's number.
-fn write_runs(tape: &mut [i32], start: usize, p: Plan, load: bool, register: u8, n: usize) -> usize
-    requires { ⌜ Planned p × (0 < p .columns) × (p .columns < 256) × (n ≤ 256) × ((k : ℕ) → k < n → elementOutcome (p .access) (p .columns) k .refusal ≡ 0) ⌝ }
-    requires { ⌜ (register < 4) × ((start + length (runsRecords load register (outcomeOf (p .access) (p .columns)) n)) * 6 ≤ length (now tape)) ⌝ }
-    ensures { λ r. ⌜ (r ≡ start + length (runsRecords load register (outcomeOf (p .access) (p .columns)) n)) × (now (tape .exit) ≡ sets (now (tape .entry)) (start * 6) (tapeNumbers (runsRecords load register (outcomeOf (p .access) (p .columns)) n))) ⌝ }
+fn write_runs(
+    tape: &mut [i32],
+    entries: &mut [u32; ELEMENTS],
+    start: usize,
+    p: Plan,
+    register: u8,
+) -> usize
+    requires { ⌜ Planned p × (accessRefusal (p .access) .number ≡ 0) × (length (now entries) ≡ matrixPlaces) ⌝ }
+    requires { ⌜ (register < registerCount) × Room (now tape) start (accessRecords (p .access) register) ⌝ }
+    ensures { λ _. ⌜ length (now (entries .exit)) ≡ matrixPlaces ⌝ }
+    ensures { λ r. ⌜ Wrote (now (tape .entry)) (now (tape .exit)) start (accessRecords (p .access) register) r ⌝ }
 {
-    let s = accesses::survey_of(p, n);
-    let entries = s.entries;
+    let load = p.access.load;
+    let n = p.count;
+    let fill = p.fill;
+    accesses::survey(entries, p);
     let mut held = Run::Idle;
     let mut at = start;
     let mut k = 0;
     while k < n {
-        let o = accesses::outcome_of(entries[k], p.fill);
+        let o = accesses::outcome_of(entries[k], fill);
         let t = runs::next_run(held, k, o);
         let done = t.done;
         at = runs::write_run(tape, at, load, register, done);
@@ -84,168 +99,108 @@ fn write_runs(tape: &mut [i32], start: usize, p: Plan, load: bool, register: u8,
 }
 
 // The plan of a load or a store that its check accepts.
-fn plan_access(
-    sheet: Sheet,
-    load: bool,
-    layout: u8,
-    view: u8,
-    base: u32,
-    t: MatrixType,
-    memory: usize,
-) -> Plan
-    requires { ⌜ Within sheet × (layout < sheet .layouts) × (optionOk (sheet .views) view ≡ true) × (memory ≤ memoryLimit) ⌝ }
-    requires { ⌜ Clear t (accessOf sheet load layout view base t memory) ⌝ }
-    ensures { λ p. ⌜ (p ≡ planned (accessOf sheet load layout view base t memory) (t .columns)) × Planned p ⌝ }
+fn plan_window(tensors: Tensors, load: bool, window: Window, t: MatrixType, memory: usize) -> Plan
+    requires { ⌜ ClearWindow tensors load window t memory ⌝ }
+    ensures { λ p. ⌜ (p ≡ planned (accessOf tensors load window t memory)) × Planned p ⌝ }
 {
-    let a = memory_steps::access_of(sheet, load, layout, view, base, t, memory);
-    addressing::plan_of(a, t.columns as u32)
+    let a = windows::access_of(tensors, load, window, t, memory);
+    addressing::plan_of(a)
 }
 
 // How many records the runs of a load or a store of a matrix of type t are.
-fn count_access(
-    sheet: Sheet,
+fn count_window(
+    entries: &mut [u32; ELEMENTS],
+    tensors: Tensors,
     load: bool,
-    layout: u8,
-    view: u8,
-    base: u32,
+    window: Window,
     t: MatrixType,
     memory: usize,
 ) -> usize
-    requires { ⌜ Within sheet × (layout < sheet .layouts) × (optionOk (sheet .views) view ≡ true) × (memory ≤ memoryLimit) ⌝ }
-    requires { ⌜ SizedType t × Clear t (accessOf sheet load layout view base t memory) ⌝ }
-    ensures { λ r. ⌜ r ≡ length (runs (outcomeOf (accessOf sheet load layout view base t memory) (t .columns)) (t .rows * t .columns)) ⌝ }
+    requires { ⌜ ClearWindow tensors load window t memory × (length (now entries) ≡ matrixPlaces) ⌝ }
+    ensures { λ _. ⌜ length (now (entries .exit)) ≡ matrixPlaces ⌝ }
+    ensures { λ r. ⌜ r ≡ length (runs (outcomeOf (accessOf tensors load window t memory)) (elementsOf (accessOf tensors load window t memory))) ⌝ }
 {
-    let p = plan_access(sheet, load, layout, view, base, t, memory);
-    count_runs(p, (t.rows as usize) * (t.columns as usize))
+    let p = plan_window(tensors, load, window, t, memory);
+    count_runs(entries, p)
 }
 
 // Writes them from record `at` of a tape on: the next record's number.
-fn write_access(
+fn write_window(
     tape: &mut [i32],
+    entries: &mut [u32; ELEMENTS],
     at: usize,
-    sheet: Sheet,
+    tensors: Tensors,
     load: bool,
     register: u8,
-    layout: u8,
-    view: u8,
-    base: u32,
+    window: Window,
     t: MatrixType,
     memory: usize,
 ) -> usize
-    requires { ⌜ Within sheet × (layout < sheet .layouts) × (optionOk (sheet .views) view ≡ true) × (memory ≤ memoryLimit) ⌝ }
-    requires { ⌜ SizedType t × Clear t (accessOf sheet load layout view base t memory) ⌝ }
-    requires { ⌜ (register < 4) × ((at + length (accessRecords (accessOf sheet load layout view base t memory) register t)) * 6 ≤ length (now tape)) ⌝ }
-    ensures { λ r. ⌜ (r ≡ at + length (accessRecords (accessOf sheet load layout view base t memory) register t)) × (now (tape .exit) ≡ sets (now (tape .entry)) (at * 6) (tapeNumbers (accessRecords (accessOf sheet load layout view base t memory) register t))) ⌝ }
+    requires { ⌜ ClearWindow tensors load window t memory × (length (now entries) ≡ matrixPlaces) ⌝ }
+    requires { ⌜ (register < registerCount) × Room (now tape) at (accessRecords (accessOf tensors load window t memory) register) ⌝ }
+    ensures { λ _. ⌜ length (now (entries .exit)) ≡ matrixPlaces ⌝ }
+    ensures { λ r. ⌜ Wrote (now (tape .entry)) (now (tape .exit)) at (accessRecords (accessOf tensors load window t memory) register) r ⌝ }
 {
-    let p = plan_access(sheet, load, layout, view, base, t, memory);
-    write_runs(
-        tape,
-        at,
-        p,
-        load,
-        register,
-        (t.rows as usize) * (t.columns as usize),
-    )
+    let p = plan_window(tensors, load, window, t, memory);
+    write_runs(tape, entries, at, p, register)
 }
 
-// A load: a copy of its object, none for its own register, and its runs.
-fn count_load(
-    sheet: Sheet,
-    types: [MatrixType; 4],
-    memory: usize,
-    register: u8,
-    object: u8,
-    layout: u8,
-    view: u8,
-    base: u32,
-) -> usize
-    requires { ⌜ Within sheet × (memory ≤ memoryLimit) × Sized types × (stepOk (sheet .edition) (sheet .layouts) (sheet .views) (Step.Load register object layout view base) ≡ true) ⌝ }
-    requires { ⌜ checkedStep sheet types memory (Step.Load register object layout view base) .stop .number ≡ 0 ⌝ }
-    ensures { λ r. ⌜ r ≡ length (stepRecords sheet types memory 0 (Step.Load register object layout view base)) ⌝ }
+// The copy of a load's object, none for its own register.
+fn count_copy(object: Object) -> usize
+    ensures { λ r. ⌜ ((register : ℕ) → r ≡ length (copyRecords register object)) ⌝ }
 {
-    if object == sizes::NONE {
-        let own = registers::the_type(types, register);
-        return count_access(sheet, true, layout, view, base, own, memory);
+    match object {
+        Object::Kept => 0,
+        Object::Register(_) => 1,
     }
-    let t = registers::the_type(types, object);
-    1 + count_access(sheet, true, layout, view, base, t, memory)
 }
 
-fn write_load(
-    tape: &mut [i32],
-    at: usize,
-    sheet: Sheet,
-    types: [MatrixType; 4],
-    memory: usize,
-    register: u8,
-    object: u8,
-    layout: u8,
-    view: u8,
-    base: u32,
-) -> usize
-    requires { ⌜ Within sheet × (memory ≤ memoryLimit) × Sized types × (stepOk (sheet .edition) (sheet .layouts) (sheet .views) (Step.Load register object layout view base) ≡ true) ⌝ }
-    requires { ⌜ checkedStep sheet types memory (Step.Load register object layout view base) .stop .number ≡ 0 ⌝ }
-    requires { ⌜ (at + length (stepRecords sheet types memory 0 (Step.Load register object layout view base))) * 6 ≤ length (now tape) ⌝ }
-    ensures { λ r. ⌜ (r ≡ at + length (stepRecords sheet types memory 0 (Step.Load register object layout view base))) × (now (tape .exit) ≡ sets (now (tape .entry)) (at * 6) (tapeNumbers (stepRecords sheet types memory 0 (Step.Load register object layout view base)))) ⌝ }
+fn write_copy(tape: &mut [i32], at: usize, register: u8, object: Object) -> usize
+    requires { ⌜ (register < registerCount) × (objectOk object ≡ true) × Room (now tape) at (copyRecords register object) ⌝ }
+    ensures { λ r. ⌜ Wrote (now (tape .entry)) (now (tape .exit)) at (copyRecords register object) r ⌝ }
 {
-    if object == sizes::NONE {
-        let own = registers::the_type(types, register);
-        return write_access(
-            tape,
-            at,
-            sheet,
-            true,
-            register,
-            layout,
-            view,
-            base,
-            own,
-            memory,
-        );
+    match object {
+        Object::Kept => at,
+        Object::Register(r) => {
+            records::put_record(
+                tape,
+                at * records::NUMBERS,
+                Record::Copy {
+                    register,
+                    object: r,
+                },
+            );
+            at + 1
+        }
     }
-    records::put_record(
-        tape,
-        at * records::NUMBERS,
-        Record::Copy { register, object },
-    );
-    let t = registers::the_type(types, object);
-    write_access(
-        tape,
-        at + 1,
-        sheet,
-        true,
-        register,
-        layout,
-        view,
-        base,
-        t,
-        memory,
-    )
 }
 
 // One step: how many records it becomes.
-fn count_step(sheet: Sheet, types: [MatrixType; 4], memory: usize, step: Step) -> usize
-    requires { ⌜ Within sheet × (memory ≤ memoryLimit) × Sized types × (stepOk (sheet .edition) (sheet .layouts) (sheet .views) step ≡ true) ⌝ }
-    requires { ⌜ checkedStep sheet types memory step .stop .number ≡ 0 ⌝ }
-    ensures { λ r. ⌜ r ≡ length (stepRecords sheet types memory 0 step) ⌝ }
+fn count_step(
+    entries: &mut [u32; ELEMENTS],
+    tensors: Tensors,
+    types: [MatrixType; REGISTERS],
+    memory: usize,
+    step: Step,
+) -> usize
+    requires { ⌜ ClearStep tensors types memory step × (length (now entries) ≡ matrixPlaces) ⌝ }
+    ensures { λ _. ⌜ length (now (entries .exit)) ≡ matrixPlaces ⌝ }
+    ensures { λ r. ⌜ r ≡ length (stepRecords tensors types memory 0 step) ⌝ }
 {
     match step {
         Step::Nothing => 0,
         Step::Load {
             register,
             object,
-            layout,
-            view,
-            base,
-        } => count_load(sheet, types, memory, register, object, layout, view, base),
-        Step::Store {
-            register,
-            layout,
-            view,
-            base,
+            window,
         } => {
+            let t = registers::the_type(types, checks::object_register(register, object));
+            let copied = count_copy(object);
+            copied + count_window(entries, tensors, true, window, t, memory)
+        }
+        Step::Store { register, window } => {
             let t = registers::the_type(types, register);
-            count_access(sheet, false, layout, view, base, t, memory)
+            count_window(entries, tensors, false, window, t, memory)
         }
         Step::Whole(_) => 1,
     }
@@ -253,8 +208,8 @@ fn count_step(sheet: Sheet, types: [MatrixType; 4], memory: usize, step: Step) -
 
 // A whole step's record as record `at` of a tape: the next record's number.
 fn write_whole(tape: &mut [i32], at: usize, step: usize) -> usize
-    requires { ⌜ ((at + 1) * 6 ≤ length (now tape)) × (step < 32) ⌝ }
-    ensures { λ r. ⌜ (r ≡ at + 1) × (now (tape .exit) ≡ sets (now (tape .entry)) (at * 6) (tapeNumbers (Record.Whole step ∷ []))) ⌝ }
+    requires { ⌜ (step < stepPlaces) × Room (now tape) at (Record.Whole step ∷ []) ⌝ }
+    ensures { λ r. ⌜ Wrote (now (tape .entry)) (now (tape .exit)) at (Record.Whole step ∷ []) r ⌝ }
 {
     records::put_record(tape, at * records::NUMBERS, Record::Whole { step });
     at + 1
@@ -263,54 +218,50 @@ fn write_whole(tape: &mut [i32], at: usize, step: usize) -> usize
 // Writes the records of step k from record `at` of a tape on: the next record's number.
 fn write_step(
     tape: &mut [i32],
+    entries: &mut [u32; ELEMENTS],
     at: usize,
-    sheet: Sheet,
-    types: [MatrixType; 4],
+    tensors: Tensors,
+    types: [MatrixType; REGISTERS],
     memory: usize,
     k: usize,
     step: Step,
 ) -> usize
-    requires { ⌜ Within sheet × (memory ≤ memoryLimit) × Sized types × (stepOk (sheet .edition) (sheet .layouts) (sheet .views) step ≡ true) ⌝ }
-    requires { ⌜ (checkedStep sheet types memory step .stop .number ≡ 0) × (k < 32) ⌝ }
-    requires { ⌜ (at + length (stepRecords sheet types memory k step)) * 6 ≤ length (now tape) ⌝ }
-    ensures { λ r. ⌜ (r ≡ at + length (stepRecords sheet types memory k step)) × (now (tape .exit) ≡ sets (now (tape .entry)) (at * 6) (tapeNumbers (stepRecords sheet types memory k step))) ⌝ }
+    requires { ⌜ ClearStep tensors types memory step × (length (now entries) ≡ matrixPlaces) ⌝ }
+    requires { ⌜ (k < stepPlaces) × Room (now tape) at (stepRecords tensors types memory k step) ⌝ }
+    ensures { λ _. ⌜ length (now (entries .exit)) ≡ matrixPlaces ⌝ }
+    ensures { λ r. ⌜ Wrote (now (tape .entry)) (now (tape .exit)) at (stepRecords tensors types memory k step) r ⌝ }
 {
     match step {
         Step::Nothing => at,
         Step::Load {
             register,
             object,
-            layout,
-            view,
-            base,
-        } => write_load(
-            tape,
-            at,
-            sheet,
-            types,
-            memory,
-            register,
-            object,
-            layout,
-            view,
-            base,
-        ),
-        Step::Store {
-            register,
-            layout,
-            view,
-            base,
+            window,
         } => {
-            let t = registers::the_type(types, register);
-            write_access(
+            let t = registers::the_type(types, checks::object_register(register, object));
+            let next = write_copy(tape, at, register, object);
+            write_window(
                 tape,
+                entries,
+                next,
+                tensors,
+                true,
+                register,
+                window,
+                t,
+                memory,
+            )
+        }
+        Step::Store { register, window } => {
+            let t = registers::the_type(types, register);
+            write_window(
+                tape,
+                entries,
                 at,
-                sheet,
+                tensors,
                 false,
                 register,
-                layout,
-                view,
-                base,
+                window,
                 t,
                 memory,
             )
@@ -320,19 +271,21 @@ fn write_step(
 }
 
 // How many records the tape of an accepted sheet has.
-fn count_tape(sheet: Sheet, memory: usize) -> usize
-    requires { ⌜ Within sheet × (memory ≤ memoryLimit) × (checked sheet memory .refusal .number ≡ 0) ⌝ }
+fn count_tape(entries: &mut [u32; ELEMENTS], sheet: Sheet, memory: usize) -> usize
+    requires { ⌜ Within sheet × (memory ≤ memoryLimit) × (checked sheet memory .refusal .number ≡ 0) × (length (now entries) ≡ matrixPlaces) ⌝ }
+    ensures { λ _. ⌜ length (now (entries .exit)) ≡ matrixPlaces ⌝ }
     ensures { λ r. ⌜ r ≡ length (tapeOf sheet memory) ⌝ }
 {
     let none = registers::no_type();
+    let tensors = sheet.tensors;
     let steps = sheet.steps;
-    let mut types = [none; 4];
+    let mut types = [none; REGISTERS];
     let mut records: usize = 0;
     let mut k: usize = 0;
     while k < steps {
         let c = sheet.step[k];
         let step = c.step;
-        records += count_step(sheet, types, memory, step);
+        records += count_step(entries, tensors, types, memory, step);
         let after = checks::step_types(types, step);
         types = after;
         k += 1;
@@ -341,20 +294,21 @@ fn count_tape(sheet: Sheet, memory: usize) -> usize
 }
 
 // Writes the tape of an accepted sheet from the start of the room on.
-fn write_tape(tape: &mut [i32], sheet: Sheet, memory: usize)
-    requires { ⌜ Within sheet × (memory ≤ memoryLimit) × (checked sheet memory .refusal .number ≡ 0) ⌝ }
+fn write_tape(tape: &mut [i32], entries: &mut [u32; ELEMENTS], sheet: Sheet, memory: usize)
+    requires { ⌜ Within sheet × (memory ≤ memoryLimit) × (checked sheet memory .refusal .number ≡ 0) × (length (now entries) ≡ matrixPlaces) ⌝ }
     requires { ⌜ length (tapeOf sheet memory) * 6 ≤ length (now tape) ⌝ }
     ensures { λ _. ⌜ now (tape .exit) ≡ sets (now (tape .entry)) 0 (tapeNumbers (tapeOf sheet memory)) ⌝ }
 {
     let none = registers::no_type();
+    let tensors = sheet.tensors;
     let steps = sheet.steps;
-    let mut types = [none; 4];
+    let mut types = [none; REGISTERS];
     let mut at: usize = 0;
     let mut k: usize = 0;
     while k < steps {
         let c = sheet.step[k];
         let step = c.step;
-        at = write_step(tape, at, sheet, types, memory, k, step);
+        at = write_step(tape, entries, at, tensors, types, memory, k, step);
         let after = checks::step_types(types, step);
         types = after;
         k += 1;
@@ -383,13 +337,14 @@ pub fn translate(sheet: &[u8], memory_len: usize, tape: &mut [i32]) -> Translate
         return translate_refused(refused);
     }
     let model = judged.sheet;
-    let records = count_tape(model, memory_len);
+    let mut entries = [0u32; ELEMENTS];
+    let records = count_tape(&mut entries, model, memory_len);
     if !records::records_fit(model.edition, tape.len(), records) {
-        return translate_refused(checks::refusal_at(TAPE_TOO_LONG, 0, 0));
+        return translate_refused(refusals::refusal_at(TAPE_TOO_LONG, 0, 0));
     }
-    write_tape(tape, model, memory_len);
+    write_tape(tape, &mut entries, model, memory_len);
     TranslateAnswer {
-        refusal: checks::refusal_at(0, 0, 0),
+        refusal: refusals::not_refused(),
         count: found.count,
         records,
     }

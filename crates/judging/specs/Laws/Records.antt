@@ -34,11 +34,11 @@ pub record Named (sh : Sheet) (ts : List MatrixType) (len k : ℕ) : Type 0 wher
 
 named : (sh : Sheet) (ts : List MatrixType) (len k : ℕ) (st : Step) → k < sh .steps → theStep (sh .step) k ≡ st → wholeClear (sh .edition) ts len st ≡ true → Named sh ts len k
 named sh ts len k step.Nothing g i e = absurd (true≢false (sym e))
-named sh ts len k (step.Load register object layout view base) g i e = absurd (true≢false (sym e))
-named sh ts len k (step.Store register layout view base) g i e = absurd (true≢false (sym e))
+named sh ts len k (step.Load register object window) g i e = absurd (true≢false (sym e))
+named sh ts len k (step.Store register window) g i e = absurd (true≢false (sym e))
 named sh ts len k (step.Whole whole) g i e = record { given = g; whole = whole; is = i; clear = eqb-true _ _ e }
 
-pub whole-named : (sh : Sheet) (ts : List MatrixType) (len k : ℕ) → wholeRecordOk sh ts len k ≡ true → Named sh ts len k
+pub whole-named : (sh : Sheet) (ts : List MatrixType) (len k : ℕ) → recordOk sh ts len (Whole k) ≡ true → Named sh ts len k
 unfolding wholeRecordOk
 whole-named sh ts len k e = named sh ts len k (theStep (sh .step) k) (ltb-true _ _ (both-left _ _ e)) refl (both-right _ _ e)
 

@@ -9,10 +9,10 @@ use lib.ListN.{length}
 use lib.IntN.{ℤ}
 use Rattle.numbers.specs.Choice.{pick, pick-case}
 use Rattle.sheet.specs.declared.Sheet.{Sheet}
+use Rattle.refusals.specs.Refusals.{recordOutOfRange, refusalAt, notRefused}
 use Rattle.refusals.specs.declared.Refusal.{Refusal}
 use Rattle.registers.specs.Registers.{emptyRegisters}
 use Rattle.registers.specs.declared.MatrixType.{MatrixType}
-use Rattle.checking.specs.Checking.{refusalAt}
 use Rattle.checking.specs.Laws.Turns.{one-less}
 use Rattle.records.specs.declared.Decoded.{Decoded}
 use Rattle.records.specs.Room.{recordsFit}
@@ -20,7 +20,7 @@ use Rattle.judging.specs.Judging.{decodedOk, decodedTypes, rangeFrom, ra
 
 -- the records from number k on are looked at, over types
 module _ (n : ℕ) (sh : Sheet) (len : ℕ) (the : ℕ → Decoded) (k : ℕ) (ts : List MatrixType) where
-  pub range-end : n ≤ k → refusalAt 0 0 0 ≡ rangeFrom (n - k) sh len the k ts
+  pub range-end : n ≤ k → notRefused ≡ rangeFrom (n - k) sh len the k ts
   unfolding rangeFrom
   range-end h = let e : n - k ≡ 0 = omega arith in rw e
 
@@ -29,7 +29,7 @@ module _ (n : ℕ) (sh : Sheet) (len : ℕ) (the : ℕ → Decoded) (k : ℕ) (t
     unfolding rangeFrom pick
     range-go e = rw (one-less n k h, ← q, e)
 
-    pub range-stop : decodedOk sh ts len d ≡ false → refusalAt 17 k 0 ≡ rangeFrom (n - k) sh len the k ts
+    pub range-stop : decodedOk sh ts len d ≡ false → refusalAt recordOutOfRange k 0 ≡ rangeFrom (n - k) sh len the k ts
     unfolding rangeFrom pick
     range-stop e = rw (one-less n k h, ← q, e)
 
