@@ -1,9 +1,10 @@
 // A field's head, small stretches of bytes, and the edition's field.
 ghost use mathlib.Core.Path.{_≡_};
-ghost use mathlib.Core.List.{[], _∷_};
+ghost use mathlib.Core.List.{[], _∷_, _++_};
 ghost use Prim.Native.Nat.{_+_, _≤_};
 ghost use lib.ListN.{length};
 ghost use lib.Seq.{sets};
+ghost use Rattle.numbers.specs.Little.{u16Bytes};
 ghost use Rattle.sheet_bytes.specs.Bytes.{headBytes, editionField};
 use sheet::codes::EDITION_TAG;
 
@@ -33,6 +34,15 @@ pub fn put_pair(out: &mut [u8], at: usize, a: u8, b: u8)
 {
     put_byte(out, at, a);
     put_byte(out, at + 1, b);
+}
+
+// Two numbers of 16 bits.
+pub fn put_u16s(out: &mut [u8], at: usize, x: u16, y: u16)
+    requires { ⌜ at + 4 ≤ length (now out) ⌝ }
+    ensures { λ _. ⌜ now (out .exit) ≡ sets (now (out .entry)) at (u16Bytes x ++ u16Bytes y) ⌝ }
+{
+    numbers::put_u16(out, at, x);
+    numbers::put_u16(out, at + 2, y);
 }
 
 // A field's tag and its content's length.

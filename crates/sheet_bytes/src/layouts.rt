@@ -27,10 +27,8 @@ fn put_dimension(out: &mut [u8], at: usize, d: Dimension)
     requires { ⌜ at + 10 ≤ length (now out) ⌝ }
     ensures { λ _. ⌜ now (out .exit) ≡ sets (now (out .entry)) at (dimensionBytes d) ⌝ }
 {
-    numbers::put_u16(out, at, d.block);
-    numbers::put_u16(out, at + 2, d.size);
-    numbers::put_u16(out, at + 4, d.stride);
-    numbers::put_u16(out, at + 6, d.offset);
+    fields::put_u16s(out, at, d.block, d.size);
+    fields::put_u16s(out, at + 4, d.stride, d.offset);
     numbers::put_u16(out, at + 8, d.span);
 }
 

@@ -1,5 +1,4 @@
-// The bytes of a sheet's fields: how many each takes, and writing them.
+// The bytes of the edition, of layouts and of views: how many a field takes, and writing it.
 pub mod fields;
 pub mod layouts;
-pub mod steps;
 pub mod views;

@@ -1,10 +1,11 @@
 // Views: how many bytes one takes, and writing it from a place of `out` on.
 ghost use mathlib.Core.Path.{_≡_};
+ghost use mathlib.Core.List.{_++_};
 ghost use Prim.Native.Nat.{_+_, _≤_};
 ghost use lib.ListN.{length};
 ghost use lib.Seq.{sets};
 ghost use Rattle.sheet.specs.Sizes.{rankPlaces};
-ghost use Rattle.sheet_bytes.specs.Bytes.{entriesBytes, viewDimensionBytes, viewDimensionsBytes, clipBytes, sizedCode, viewBytes, viewField};
+ghost use Rattle.sheet_bytes.specs.Bytes.{entriesBytes, viewDimensionsBytes, clipBytes, sizedCode, viewBytes, viewField};
 use super::fields;
 use super::fields::HEAD;
 use sheet::Clip;
@@ -43,14 +44,6 @@ fn put_permutation(out: &mut [u8], at: usize, rank: u8, p: [u8; RANK])
     }
 }
 
-fn put_view_dimension(out: &mut [u8], at: usize, d: ViewDimension)
-    requires { ⌜ at + 4 ≤ length (now out) ⌝ }
-    ensures { λ _. ⌜ now (out .exit) ≡ sets (now (out .entry)) at (viewDimensionBytes d) ⌝ }
-{
-    numbers::put_u16(out, at, d.size);
-    numbers::put_u16(out, at + 2, d.stride);
-}
-
 fn put_view_dimensions(out: &mut [u8], at: usize, count: u8, ds: [ViewDimension; RANK])
     requires { ⌜ (count ≤ rankPlaces) × (at + length (viewDimensionsBytes count ds) ≤ length (now out)) ⌝ }
     ensures { λ _. ⌜ now (out .exit) ≡ sets (now (out .entry)) at (viewDimensionsBytes count ds) ⌝ }
@@ -60,18 +53,18 @@ fn put_view_dimensions(out: &mut [u8], at: usize, count: u8, ds: [ViewDimension;
     let mut k = 0;
     while k < n {
         let d = ds[k];
-        put_view_dimension(out, p, d);
+        fields::put_u16s(out, p, d.size, d.stride);
         p += DIMENSION;
         k += 1;
     }
 }
 
-fn put_clip(out: &mut [u8], at: usize, c: Clip)
-    requires { ⌜ at + 4 ≤ length (now out) ⌝ }
-    ensures { λ _. ⌜ now (out .exit) ≡ sets (now (out .entry)) at (clipBytes c) ⌝ }
+fn put_clips(out: &mut [u8], at: usize, rows: Clip, columns: Clip)
+    requires { ⌜ at + 8 ≤ length (now out) ⌝ }
+    ensures { λ _. ⌜ now (out .exit) ≡ sets (now (out .entry)) at (clipBytes rows ++ clipBytes columns) ⌝ }
 {
-    numbers::put_u16(out, at, c.offset);
-    numbers::put_u16(out, at + 2, c.span);
+    fields::put_u16s(out, at, rows.offset, rows.span);
+    fields::put_u16s(out, at + CLIP, columns.offset, columns.span);
 }
 
 fn sized_code(sized: bool) -> u8
@@ -94,9 +87,7 @@ fn put_view_content(out: &mut [u8], at: usize, v: View)
     put_permutation(out, at + START, rank, permutation);
     let dimensions = at + START + rank as usize;
     put_view_dimensions(out, dimensions, own, ds);
-    let clip = dimensions + DIMENSION * own as usize;
-    put_clip(out, clip, rows);
-    put_clip(out, clip + CLIP, columns);
+    put_clips(out, dimensions + DIMENSION * own as usize, rows, columns);
 }
 
 // Returns the place after the field.

@@ -9,7 +9,8 @@ use Rattle.sheet.specs.declared.Layout.{Layout}
 use Rattle.sheet.specs.declared.View.{View}
 use Rattle.sheet.specs.declared.Cell.{Cell}
 use Rattle.sheet.specs.declared.Sheet.{Sheet}
-use Rattle.sheet_bytes.specs.Bytes.{editionField, layoutField, viewField, stepField}
+use Rattle.sheet_bytes.specs.Bytes.{editionField, layoutField, viewField}
+use Rattle.step_bytes.specs.Bytes.{stepField}
 
 abbrev pub layoutsBytes : ℕ → List Layout → List ℕ
 layoutsBytes count ls = each count (λ (k : ℕ). layoutField (theLayout ls k))

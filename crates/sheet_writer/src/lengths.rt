@@ -15,7 +15,6 @@ use sheet::sizes::STEPS;
 use sheet::sizes::VIEWS;
 use sheet_bytes::fields;
 use sheet_bytes::layouts;
-use sheet_bytes::steps;
 use sheet_bytes::views;
 
 fn layouts_len(count: usize, ls: [Layout; LAYOUTS]) -> usize
@@ -55,7 +54,7 @@ fn steps_len(edition: u8, count: usize, cs: [Cell; STEPS]) -> usize
     while k < count {
         let c = cs[k];
         let s = c.step;
-        total += fields::field_len(steps::step_len(edition, s));
+        total += fields::field_len(step_bytes::step_len(edition, s));
         k += 1;
     }
     total

@@ -20,7 +20,6 @@ use sheet::sizes::STEPS;
 use sheet::sizes::VIEWS;
 use sheet_bytes::fields;
 use sheet_bytes::layouts;
-use sheet_bytes::steps;
 use sheet_bytes::views;
 
 mod lengths;
@@ -76,7 +75,7 @@ fn put_steps(out: &mut [u8], at: usize, edition: u8, count: usize, cs: [Cell; ST
     while k < count {
         let c = cs[k];
         let s = c.step;
-        p = steps::put_step(out, p, edition, s);
+        p = step_bytes::put_step(out, p, edition, s);
         k += 1;
     }
     p

@@ -1,12 +1,11 @@
-use Prim.Native.Nat.{ℕ}
-use mathlib.Core.List.{[], _∷_, _++_}
+use mathlib.Core.List.{[], _∷_, _++_, append-assoc}
 use native.Mathlib.Omega.{arith}
 use denote.Ref.{now}
 use borrow.Author.Needs.{needs}
-use lib.ListN.{length-append, getD}
-use Rattle.numbers.specs.Lists.{each, puts-after}
-use Rattle.sheet.specs.Views.{theViewDimension, sizedRank}
-use Rattle.sheet_bytes.specs.Bytes.{viewDimensionBytes, clipBytes, sizedCode, viewBytes}
+use lib.ListN.{length-append}
+use Rattle.numbers.specs.Lists.{puts-after}
+use Rattle.sheet.specs.Views.{sizedRank}
+use Rattle.sheet_bytes.specs.Bytes.{entriesBytes, viewDimensionsBytes, clipBytes, sizedCode, viewBytes}
 use Rattle.sheet_bytes.specs.Laws.Puts.{puts-at}
 use Rattle.sheet_bytes.specs.Laws.Lengths.{length-view, length-entries, length-view-dimensions, sized-within}
 use Rattle.sheet_bytes.proofs.views.put_view_content.Statement.{statement}
@@ -52,54 +51,43 @@ put-view-dimensions-requires c κs =
     let w = sized-within (v .sized) (v .rank) in
     rw s (omega arith, omega arith)
 
-cast-clip : tie.Need-cast-clip
-cast-clip c = search needs
+cast-put-clips : tie.Need-cast-put-clips
+cast-put-clips c = search needs
 
-mul-clip : tie.Need-mul-clip
-mul-clip c = search needs
+mul-put-clips : tie.Need-mul-put-clips
+mul-put-clips c = search needs
 
-add-clip : tie.Need-add-clip
-add-clip c = search needs
+add-put-clips : tie.Need-add-put-clips
+add-put-clips c = search needs
 
-put-clip-requires : tie.Need-put-clip-requires
-put-clip-requires c κs =
+put-clips-requires : tie.Need-put-clips-requires
+put-clips-requires c κs =
     let v = c .before .before .before .before .before .before .before .before .before .before .before .before .before .before .before .before .before .before .before .before .args .v in
     let e = length-view v in
     let s = c .before .before .before .before .before .before .before .before .before .before .before .before .before .before .before .before .before .before .sized-rank .ensures in
-    omega arith
-
-add-put-clip : tie.Need-add-put-clip
-add-put-clip c = search needs
-
-put-clip-requires-2 : tie.Need-put-clip-requires-2
-put-clip-requires-2 c κs =
-    let v = c .before .before .before .before .before .before .before .before .before .before .before .before .before .before .before .before .before .before .before .before .before .before .before .before .args .v in
-    let e = length-view v in
-    let s = c .before .before .before .before .before .before .before .before .before .before .before .before .before .before .before .before .before .before .before .before .before .before .sized-rank .ensures in
     omega arith
 
 same-length : tie.Need-same-length
 same-length c = search needs
 
 returns : tie.Need-returns
-unfolding viewBytes clipBytes
+unfolding viewBytes
 returns c =
-    let a = c .before .before .before .before .before .before .before .before .before .before .before .before .before .before .before .before .before .before .before .before .before .before .before .before .before .before .before .args in
+    let a = c .before .before .before .before .before .before .before .before .before .before .before .before .before .before .before .before .before .before .before .before .before .before .before .args in
     let v = a .v in
     let o = now (a .out) in
-    let s = c .before .before .before .before .before .before .before .before .before .before .before .before .before .before .before .before .before .before .before .before .before .before .before .before .before .sized-rank .ensures in
+    let s = c .before .before .before .before .before .before .before .before .before .before .before .before .before .before .before .before .before .before .before .before .before .sized-rank .ensures in
     let p = length-entries (v .rank) (v .permutation) in
     let d = length-view-dimensions (sizedRank (v .sized) (v .rank)) (v .dimensions) in
     let head = v .rank ∷ sizedCode (v .sized) ∷ [] in
-    let permutation = each (v .rank) (λ (k : ℕ). getD (v .permutation) k 0 ∷ []) in
-    let dimensions = each (sizedRank (v .sized) (v .rank)) (λ (k : ℕ). viewDimensionBytes (theViewDimension (v .dimensions) k)) in
-    puts-at o (a .at) (head ++ permutation ++ dimensions ++ clipBytes (v .rows)) (clipBytes (v .columns)) (simp length-append (omega arith))
-    (puts-at o (a .at) (head ++ permutation ++ dimensions) (clipBytes (v .rows)) (simp length-append (omega arith))
-    (puts-at o (a .at) (head ++ permutation) dimensions (omega arith)
-    (puts-after o (a .at) head permutation (rw (c .before .before .before .before .before .before .before .before .before .before .before .before .before .before .before .before .before .before .before .sized-code .ensures) at (c .before .before .before .before .before .before .before .before .before .before .before .before .before .before .before .before .before .before .put-pair .ensures)) (c .before .before .before .before .before .before .before .before .before .before .before .before .before .before .put-permutation .ensures))
-    (rw s at (c .before .before .before .before .before .before .before .before .before .before .put-view-dimensions .ensures)))
-    (c .before .before .before .before .before .before .put-clip .ensures))
-    (c .before .before .put-clip2 .ensures)
+    let entries = entriesBytes (v .rank) (v .permutation) in
+    let dimensions = viewDimensionsBytes (sizedRank (v .sized) (v .rank)) (v .dimensions) in
+    rw (append-assoc (head ++ entries ++ dimensions) (clipBytes (v .rows)) (clipBytes (v .columns)))
+    (puts-at o (a .at) (head ++ entries ++ dimensions) (clipBytes (v .rows) ++ clipBytes (v .columns)) (simp length-append (omega arith))
+    (puts-at o (a .at) (head ++ entries) dimensions (omega arith)
+    (puts-after o (a .at) head entries (rw (c .before .before .before .before .before .before .before .before .before .before .before .before .before .before .before .sized-code .ensures) at (c .before .before .before .before .before .before .before .before .before .before .before .before .before .before .put-pair .ensures)) (c .before .before .before .before .before .before .before .before .before .before .put-permutation .ensures))
+    (rw s at (c .before .before .before .before .before .before .put-view-dimensions .ensures)))
+    (c .before .before .put-clips .ensures))
 
 pub put-view-content-spec : {M : Type 1} → statement M
 put-view-content-spec =
@@ -114,11 +102,9 @@ put-view-content-spec =
     cast-dimensions
     add-dimensions-2
     put-view-dimensions-requires
-    cast-clip
-    mul-clip
-    add-clip
-    put-clip-requires
-    add-put-clip
-    put-clip-requires-2
+    cast-put-clips
+    mul-put-clips
+    add-put-clips
+    put-clips-requires
     same-length
     returns)

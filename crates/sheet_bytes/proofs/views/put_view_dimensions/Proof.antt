@@ -23,8 +23,8 @@ mul-d c = search needs
 array-copy-out-d : tie.Need-array-copy-out-d Inv-loop μ-loop
 array-copy-out-d c = search needs
 
-put-view-dimension-requires : tie.Need-put-view-dimension-requires Inv-loop μ-loop
-put-view-dimension-requires c κs =
+put-u16s-requires : tie.Need-put-u16s-requires Inv-loop μ-loop
+put-u16s-requires c κs =
     let t = turn-fits _ _ _ _ (c .before .before .before .loop .inv .1) (c .before .before .before .before .before .pre .1) (c .before .before .loop-test .taken) in
     let e = length-view-dimension (theViewDimension (c .before .before .before .before .before .args .t4) (c .before .before .before .loop .k)) in
     omega arith
@@ -42,9 +42,10 @@ loop-less : tie.Need-loop-less Inv-loop μ-loop
 loop-less c = search needs
 
 loop-again : tie.Need-loop-again Inv-loop μ-loop
+unfolding viewDimensionBytes
 loop-again c =
     let e = length-view-dimension (theViewDimension (c .before .before .before .before .before .before .before .before .args .t4) (c .before .before .before .before .before .before .loop .k)) in
-    (search needs, one-turn _ _ _ (c .before .before .before .before .before .before .loop .inv .1) (rw e) (c .before .before .put-view-dimension .ensures))
+    (search needs, one-turn _ _ _ (c .before .before .before .before .before .before .loop .inv .1) (rw e) (c .before .before .put-u16s .ensures))
 
 same-length : tie.Need-same-length Inv-loop μ-loop
 same-length c = c .before .loop .inv .1 .kept
@@ -61,7 +62,7 @@ put-view-dimensions-spec =
     loop-holds
     mul-d
     array-copy-out-d
-    put-view-dimension-requires
+    put-u16s-requires
     add-p
     add-k
     loop-less

@@ -5,7 +5,7 @@ use borrow.Author.Needs.{needs}
 use lib.ListN.{length}
 use Rattle.numbers.specs.Lists.{each, length-each-more}
 use Rattle.sheet.specs.Steps.{theStep}
-use Rattle.sheet_bytes.specs.Bytes.{stepTag, stepBytes, stepField}
+use Rattle.step_bytes.specs.Bytes.{stepTag, stepBytes, stepField}
 use Rattle.sheet_writer.specs.Bytes.{stepsBytes}
 use Rattle.sheet_bytes.specs.Laws.Lengths.{length-field}
 use Rattle.sheet_writer.proofs.lengths.steps_len.Statement.{statement}

@@ -1,11 +1,11 @@
 use native.Mathlib.Omega.{arith}
 use denote.Ref.{now}
 use borrow.Author.Needs.{needs}
-use Rattle.sheet_bytes.specs.Bytes.{stepBytes, stepTag}
+use Rattle.step_bytes.specs.Bytes.{stepBytes, stepTag}
 use Rattle.sheet_bytes.specs.Laws.Puts.{field-put}
 use Rattle.sheet_bytes.specs.Laws.Lengths.{length-field}
-use Rattle.sheet_bytes.proofs.steps.put_step.Statement.{statement}
-use Rattle.sheet_bytes.proofs.steps.put_step.Tie as tie
+use Rattle.step_bytes.proofs.put_step.Statement.{statement}
+use Rattle.step_bytes.proofs.put_step.Tie as tie
 
 step-len-requires : tie.Need-step-len-requires
 step-len-requires c κs = search needs

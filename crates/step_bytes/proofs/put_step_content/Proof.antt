@@ -1,7 +1,7 @@
 use native.Mathlib.Omega.{arith}
 use borrow.Author.Needs.{needs}
-use Rattle.sheet_bytes.proofs.steps.put_step_content.Statement.{statement}
-use Rattle.sheet_bytes.proofs.steps.put_step_content.Tie as tie
+use Rattle.step_bytes.proofs.put_step_content.Statement.{statement}
+use Rattle.step_bytes.proofs.put_step_content.Tie as tie
 
 enum-told : tie.Need-enum-told
 enum-told c = search needs

@@ -2,8 +2,8 @@ use mathlib.Core.List.{[], _∷_}
 use denote.Ref.{now}
 use borrow.Author.Needs.{needs}
 use Rattle.numbers.specs.Lists.{puts-after}
-use Rattle.sheet_bytes.proofs.steps.put_four.Statement.{statement}
-use Rattle.sheet_bytes.proofs.steps.put_four.Tie as tie
+use Rattle.step_bytes.proofs.put_four.Statement.{statement}
+use Rattle.step_bytes.proofs.put_four.Tie as tie
 
 put-pair-requires : tie.Need-put-pair-requires
 put-pair-requires c κs = search needs

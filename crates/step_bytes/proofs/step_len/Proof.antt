@@ -1,6 +1,6 @@
 use borrow.Author.Needs.{needs}
-use Rattle.sheet_bytes.proofs.steps.step_len.Statement.{statement}
-use Rattle.sheet_bytes.proofs.steps.step_len.Tie as tie
+use Rattle.step_bytes.proofs.step_len.Statement.{statement}
+use Rattle.step_bytes.proofs.step_len.Tie as tie
 
 enum-told : tie.Need-enum-told
 enum-told c = search needs

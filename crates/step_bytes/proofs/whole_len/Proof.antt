@@ -1,8 +1,8 @@
 use native.Mathlib.Omega.{arith}
 use borrow.Author.Needs.{needs}
 use Rattle.sheet.specs.Editions.{fillLength}
-use Rattle.sheet_bytes.proofs.steps.whole_len.Statement.{statement}
-use Rattle.sheet_bytes.proofs.steps.whole_len.Tie as tie
+use Rattle.step_bytes.proofs.whole_len.Statement.{statement}
+use Rattle.step_bytes.proofs.whole_len.Tie as tie
 
 enum-told : tie.Need-enum-told
 enum-told c = search needs

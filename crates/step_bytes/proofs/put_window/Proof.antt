@@ -4,8 +4,8 @@ use borrow.Author.Needs.{needs}
 use Rattle.numbers.specs.Lists.{puts-after}
 use Rattle.numbers.specs.Little.{u32Bytes}
 use Rattle.sheet.specs.Codes.{viewingCode}
-use Rattle.sheet_bytes.proofs.steps.put_window.Statement.{statement}
-use Rattle.sheet_bytes.proofs.steps.put_window.Tie as tie
+use Rattle.step_bytes.proofs.put_window.Statement.{statement}
+use Rattle.step_bytes.proofs.put_window.Tie as tie
 
 viewing-code-requires : tie.Need-viewing-code-requires
 viewing-code-requires c κs = search needs

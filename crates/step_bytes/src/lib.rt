@@ -6,9 +6,7 @@ ghost use lib.ListN.{length};
 ghost use lib.Seq.{sets};
 ghost use Rattle.numbers.specs.Little.{u32Bytes};
 ghost use Rattle.sheet.specs.Codes.{reduceCode, combineCode, objectCode};
-ghost use Rattle.sheet_bytes.specs.Bytes.{wholeTag, stepTag, windowBytes, wholeBytes, stepBytes, stepField};
-use super::fields;
-use super::fields::HEAD;
+ghost use Rattle.step_bytes.specs.Bytes.{wholeTag, stepTag, windowBytes, wholeBytes, stepBytes, stepField};
 use sheet::Combine;
 use sheet::Object;
 use sheet::ReduceMode;
@@ -17,6 +15,8 @@ use sheet::WholeStep;
 use sheet::Window;
 use sheet::codes;
 use sheet::editions;
+use sheet_bytes::fields;
+use sheet_bytes::fields::HEAD;
 
 fn whole_tag(s: WholeStep) -> u8
     ensures { λ r. ⌜ r ≡ wholeTag s ⌝ }

@@ -2,9 +2,9 @@ use mathlib.Core.List.{[], _∷_}
 use denote.Ref.{now}
 use borrow.Author.Needs.{needs}
 use Rattle.numbers.specs.Lists.{puts-after}
-use Rattle.sheet_bytes.specs.Bytes.{windowBytes}
-use Rattle.sheet_bytes.proofs.steps.put_store.Statement.{statement}
-use Rattle.sheet_bytes.proofs.steps.put_store.Tie as tie
+use Rattle.step_bytes.specs.Bytes.{windowBytes}
+use Rattle.step_bytes.proofs.put_store.Statement.{statement}
+use Rattle.step_bytes.proofs.put_store.Tie as tie
 
 put-byte-requires : tie.Need-put-byte-requires
 put-byte-requires c κs = search needs

@@ -3,8 +3,8 @@ use denote.Ref.{now}
 use borrow.Author.Needs.{needs}
 use Rattle.numbers.specs.Lists.{puts-after}
 use Rattle.sheet.specs.Codes.{reduceCode, combineCode}
-use Rattle.sheet_bytes.proofs.steps.put_reduce.Statement.{statement}
-use Rattle.sheet_bytes.proofs.steps.put_reduce.Tie as tie
+use Rattle.step_bytes.proofs.put_reduce.Statement.{statement}
+use Rattle.step_bytes.proofs.put_reduce.Tie as tie
 
 put-four-requires : tie.Need-put-four-requires
 put-four-requires c κs = search needs

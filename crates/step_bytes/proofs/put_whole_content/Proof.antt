@@ -1,7 +1,7 @@
 use native.Mathlib.Omega.{arith}
 use borrow.Author.Needs.{needs}
-use Rattle.sheet_bytes.proofs.steps.put_whole_content.Statement.{statement}
-use Rattle.sheet_bytes.proofs.steps.put_whole_content.Tie as tie
+use Rattle.step_bytes.proofs.put_whole_content.Statement.{statement}
+use Rattle.step_bytes.proofs.put_whole_content.Tie as tie
 
 enum-known-s : tie.Need-enum-known-s
 enum-known-s c = search needs

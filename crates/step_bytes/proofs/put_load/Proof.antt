@@ -3,9 +3,9 @@ use denote.Ref.{now}
 use borrow.Author.Needs.{needs}
 use Rattle.numbers.specs.Lists.{puts-after}
 use Rattle.sheet.specs.Codes.{objectCode}
-use Rattle.sheet_bytes.specs.Bytes.{windowBytes}
-use Rattle.sheet_bytes.proofs.steps.put_load.Statement.{statement}
-use Rattle.sheet_bytes.proofs.steps.put_load.Tie as tie
+use Rattle.step_bytes.specs.Bytes.{windowBytes}
+use Rattle.step_bytes.proofs.put_load.Statement.{statement}
+use Rattle.step_bytes.proofs.put_load.Tie as tie
 
 object-code-requires : tie.Need-object-code-requires
 object-code-requires c κs = search needs
