@@ -124,11 +124,31 @@ pub fn check_step(
         } => {
             let t = registers::the_type(types, object_register(register, object));
             let after = registers::with_type(types, register, t);
-            check_window(entries, marks, tensors, true, window, types, after, t, memory)
+            check_window(
+                entries,
+                marks,
+                tensors,
+                true,
+                window,
+                types,
+                after,
+                t,
+                memory,
+            )
         }
         Step::Store { register, window } => {
             let t = registers::the_type(types, register);
-            check_window(entries, marks, tensors, false, window, types, types, t, memory)
+            check_window(
+                entries,
+                marks,
+                tensors,
+                false,
+                window,
+                types,
+                types,
+                t,
+                memory,
+            )
         }
         Step::Whole(whole) => check_whole(edition, types, memory, whole),
     }

@@ -41,7 +41,13 @@ fn view_named(tensors: Tensors, view: Viewing) -> View
 }
 
 // A load or a store of a matrix of a type.
-pub fn access_of(tensors: Tensors, load: bool, window: Window, t: MatrixType, memory: usize) -> Access
+pub fn access_of(
+    tensors: Tensors,
+    load: bool,
+    window: Window,
+    t: MatrixType,
+    memory: usize,
+) -> Access
     requires { ⌜ TensorsWithin tensors × (windowOk (tensors .layouts) (tensors .views) window ≡ true) × (memory ≤ memoryLimit) ⌝ }
     requires { ⌜ SizedType t × (isEmpty t ≡ false) ⌝ }
     ensures { λ r. ⌜ (r ≡ accessOf tensors load window t memory) × SizedAccess r ⌝ }

@@ -7,30 +7,31 @@ use native.Mathlib.Nat.{add-zero}
 use native.Mathlib.Omega.{arith}
 use borrow.Author.Tests.{eqb-true, leb-true, le-leb, le-ltb, eq-eqb, not-true}
 use lib.ListN.{length, getD, length-append}
-use Rattle.numbers.specs.Choice.{pick, both, between, both-left, both-right, both-true, between-low, between-high, between-true}
+use Rattle.numbers.specs.Choice.{pick, both, between, both-left, both-right, both-true, between-low, between-true}
 use Rattle.numbers.specs.All.{all-at}
 use Rattle.numbers.specs.Little.{u16At, u16Bytes}
-use Rattle.numbers.specs.Lists.{each, line}
-use Rattle.numbers.specs.Joins.{length-each}
+use Rattle.numbers.specs.Lists.{line}
 use Rattle.numbers.specs.Places.{places-given, places-past, places-count, places-are, places-all, Held, held}
-use Rattle.sheet.specs.Sizes.{rankOk, sizeOk}
+use Rattle.sheet.specs.Sizes.{rankPlaces, sizeOk}
 use Rattle.sheet.specs.Views.{noViewDimension, noClip, noView, theViewDimension, entryOk, permutationOk, viewDimensionUnused, viewDimensionAtOk, viewDimensionsOk, sizedRank, viewOk, clipUnused, viewUnused}
-use Rattle.sheet.specs.Facts.{view-some, view-most}
+use Rattle.sheet.specs.Laws.Facts.{view-some, view-most}
 use Rattle.sheet.specs.declared.ViewDimension.{ViewDimension}
 use Rattle.sheet.specs.declared.Clip.{Clip}
 use Rattle.sheet.specs.declared.View.{View}
-use Rattle.sheet_reader.specs.Contents.{permutationAt, viewDimensionAt, viewDimensionsAt, clipAt, viewOf, hasDimensions, viewAt, viewLength, viewLengthOk, viewHeadOk}
-use Rattle.sheet_writer.specs.Bytes.{viewDimensionBytes, clipBytes, sizedCode, viewBytes}
-use Rattle.round_trip.specs.Stretches.{Bytes, Has, has-at, has-shift, has-back, has-left, has-right, has-join, has-rows-at, has-rows, u16-of, low-at, high-at, u16-below}
-use Rattle.round_trip.specs.Codes.{one-of, sized-of, sized-code-small, sized-code-of}
-use Rattle.round_trip.specs.Typed.{ClipFits, ViewFits, ViewSized}
+use Rattle.contents.specs.Contents.{permutationAt, viewDimensionAt, viewDimensionsAt, clipAt, viewOf, hasDimensions, viewAt, viewLength, viewLengthOk, viewHeadOk}
+use Rattle.contents.specs.Laws.Heads.{sized-few, view-head}
+use Rattle.sheet_bytes.specs.Bytes.{entriesBytes, viewDimensionBytes, viewDimensionsBytes, clipBytes, sizedCode, viewBytes}
+use Rattle.sheet_bytes.specs.Laws.Lengths.{length-entries, length-view-dimension, length-view-dimensions, length-clip, length-view}
+use Rattle.round_trip.specs.Laws.Stretches.{Has, has-at, has-shift, has-back, has-left, has-right, has-join, has-rows-at, has-rows, u16-of, low-at, high-at, u16-below}
+use Rattle.round_trip.specs.Laws.Codes.{one-of, sized-of, sized-code-small, sized-code-of}
+use Rattle.round_trip.specs.Typed.{AreBytes, U16, ClipFits, ViewFits, ViewArrays}
 
 -- two numbers of 16 bits, one after the other: a view dimension with its stride, and one side of the clip
 module _ (s : List ℕ) (p : ℕ) where
   two-of : (x y : ℕ) → Has s p 0 (u16Bytes x ++ u16Bytes y) → (u16At s p ≡ x) × (u16At s (p + 2) ≡ y)
   two-of x y h = (rw add-zero at (u16-of s p 0 x (h .0) (h .1 .0)), u16-of s p 2 y (h .1 .1 .0) (h .1 .1 .1 .0))
 
-  has-two : Bytes s → Has s p 0 (u16Bytes (u16At s p) ++ u16Bytes (u16At s (p + 2)))
+  has-two : AreBytes s → Has s p 0 (u16Bytes (u16At s p) ++ u16Bytes (u16At s (p + 2)))
   has-two b =
       let l = rw add-zero at (low-at s b p 0) in
       let h = rw add-zero at (high-at s b p 0) in
@@ -40,7 +41,7 @@ module _ (s : List ℕ) (p : ℕ) where
   unfolding viewDimensionAt viewDimensionBytes
   view-dimension-of d h = let e = two-of (d .size) (d .stride) h in λ i. record { size = e .0 i; stride = e .1 i }
 
-  has-view-dimension : Bytes s → Has s p 0 (viewDimensionBytes (viewDimensionAt s p))
+  has-view-dimension : AreBytes s → Has s p 0 (viewDimensionBytes (viewDimensionAt s p))
   unfolding viewDimensionAt viewDimensionBytes
   has-view-dimension b = has-two b
 
@@ -48,11 +49,11 @@ module _ (s : List ℕ) (p : ℕ) where
   unfolding clipAt clipBytes
   clip-of c h = let e = two-of (c .offset) (c .span) h in λ i. record { offset = e .0 i; span = e .1 i }
 
-  has-clip : Bytes s → Has s p 0 (clipBytes (clipAt s p))
+  has-clip : AreBytes s → Has s p 0 (clipBytes (clipAt s p))
   unfolding clipAt clipBytes
   has-clip b = has-two b
 
-  clip-fits : Bytes s → ClipFits (clipAt s p)
+  clip-fits : AreBytes s → ClipFits (clipAt s p)
   unfolding clipAt
   clip-fits b = record { offset = u16-below s b p; span = u16-below s b (p + 2) }
 
@@ -63,25 +64,6 @@ entry ps k = getD ps k 0 ∷ []
 abbrev row : List ViewDimension → ℕ → List ℕ
 row ds k = viewDimensionBytes (theViewDimension ds k)
 
-entries-long : (ps : List ℕ) (n : ℕ) → length (each n (entry ps)) ≡ n
-entries-long ps n = length-each 1 n (entry ps) (λ k h. refl) ∙ omega arith
-
-row-long : (ds : List ViewDimension) (k : ℕ) → length (row ds k) ≡ 4
-unfolding viewDimensionBytes
-row-long ds k = refl
-
-rows-long : (ds : List ViewDimension) (n : ℕ) → length (each n (row ds)) ≡ n * 4
-rows-long ds n = length-each 4 n (row ds) (λ k h. row-long ds k)
-
-clip-long : (c : Clip) → length (clipBytes c) ≡ 4
-unfolding clipBytes
-clip-long c = refl
-
-pub sized-few : (b : Bool) (rank : ℕ) → sizedRank b rank ≤ rank
-unfolding sizedRank pick
-sized-few true rank = omega arith
-sized-few false rank = omega arith
-
 -- how many dimensions and strides of its own a view has
 abbrev own : View → ℕ
 own v = sizedRank (v .sized) (v .rank)
@@ -89,11 +71,11 @@ own v = sizedRank (v .sized) (v .rank)
 -- a view of 1 to 5 dimensions in five places, the others unused
 pub record ViewShaped (v : View) : Type 0 where
   pub some : 1 ≤ v .rank
-  pub few : v .rank ≤ 5
-  pub entries : length (v .permutation) ≡ 5
-  pub five : length (v .dimensions) ≡ 5
-  pub entry-past : (k : ℕ) → v .rank ≤ k → k < 5 → getD (v .permutation) k 0 ≡ 0
-  pub past : (k : ℕ) → sizedRank (v .sized) (v .rank) ≤ k → k < 5 → theViewDimension (v .dimensions) k ≡ noViewDimension
+  pub few : v .rank ≤ rankPlaces
+  pub entries : length (v .permutation) ≡ rankPlaces
+  pub five : length (v .dimensions) ≡ rankPlaces
+  pub entry-past : (k : ℕ) → v .rank ≤ k → k < rankPlaces → getD (v .permutation) k 0 ≡ 0
+  pub past : (k : ℕ) → sizedRank (v .sized) (v .rank) ≤ k → k < rankPlaces → theViewDimension (v .dimensions) k ≡ noViewDimension
 
 no-view-dimension : (d : ViewDimension) → viewDimensionUnused d ≡ true → d ≡ noViewDimension
 unfolding viewDimensionUnused
@@ -109,21 +91,21 @@ no-clip c e =
     let n = eqb-true (c .span) 0 (both-right _ _ e) in
     λ i. record { offset = o i; span = n i }
 
-view-dimensions-held : (n : ℕ) (ds : List ViewDimension) → n ≤ 5 → viewDimensionsOk n ds ≡ true → Held 5 (λ (d : ViewDimension). sizeOk (d .size)) viewDimensionUnused noViewDimension n ds
+view-dimensions-held : (n : ℕ) (ds : List ViewDimension) → n ≤ rankPlaces → viewDimensionsOk n ds ≡ true → Held rankPlaces (λ (d : ViewDimension). sizeOk (d .size)) viewDimensionUnused noViewDimension n ds
 unfolding viewDimensionAtOk
-view-dimensions-held n ds h e = held 5 (λ (d : ViewDimension). sizeOk (d .size)) viewDimensionUnused noViewDimension n ds h e
+view-dimensions-held n ds h e = held rankPlaces (λ (d : ViewDimension). sizeOk (d .size)) viewDimensionUnused noViewDimension n ds h e
 
-entry-unused : (rank : ℕ) (ps : List ℕ) → permutationOk rank ps ≡ true → (k : ℕ) → rank ≤ k → k < 5 → getD ps k 0 ≡ 0
+entry-unused : (rank : ℕ) (ps : List ℕ) → permutationOk rank ps ≡ true → (k : ℕ) → rank ≤ k → k < rankPlaces → getD ps k 0 ≡ 0
 unfolding entryOk pick
-entry-unused rank ps e k h l = eqb-true (getD ps k 0) 0 (rw (le-ltb k rank h) at (all-at 5 (entryOk rank ps) e k l))
+entry-unused rank ps e k h l = eqb-true (getD ps k 0) 0 (rw (le-ltb k rank h) at (all-at rankPlaces (entryOk rank ps) e k l))
 
-pub view-held : (v : View) → viewOk v ≡ true → Held 5 (λ (d : ViewDimension). sizeOk (d .size)) viewDimensionUnused noViewDimension (sizedRank (v .sized) (v .rank)) (v .dimensions)
+pub view-held : (v : View) → viewOk v ≡ true → Held rankPlaces (λ (d : ViewDimension). sizeOk (d .size)) viewDimensionUnused noViewDimension (sizedRank (v .sized) (v .rank)) (v .dimensions)
 unfolding viewOk
 view-held v e =
-    let few : own v ≤ 5 = omega (arith, sized-few (v .sized) (v .rank), view-most v e) in
+    let few : own v ≤ rankPlaces = sized-few (v .sized) (v .rank) rankPlaces (view-most v e) in
     view-dimensions-held (own v) (v .dimensions) few (both-right _ _ (both-right _ _ e))
 
-pub view-shaped : (v : View) → viewOk v ≡ true → ViewSized v → ViewShaped v
+pub view-shaped : (v : View) → viewOk v ≡ true → ViewArrays v → ViewShaped v
 unfolding viewOk
 view-shaped v e z =
     let w = view-held v e in
@@ -137,7 +119,7 @@ view-shaped v e z =
     }
 
 -- an unused view is the one whose every number is zero
-pub no-view : (v : View) → ViewSized v → viewUnused v ≡ true → v ≡ noView
+pub no-view : (v : View) → ViewArrays v → viewUnused v ≡ true → v ≡ noView
 unfolding viewUnused noView line
 no-view v z e =
     let e1 = both-right _ _ e in
@@ -146,36 +128,36 @@ no-view v z e =
     let e4 = both-right _ _ e3 in
     let r = eqb-true (v .rank) 0 (both-left _ _ e) in
     let b = not-true (v .sized) (both-left _ _ e1) in
-    let p = sym (places-are 5 0 0 (λ (k : ℕ). 0) 0 (omega arith) (v .permutation) (z .permutation) (λ k l. absurd (omega arith)) (entry-unused 0 (v .permutation) (both-left _ _ e2))) in
+    let p = sym (places-are rankPlaces 0 0 (λ (k : ℕ). 0) 0 (omega arith) (v .permutation) (z .permutation) (λ k l. absurd (omega arith)) (entry-unused 0 (v .permutation) (both-left _ _ e2))) in
     let w = view-dimensions-held 0 (v .dimensions) (omega arith) (both-left _ _ e3) in
-    let d = sym (places-are 5 noViewDimension noViewDimension (λ (k : ℕ). noViewDimension) 0 (omega arith) (v .dimensions) (z .dimensions) (λ k l. absurd (omega arith)) (λ k l m. no-view-dimension (theViewDimension (v .dimensions) k) (w .past k l m))) in
+    let d = sym (places-are rankPlaces noViewDimension noViewDimension (λ (k : ℕ). noViewDimension) 0 (omega arith) (v .dimensions) (z .dimensions) (λ k l. absurd (omega arith)) (λ k l m. no-view-dimension (theViewDimension (v .dimensions) k) (w .past k l m))) in
     let rs = no-clip (v .rows) (both-left _ _ e4) in
     let cs = no-clip (v .columns) (both-right _ _ e4) in
     λ i. record { rank = r i; sized = b i; permutation = p i; dimensions = d i; rows = rs i; columns = cs i }
 
 -- from the bytes to the view
-permutation-of : (s : List ℕ) (p rank : ℕ) (ps : List ℕ) → rank ≤ 5 → length ps ≡ 5 → ((k : ℕ) → rank ≤ k → k < 5 → getD ps k 0 ≡ 0) → Has s p 0 (each rank (entry ps)) → permutationAt s p rank ≡ ps
+permutation-of : (s : List ℕ) (p rank : ℕ) (ps : List ℕ) → rank ≤ rankPlaces → length ps ≡ rankPlaces → ((k : ℕ) → rank ≤ k → k < rankPlaces → getD ps k 0 ≡ 0) → Has s p 0 (entriesBytes rank ps) → permutationAt s p rank ≡ ps
 unfolding permutationAt
 permutation-of s p rank ps h z u b =
-    places-are 5 0 0 (λ (k : ℕ). getD s (p + k) 0) rank h ps z
+    places-are rankPlaces 0 0 (λ (k : ℕ). getD s (p + k) 0) rank h ps z
     (λ k l.
     let e : p + k * 1 + 0 ≡ p + k = omega arith in
     rw e at (has-rows-at s p 1 rank (entry ps) (λ k l. refl) b k l .0))
     u
 
-view-dimensions-of : (s : List ℕ) (p n : ℕ) (ds : List ViewDimension) → n ≤ 5 → length ds ≡ 5 → ((k : ℕ) → n ≤ k → k < 5 → theViewDimension ds k ≡ noViewDimension) → Has s p 0 (each n (row ds)) → viewDimensionsAt s p n ≡ ds
+view-dimensions-of : (s : List ℕ) (p n : ℕ) (ds : List ViewDimension) → n ≤ rankPlaces → length ds ≡ rankPlaces → ((k : ℕ) → n ≤ k → k < rankPlaces → theViewDimension ds k ≡ noViewDimension) → Has s p 0 (viewDimensionsBytes n ds) → viewDimensionsAt s p n ≡ ds
 unfolding viewDimensionsAt
 view-dimensions-of s p n ds h z u b =
-    places-are 5 noViewDimension noViewDimension (λ (k : ℕ). viewDimensionAt s (p + k * 4)) n h ds z
-    (λ k l. view-dimension-of s (p + k * 4) (theViewDimension ds k) (has-rows-at s p 4 n (row ds) (λ k l. row-long ds k) b k l))
+    places-are rankPlaces noViewDimension noViewDimension (λ (k : ℕ). viewDimensionAt s (p + k * 4)) n h ds z
+    (λ k l. view-dimension-of s (p + k * 4) (theViewDimension ds k) (has-rows-at s p 4 n (row ds) (λ k l. length-view-dimension (theViewDimension ds k)) b k l))
     u
 
 -- where the parts of a view's content stand
 record Parts (s : List ℕ) (p : ℕ) (v : View) : Type 0 where
   count : getD s p 0 ≡ v .rank
   has : getD s (p + 1) 0 ≡ sizedCode (v .sized)
-  entries : Has s (p + 2) 0 (each (v .rank) (entry (v .permutation)))
-  dimensions : Has s (p + 2 + v .rank) 0 (each (own v) (row (v .dimensions)))
+  entries : Has s (p + 2) 0 (entriesBytes (v .rank) (v .permutation))
+  dimensions : Has s (p + 2 + v .rank) 0 (viewDimensionsBytes (own v) (v .dimensions))
   rows : Has s (p + 2 + v .rank + own v * 4) 0 (clipBytes (v .rows))
   columns : Has s (p + 6 + v .rank + own v * 4) 0 (clipBytes (v .columns))
 
@@ -183,13 +165,13 @@ module _ (s : List ℕ) (p : ℕ) (v : View) where
   parts : Has s p 0 (viewBytes v) → Parts s p v
   unfolding viewBytes
   parts h =
-      let b = each (v .rank) (entry (v .permutation)) in
-      let c = each (own v) (row (v .dimensions)) in
+      let b = entriesBytes (v .rank) (v .permutation) in
+      let c = viewDimensionsBytes (own v) (v .dimensions) in
       let d = clipBytes (v .rows) in
       let e = clipBytes (v .columns) in
-      let lb = entries-long (v .permutation) (v .rank) in
-      let lc = rows-long (v .dimensions) (own v) in
-      let ld = clip-long (v .rows) in
+      let lb = length-entries (v .rank) (v .permutation) in
+      let lc = length-view-dimensions (own v) (v .dimensions) in
+      let ld = length-clip (v .rows) in
       let t4 = has-shift s p 2 0 (b ++ c ++ d ++ e) (h .1 .1) in
       let t3 = has-left s (p + 2) 0 (b ++ c ++ d) e t4 in
       let t2 = has-left s (p + 2) 0 (b ++ c) d t3 in
@@ -207,13 +189,13 @@ module _ (s : List ℕ) (p : ℕ) (v : View) where
   whole : Parts s p v → Has s p 0 (viewBytes v)
   unfolding viewBytes
   whole w =
-      let b = each (v .rank) (entry (v .permutation)) in
-      let c = each (own v) (row (v .dimensions)) in
+      let b = entriesBytes (v .rank) (v .permutation) in
+      let c = viewDimensionsBytes (own v) (v .dimensions) in
       let d = clipBytes (v .rows) in
       let e = clipBytes (v .columns) in
-      let lb = entries-long (v .permutation) (v .rank) in
-      let lc = rows-long (v .dimensions) (own v) in
-      let ld = clip-long (v .rows) in
+      let lb = length-entries (v .rank) (v .permutation) in
+      let lc = length-view-dimensions (own v) (v .dimensions) in
+      let ld = length-clip (v .rows) in
       let t2 = has-join s (p + 2) b c (w .entries) (has-at s (p + 2 + v .rank) (p + 2 + length b) c (omega arith) (w .dimensions)) in
       let t3 = has-join s (p + 2) (b ++ c) d t2 (has-at s (p + 2 + v .rank + own v * 4) (p + 2 + length (b ++ c)) d (omega (arith, length-append b c)) (w .rows)) in
       let t4 =
@@ -222,20 +204,7 @@ module _ (s : List ℕ) (p : ℕ) (v : View) where
       (omega (arith, length-append b c, length-append (b ++ c) d)) (w .columns)) in
       (rw add-zero (w .count), (w .has, has-back s p 2 0 (b ++ c ++ d ++ e) t4))
 
-pub view-long : (v : View) → length (viewBytes v) ≡ viewLength (v .rank) (sizedRank (v .sized) (v .rank))
-unfolding viewBytes
-view-long v =
-    let b = each (v .rank) (entry (v .permutation)) in
-    let c = each (own v) (row (v .dimensions)) in
-    let d = clipBytes (v .rows) in
-    let e = clipBytes (v .columns) in
-    let lb = entries-long (v .permutation) (v .rank) in
-    let lc = rows-long (v .dimensions) (own v) in
-    let ld = clip-long (v .rows) in
-    let le = clip-long (v .columns) in
-    omega (arith, length-append b c, length-append (b ++ c) d, length-append (b ++ c ++ d) e)
-
-pub view-length-ok : (b : Bool) (rank : ℕ) → 1 ≤ rank → rank ≤ 5 → viewLengthOk (viewLength rank (sizedRank b rank)) ≡ true
+pub view-length-ok : (b : Bool) (rank : ℕ) → 1 ≤ rank → rank ≤ rankPlaces → viewLengthOk (viewLength rank (sizedRank b rank)) ≡ true
 unfolding viewLengthOk pick between both sizedRank
 view-length-ok true rank h l =
     one-of (λ (rank : ℕ). viewLengthOk (viewLength rank (sizedRank true rank)) ≡ true) 1 5 (refl, (refl, (refl, (refl, (refl, tt))))) rank h (omega arith)
@@ -250,7 +219,7 @@ module _ (s : List ℕ) (p : ℕ) (v : View) (w : ViewShaped v) (h : Has s p 0 (
   unfolding viewAt viewOf
   view-of =
       let g = parts s p v h in
-      let few : own v ≤ 5 = omega (arith, sized-few (v .sized) (v .rank), w .few) in
+      let few : own v ≤ rankPlaces = sized-few (v .sized) (v .rank) rankPlaces (w .few) in
       let ps = permutation-of s (p + 2) (v .rank) (v .permutation) (w .few) (w .entries) (w .entry-past) (g .entries) in
       let ds = view-dimensions-of s (p + 2 + v .rank) (own v) (v .dimensions) few (w .five) (w .past) (g .dimensions) in
       let rs = clip-of s (p + 2 + v .rank + own v * 4) (v .rows) (g .rows) in
@@ -262,21 +231,25 @@ module _ (s : List ℕ) (p : ℕ) (v : View) (w : ViewShaped v) (h : Has s p 0 (
   unfolding viewHeadOk
   view-head-ok =
       let g = parts s p v h in
-      rw (has-of, g .count, g .has, view-long v)
-      (both-true _ _ (between-true 1 5 (v .rank) (w .some) (w .few))
+      rw (has-of, g .count, g .has, length-view v)
+      (both-true _ _ (between-true 1 rankPlaces (v .rank) (w .some) (w .few))
       (both-true _ _ (le-leb (sizedCode (v .sized)) 1 (sized-code-small (v .sized))) (eq-eqb (viewLength (v .rank) (own v)) _ refl)))
 
 -- from the view that was read to the bytes
 module _ (s : List ℕ) (p len : ℕ) (e : viewHeadOk s p len ≡ true) where
-  view-head : (rankOk (getD s p 0) ≡ true) × (getD s (p + 1) 0 ≤ 1) × (viewLength (getD s p 0) (sizedRank (hasDimensions s p) (getD s p 0)) ≡ len)
+  few : getD s p 0 ≤ rankPlaces
+  few = view-head s p len e .few
+
+  own-few : sizedRank (hasDimensions s p) (getD s p 0) ≤ rankPlaces
+  own-few = view-head s p len e .own
+
+  some : 1 ≤ getD s p 0
   unfolding viewHeadOk
-  view-head = (both-left _ _ e, leb-true _ _ (both-left _ _ (both-right _ _ e)), eqb-true _ _ (both-right _ _ (both-right _ _ e)))
+  some = between-low 1 rankPlaces (getD s p 0) (both-left _ _ e)
 
-  few : getD s p 0 ≤ 5
-  few = between-high 1 5 (getD s p 0) (view-head .0)
-
-  own-few : sizedRank (hasDimensions s p) (getD s p 0) ≤ 5
-  own-few = omega (arith, sized-few (hasDimensions s p) (getD s p 0), few)
+  has : getD s (p + 1) 0 ≤ 1
+  unfolding viewHeadOk
+  has = leb-true _ _ (both-left _ _ (both-right _ _ e))
 
   pub view-at-shaped : ViewShaped (viewAt s p)
   unfolding viewAt viewOf permutationAt viewDimensionsAt
@@ -285,28 +258,28 @@ module _ (s : List ℕ) (p len : ℕ) (e : viewHeadOk s p len ≡ true) where
       let f : ℕ → ViewDimension = λ k. viewDimensionAt s (p + 2 + getD s p 0 + k * 4) in
       let n = sizedRank (hasDimensions s p) (getD s p 0) in
       record {
-        some = between-low 1 5 (getD s p 0) (view-head .0);
+        some = some;
         few = few;
-        entries = places-count 5 0 0 g (getD s p 0) few;
-        five = places-count 5 noViewDimension noViewDimension f n own-few;
-        entry-past = places-past 5 0 0 g (getD s p 0) few;
-        past = places-past 5 noViewDimension noViewDimension f n own-few;
+        entries = places-count rankPlaces 0 0 g (getD s p 0) few;
+        five = places-count rankPlaces noViewDimension noViewDimension f n own-few;
+        entry-past = places-past rankPlaces 0 0 g (getD s p 0) few;
+        past = places-past rankPlaces noViewDimension noViewDimension f n own-few;
       }
 
   pub view-at-long : length (viewBytes (viewAt s p)) ≡ len
   unfolding viewAt viewOf
-  view-at-long = view-long (viewAt s p) ∙ view-head .2
+  view-at-long = length-view (viewAt s p) ∙ view-head s p len e .fills
 
   entry-at : (k : ℕ) → k < getD s p 0 → getD (viewAt s p .permutation) k 0 ≡ getD s (p + 2 + k) 0
   unfolding viewAt viewOf permutationAt
-  entry-at k h = places-given 5 0 0 (λ (k : ℕ). getD s (p + 2 + k) 0) (getD s p 0) few k h
+  entry-at k h = places-given rankPlaces 0 0 (λ (k : ℕ). getD s (p + 2 + k) 0) (getD s p 0) few k h
 
   view-dimension-at : (k : ℕ) → k < sizedRank (hasDimensions s p) (getD s p 0) → theViewDimension (viewAt s p .dimensions) k ≡ viewDimensionAt s (p + 2 + getD s p 0 + k * 4)
   unfolding viewAt viewOf viewDimensionsAt
   view-dimension-at k h =
-      places-given 5 noViewDimension noViewDimension (λ (k : ℕ). viewDimensionAt s (p + 2 + getD s p 0 + k * 4)) _ own-few k h
+      places-given rankPlaces noViewDimension noViewDimension (λ (k : ℕ). viewDimensionAt s (p + 2 + getD s p 0 + k * 4)) _ own-few k h
 
-  pub has-view : Bytes s → Has s p 0 (viewBytes (viewAt s p))
+  pub has-view : AreBytes s → Has s p 0 (viewBytes (viewAt s p))
   unfolding viewAt viewOf
   has-view b =
       let q = p + 2 + getD s p 0 in
@@ -316,25 +289,25 @@ module _ (s : List ℕ) (p len : ℕ) (e : viewHeadOk s p len ≡ true) where
       whole s p (viewAt s p)
       (record {
         count = refl;
-        has = sym (sized-code-of (getD s (p + 1) 0) (view-head .1));
+        has = sym (sized-code-of (getD s (p + 1) 0) has);
         entries =
             has-rows s (p + 2) 1 (getD s p 0) (entry ps) (λ k h. refl)
             (λ k h. let i : p + 2 + k * 1 + 0 ≡ p + 2 + k = omega arith in (rw i (sym (entry-at k h)), tt));
         dimensions =
-            has-rows s q 4 n (row ds) (λ k h. row-long ds k)
+            has-rows s q 4 n (row ds) (λ k h. length-view-dimension (theViewDimension ds k))
             (λ k h. rw (view-dimension-at k h) (has-view-dimension s (q + k * 4) b));
         rows = has-clip s (q + n * 4) b;
         columns = has-clip s (p + 6 + getD s p 0 + n * 4) b;
       })
 
-  pub view-at-fits : Bytes s → ViewFits (viewAt s p)
+  pub view-at-fits : AreBytes s → ViewFits (viewAt s p)
   unfolding viewAt viewOf viewDimensionsAt viewDimensionAt
   view-at-fits b =
       let q = p + 2 + getD s p 0 in
       let n = sizedRank (hasDimensions s p) (getD s p 0) in
       record {
         stride =
-            places-all (λ (d : ViewDimension). d .stride < 65536) 5 noViewDimension (λ (k : ℕ). viewDimensionAt s (q + k * 4)) n own-few
+            places-all (λ (d : ViewDimension). U16 (d .stride)) rankPlaces noViewDimension (λ (k : ℕ). viewDimensionAt s (q + k * 4)) n own-few
             (omega arith) (λ k h. u16-below s b (q + k * 4 + 2));
         rows = clip-fits s (q + n * 4) b;
         columns = clip-fits s (p + 6 + getD s p 0 + n * 4) b;

@@ -11,10 +11,7 @@ use Rattle.numbers.specs.Little.{u16At, u32At, u16Bytes, u32Bytes}
 use Rattle.numbers.specs.Lists.{each}
 use Rattle.numbers.specs.Joins.{length-each}
 use Rattle.numbers.specs.Places.{by-place, by-order}
-
--- each number of s is a byte
-abbrev pub Bytes : List ℕ → Type 0
-Bytes s = (i : ℕ) → i < length s → getD s i 0 < 256
+use Rattle.round_trip.specs.Typed.{AreBytes, U16, U32}
 
 -- the bytes bs stand in s from p + i on
 abbrev pub Has : List ℕ → ℕ → ℕ → List ℕ → Type 0
@@ -118,7 +115,7 @@ u32-of s p i x bs h =
     (omega (arith, div-add-mod' x 65536))
 
 -- the bytes of a number that was read
-module _ (s : List ℕ) (b : Bytes s) where
+module _ (s : List ℕ) (b : AreBytes s) where
   pub byte-at : (i : ℕ) → getD s i 0 < 256
   byte-at i = by-order i (length s) (b i) (λ h. rw (List·getD-eq-default s 0 h) (omega arith))
 
@@ -130,11 +127,11 @@ module _ (s : List ℕ) (b : Bytes s) where
   unfolding u16At
   high-at p i = rw (← add-assoc p i 1) (omega (arith, byte-at (p + i)))
 
-  pub u16-below : (p : ℕ) → u16At s p < 65536
+  pub u16-below : (p : ℕ) → U16 (u16At s p)
   unfolding u16At
   u16-below p = omega (arith, byte-at p, byte-at (p + 1))
 
-  pub u32-below : (p : ℕ) → u32At s p < 4294967296
+  pub u32-below : (p : ℕ) → U32 (u32At s p)
   unfolding u32At
   u32-below p = omega (arith, u16-below p, u16-below (p + 2))
 

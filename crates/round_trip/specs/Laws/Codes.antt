@@ -1,20 +1,27 @@
--- The numbers by which a sheet names a clamp mode, a reduce mode, a combine and has-dimensions: from the name and back, and from the number
--- and back.
+-- The numbers by which a sheet names a clamp mode, a reduce mode, a combine, an object, a view and has-dimensions: from the name and back,
+-- and from the number and back.
 use Prim.Native.Nat.{ℕ, zero, suc, _+_, _<_, _≤_}
 use mathlib.Core.Path.{_≡_, refl}
 use mathlib.Core.Bool.{Bool, true, false}
 use native.Mathlib.Omega.{arith}
+use borrow.Author.Tests.{ltb-true, ne-eqb}
 use lib.Dec.{eqb}
 use Rattle.numbers.specs.Choice.{pick}
 use Rattle.numbers.specs.Places.{by-place}
-use Rattle.sheet.specs.Codes.{clampCode, clampMode, reduceCode, reduceMode, combineCode, combineOf}
+use Rattle.sheet.specs.Sizes.{viewPlaces}
+use Rattle.sheet.specs.Codes.{clampCode, clampMode, reduceCode, reduceMode, combineCode, combineOf, none, objectCode, objectOf, viewingCode, viewingOf}
+use Rattle.sheet.specs.Steps.{objectOk, viewingOk}
 use Rattle.sheet.specs.declared.ClampMode.{ClampMode}
 use Rattle.sheet.specs.declared.ClampMode.the-variants.{Undefined, Constant, ClampToEdge, Repeat, MirrorRepeat}
 use Rattle.sheet.specs.declared.ReduceMode.{ReduceMode}
 use Rattle.sheet.specs.declared.ReduceMode.the-variants.{Row, Column, Both, TwoByTwo}
 use Rattle.sheet.specs.declared.Combine.{Combine}
 use Rattle.sheet.specs.declared.Combine.the-variants.{Add, Min, Max, And, Or, Xor}
-use Rattle.sheet_writer.specs.Bytes.{sizedCode}
+use Rattle.sheet.specs.declared.Object.{Object}
+use Rattle.sheet.specs.declared.Object.the-variants.{Kept, Register}
+use Rattle.sheet.specs.declared.Viewing.{Viewing}
+use Rattle.sheet.specs.declared.Viewing.the-variants.{Plain, Through}
+use Rattle.sheet_bytes.specs.Bytes.{sizedCode}
 
 -- P of each of the n numbers from low on
 abbrev pub Each : (ℕ → Type 0) → ℕ → ℕ → Type 0
@@ -85,6 +92,34 @@ pub combine-code-of : (x : ℕ) → x ≤ 5 → combineCode (combineOf x) ≡ x
 unfolding combineOf pick
 combine-code-of x h =
     one-of (λ (x : ℕ). combineCode (combineOf x) ≡ x) 0 6 (refl, (refl, (refl, (refl, (refl, (refl, tt)))))) x (omega arith) (omega arith)
+
+-- no register and no view has the number that stands for none
+pub object-of : (o : Object) → objectOk o ≡ true → objectOf (objectCode o) ≡ o
+unfolding objectOf pick
+object-of Kept e = refl
+object-of (Register register) e = rw (ne-eqb register none (λ q. omega (arith, ltb-true register 4 e)))
+
+pub object-code-small : (o : Object) → objectOk o ≡ true → objectCode o < 256
+object-code-small Kept e = omega arith
+object-code-small (Register register) e = omega (arith, ltb-true register 4 e)
+
+pub object-code-of : (x : ℕ) → objectCode (objectOf x) ≡ x
+unfolding objectOf pick
+object-code-of x = by-place x none (λ q. rw q) (λ q. rw (ne-eqb x none q))
+
+module _ (views : ℕ) (few : views ≤ viewPlaces) where
+  pub viewing-of : (v : Viewing) → viewingOk views v ≡ true → viewingOf (viewingCode v) ≡ v
+  unfolding viewingOf pick
+  viewing-of Plain e = refl
+  viewing-of (Through view) e = rw (ne-eqb view none (λ q. omega (arith, ltb-true view views e)))
+
+  pub viewing-code-small : (v : Viewing) → viewingOk views v ≡ true → viewingCode v < 256
+  viewing-code-small Plain e = omega arith
+  viewing-code-small (Through view) e = omega (arith, ltb-true view views e)
+
+pub viewing-code-of : (x : ℕ) → viewingCode (viewingOf x) ≡ x
+unfolding viewingOf pick
+viewing-code-of x = by-place x none (λ q. rw q) (λ q. rw (ne-eqb x none q))
 
 pub sized-of : (b : Bool) → eqb (sizedCode b) 1 ≡ b
 unfolding sizedCode pick

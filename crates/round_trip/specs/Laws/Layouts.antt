@@ -7,28 +7,25 @@ use native.Mathlib.Nat.{add-zero}
 use native.Mathlib.Omega.{arith}
 use borrow.Author.Tests.{eqb-true, leb-true, le-leb, eq-eqb}
 use lib.ListN.{length, getD, replicate}
-use Rattle.numbers.specs.Choice.{both-left, both-right, both-true, between-low, between-high, between-true}
+use Rattle.numbers.specs.Choice.{both-left, both-right, both-true, between-low, between-true}
 use Rattle.numbers.specs.Little.{u16At, u32At}
 use Rattle.numbers.specs.Lists.{each, line}
-use Rattle.numbers.specs.Joins.{length-each}
 use Rattle.numbers.specs.Places.{places-given, places-past, places-count, places-are, places-all, Held, held}
-use Rattle.sheet.specs.Sizes.{rankOk}
+use Rattle.sheet.specs.Sizes.{rankPlaces}
 use Rattle.sheet.specs.Codes.{clampMode, clampCode, undefined}
 use Rattle.sheet.specs.Layouts.{noDimension, noLayout, theDimension, dimensionOk, dimensionUnused, dimensionAtOk, dimensionsOk, layoutOk, layoutUnused}
-use Rattle.sheet.specs.Facts.{layout-some, layout-most}
+use Rattle.sheet.specs.Laws.Facts.{layout-some, layout-most}
 use Rattle.sheet.specs.declared.ClampMode.{ClampMode}
 use Rattle.sheet.specs.declared.ClampMode.the-variants.{Undefined, Constant, ClampToEdge, Repeat, MirrorRepeat}
 use Rattle.sheet.specs.declared.Dimension.{Dimension}
 use Rattle.sheet.specs.declared.Layout.{Layout}
-use Rattle.sheet_reader.specs.Contents.{dimensionAt, dimensionsAt, layoutAt, layoutLength, layoutLengthOk, layoutHeadOk}
-use Rattle.sheet_writer.specs.Bytes.{dimensionBytes, layoutBytes}
-use Rattle.round_trip.specs.Stretches.{Bytes, Has, has-shift, has-back, has-rows-at, has-rows, u16-of, u32-of, low-at, high-at, u16-below, u32-below, has-u32}
-use Rattle.round_trip.specs.Codes.{clamp-mode-of, clamp-code-small, clamp-code-of}
-use Rattle.round_trip.specs.Typed.{DimensionFits, LayoutFits, LayoutSized}
-
-pub dimension-long : (d : Dimension) → length (dimensionBytes d) ≡ 10
-unfolding dimensionBytes
-dimension-long d = refl
+use Rattle.contents.specs.Contents.{dimensionAt, dimensionsAt, layoutAt, layoutLength, layoutLengthOk, layoutHeadOk}
+use Rattle.contents.specs.Laws.Heads.{layout-head}
+use Rattle.sheet_bytes.specs.Bytes.{dimensionBytes, dimensionsBytes, layoutBytes}
+use Rattle.sheet_bytes.specs.Laws.Lengths.{length-dimension, length-layout}
+use Rattle.round_trip.specs.Laws.Stretches.{Has, has-shift, has-back, has-rows-at, has-rows, u16-of, u32-of, low-at, high-at, u16-below, u32-below, has-u32}
+use Rattle.round_trip.specs.Laws.Codes.{clamp-mode-of, clamp-code-small, clamp-code-of}
+use Rattle.round_trip.specs.Typed.{AreBytes, DimensionFits, LayoutFits, LayoutArrays}
 
 pub dimension-of : (s : List ℕ) (p : ℕ) (d : Dimension) → Has s p 0 (dimensionBytes d) → dimensionAt s p ≡ d
 unfolding dimensionAt dimensionBytes
@@ -44,14 +41,14 @@ dimension-of s p d h =
     let n = u16-of s p 8 (d .span) (t8 .0) (t8 .1 .0) in
     λ i. record { block = b i; size = z i; stride = t i; offset = o i; span = n i }
 
-pub has-dimension : (s : List ℕ) (p : ℕ) → Bytes s → Has s p 0 (dimensionBytes (dimensionAt s p))
+pub has-dimension : (s : List ℕ) (p : ℕ) → AreBytes s → Has s p 0 (dimensionBytes (dimensionAt s p))
 unfolding dimensionAt dimensionBytes
 has-dimension s p b =
     let l0 = rw add-zero at (low-at s b p 0) in
     let h0 = rw add-zero at (high-at s b p 0) in
     (rw add-zero l0, (h0, (low-at s b p 2, (high-at s b p 2, (low-at s b p 4, (high-at s b p 4, (low-at s b p 6, (high-at s b p 6, (low-at s b p 8, (high-at s b p 8, tt))))))))))
 
-pub dimension-fits : (s : List ℕ) (p : ℕ) → Bytes s → DimensionFits (dimensionAt s p)
+pub dimension-fits : (s : List ℕ) (p : ℕ) → AreBytes s → DimensionFits (dimensionAt s p)
 unfolding dimensionAt
 dimension-fits s p b = record { stride = u16-below s b (p + 4); offset = u16-below s b (p + 6) }
 
@@ -75,22 +72,22 @@ row ds k = dimensionBytes (theDimension ds k)
 -- a layout of 1 to 5 dimensions in five places, the others unused
 pub record LayoutShaped (l : Layout) : Type 0 where
   pub some : 1 ≤ l .rank
-  pub few : l .rank ≤ 5
-  pub five : length (l .dimensions) ≡ 5
-  pub past : (k : ℕ) → l .rank ≤ k → k < 5 → theDimension (l .dimensions) k ≡ noDimension
+  pub few : l .rank ≤ rankPlaces
+  pub five : length (l .dimensions) ≡ rankPlaces
+  pub past : (k : ℕ) → l .rank ≤ k → k < rankPlaces → theDimension (l .dimensions) k ≡ noDimension
 
 abbrev pub DimensionsHeld : ℕ → List Dimension → Type 0
-DimensionsHeld rank ds = Held 5 dimensionOk dimensionUnused noDimension rank ds
+DimensionsHeld rank ds = Held rankPlaces dimensionOk dimensionUnused noDimension rank ds
 
-dimensions-held : (rank : ℕ) (ds : List Dimension) → rank ≤ 5 → dimensionsOk rank ds ≡ true → DimensionsHeld rank ds
+dimensions-held : (rank : ℕ) (ds : List Dimension) → rank ≤ rankPlaces → dimensionsOk rank ds ≡ true → DimensionsHeld rank ds
 unfolding dimensionAtOk
-dimensions-held rank ds h e = held 5 dimensionOk dimensionUnused noDimension rank ds h e
+dimensions-held rank ds h e = held rankPlaces dimensionOk dimensionUnused noDimension rank ds h e
 
 pub layout-held : (l : Layout) → layoutOk l ≡ true → DimensionsHeld (l .rank) (l .dimensions)
 unfolding layoutOk
 layout-held l e = dimensions-held (l .rank) (l .dimensions) (layout-most l e) (both-right _ _ e)
 
-pub layout-shaped : (l : Layout) → layoutOk l ≡ true → LayoutSized l → LayoutShaped l
+pub layout-shaped : (l : Layout) → layoutOk l ≡ true → LayoutArrays l → LayoutShaped l
 layout-shaped l e z =
     record {
       some = layout-some l e;
@@ -107,13 +104,13 @@ no-mode ClampToEdge e = absurd (true≢false (sym e))
 no-mode Repeat e = absurd (true≢false (sym e))
 no-mode MirrorRepeat e = absurd (true≢false (sym e))
 
-no-dimensions : (ds : List Dimension) → length ds ≡ 5 → dimensionsOk 0 ds ≡ true → ds ≡ replicate 5 noDimension
+no-dimensions : (ds : List Dimension) → length ds ≡ rankPlaces → dimensionsOk 0 ds ≡ true → ds ≡ replicate rankPlaces noDimension
 unfolding line
 no-dimensions ds z e =
     let w = dimensions-held 0 ds (omega arith) e in
-    sym (places-are 5 noDimension noDimension (λ (k : ℕ). noDimension) 0 (omega arith) ds z (λ k l. absurd (omega arith)) (λ k l m. no-dimension (theDimension ds k) (w .past k l m)))
+    sym (places-are rankPlaces noDimension noDimension (λ (k : ℕ). noDimension) 0 (omega arith) ds z (λ k l. absurd (omega arith)) (λ k l m. no-dimension (theDimension ds k) (w .past k l m)))
 
-pub no-layout : (l : Layout) → LayoutSized l → layoutUnused l ≡ true → l ≡ noLayout
+pub no-layout : (l : Layout) → LayoutArrays l → layoutUnused l ≡ true → l ≡ noLayout
 unfolding layoutUnused noLayout
 no-layout l z e =
     let e1 = both-right _ _ e in
@@ -125,13 +122,13 @@ no-layout l z e =
     λ i. record { rank = r i; mode = m i; clamp = c i; dimensions = d i }
 
 -- from the bytes to the layout
-dimensions-of : (s : List ℕ) (p rank : ℕ) (ds : List Dimension) → rank ≤ 5 → length ds ≡ 5 → ((k : ℕ) → rank ≤ k → k < 5 → theDimension ds k ≡ noDimension) → Has s p 0 (each rank (row ds)) → dimensionsAt s p rank ≡ ds
+dimensions-of : (s : List ℕ) (p rank : ℕ) (ds : List Dimension) → rank ≤ rankPlaces → length ds ≡ rankPlaces → ((k : ℕ) → rank ≤ k → k < rankPlaces → theDimension ds k ≡ noDimension) → Has s p 0 (dimensionsBytes rank ds) → dimensionsAt s p rank ≡ ds
 unfolding dimensionsAt
 dimensions-of s p rank ds h z u b =
-    places-are 5 noDimension noDimension (λ (k : ℕ). dimensionAt s (p + k * 10)) rank h ds z
+    places-are rankPlaces noDimension noDimension (λ (k : ℕ). dimensionAt s (p + k * 10)) rank h ds z
     (λ k l.
     dimension-of s (p + k * 10) (theDimension ds k)
-    (has-rows-at s p 10 rank (row ds) (λ k l. dimension-long (theDimension ds k)) b k l))
+    (has-rows-at s p 10 rank (row ds) (λ k l. length-dimension (theDimension ds k)) b k l))
     u
 
 pub layout-of : (s : List ℕ) (p : ℕ) (l : Layout) → LayoutShaped l → Has s p 0 (layoutBytes l) → layoutAt s p ≡ l
@@ -139,18 +136,12 @@ unfolding layoutAt layoutBytes
 layout-of s p l w h =
     let r : getD s p 0 ≡ l .rank = rw add-zero at (h .0) in
     let m : clampMode (getD s (p + 1) 0) ≡ l .mode = ap clampMode (h .1 .0) ∙ clamp-mode-of (l .mode) in
-    let c : u32At s (p + 2) ≡ l .clamp = u32-of s p 2 (l .clamp) (each (l .rank) (row (l .dimensions))) (h .1 .1) in
-    let g = has-shift s p 6 0 (each (l .rank) (row (l .dimensions))) (h .1 .1 .1 .1 .1 .1) in
+    let c : u32At s (p + 2) ≡ l .clamp = u32-of s p 2 (l .clamp) (dimensionsBytes (l .rank) (l .dimensions)) (h .1 .1) in
+    let g = has-shift s p 6 0 (dimensionsBytes (l .rank) (l .dimensions)) (h .1 .1 .1 .1 .1 .1) in
     let d : dimensionsAt s (p + 6) (getD s p 0) ≡ l .dimensions = rw r (dimensions-of s (p + 6) (l .rank) (l .dimensions) (w .few) (w .five) (w .past) g) in
     λ i. record { rank = r i; mode = m i; clamp = c i; dimensions = d i }
 
-pub layout-long : (l : Layout) → length (layoutBytes l) ≡ layoutLength (l .rank)
-unfolding layoutBytes
-layout-long l =
-    let e = length-each 10 (l .rank) (row (l .dimensions)) (λ k h. dimension-long (theDimension (l .dimensions) k)) in
-    rw e (omega arith)
-
-pub layout-length-ok : (rank : ℕ) → 1 ≤ rank → rank ≤ 5 → layoutLengthOk (layoutLength rank) ≡ true
+pub layout-length-ok : (rank : ℕ) → 1 ≤ rank → rank ≤ rankPlaces → layoutLengthOk (layoutLength rank) ≡ true
 unfolding layoutLengthOk
 layout-length-ok rank h l =
     both-true _ _ (between-true 16 56 (layoutLength rank) (omega arith) (omega arith)) (eq-eqb (layoutLength rank % 10) 6 (omega arith))
@@ -159,54 +150,58 @@ pub layout-head-ok : (s : List ℕ) (p : ℕ) (l : Layout) → LayoutShaped l �
 unfolding layoutHeadOk layoutBytes
 layout-head-ok s p l w h =
     let r : getD s p 0 ≡ l .rank = rw add-zero at (h .0) in
-    let e = layout-long l in
+    let e = length-layout l in
     rw (r, h .1 .0, e)
-    (both-true _ _ (between-true 1 5 (l .rank) (w .some) (w .few))
+    (both-true _ _ (between-true 1 rankPlaces (l .rank) (w .some) (w .few))
     (both-true _ _ (eq-eqb (layoutLength (l .rank)) _ refl) (le-leb (clampCode (l .mode)) 4 (clamp-code-small (l .mode)))))
 
 -- from the layout that was read to the bytes
 module _ (s : List ℕ) (p len : ℕ) (e : layoutHeadOk s p len ≡ true) where
-  layout-head : (rankOk (getD s p 0) ≡ true) × (layoutLength (getD s p 0) ≡ len) × (getD s (p + 1) 0 ≤ 4)
-  unfolding layoutHeadOk
-  layout-head = (both-left _ _ e, eqb-true _ _ (both-left _ _ (both-right _ _ e)), leb-true _ _ (both-right _ _ (both-right _ _ e)))
+  few : getD s p 0 ≤ rankPlaces
+  few = layout-head s p len e .few
 
-  few : getD s p 0 ≤ 5
-  few = between-high 1 5 (getD s p 0) (layout-head .0)
+  some : 1 ≤ getD s p 0
+  unfolding layoutHeadOk
+  some = between-low 1 rankPlaces (getD s p 0) (both-left _ _ e)
+
+  mode : getD s (p + 1) 0 ≤ 4
+  unfolding layoutHeadOk
+  mode = leb-true _ _ (both-right _ _ (both-right _ _ e))
 
   dimension-at : (k : ℕ) → k < getD s p 0 → theDimension (layoutAt s p .dimensions) k ≡ dimensionAt s (p + 6 + k * 10)
   unfolding layoutAt dimensionsAt
-  dimension-at k h = places-given 5 noDimension noDimension (λ (k : ℕ). dimensionAt s (p + 6 + k * 10)) (getD s p 0) few k h
+  dimension-at k h = places-given rankPlaces noDimension noDimension (λ (k : ℕ). dimensionAt s (p + 6 + k * 10)) (getD s p 0) few k h
 
   pub layout-at-shaped : LayoutShaped (layoutAt s p)
   unfolding layoutAt dimensionsAt
   layout-at-shaped =
       record {
-        some = between-low 1 5 (getD s p 0) (layout-head .0);
+        some = some;
         few = few;
-        five = places-count 5 noDimension noDimension (λ (k : ℕ). dimensionAt s (p + 6 + k * 10)) (getD s p 0) few;
-        past = λ k h m. places-past 5 noDimension noDimension (λ (k : ℕ). dimensionAt s (p + 6 + k * 10)) (getD s p 0) few k h m;
+        five = places-count rankPlaces noDimension noDimension (λ (k : ℕ). dimensionAt s (p + 6 + k * 10)) (getD s p 0) few;
+        past = λ k h m. places-past rankPlaces noDimension noDimension (λ (k : ℕ). dimensionAt s (p + 6 + k * 10)) (getD s p 0) few k h m;
       }
 
   pub layout-at-long : length (layoutBytes (layoutAt s p)) ≡ len
   unfolding layoutAt
-  layout-at-long = layout-long (layoutAt s p) ∙ layout-head .1
+  layout-at-long = length-layout (layoutAt s p) ∙ layout-head s p len e .fills
 
-  pub has-layout : Bytes s → Has s p 0 (layoutBytes (layoutAt s p))
+  pub has-layout : AreBytes s → Has s p 0 (layoutBytes (layoutAt s p))
   unfolding layoutAt layoutBytes
   has-layout b =
-      let c = clamp-code-of (getD s (p + 1) 0) (layout-head .2) in
+      let c = clamp-code-of (getD s (p + 1) 0) mode in
       let u = has-u32 s b p 2 in
       let f : ℕ → List ℕ = row (layoutAt s p .dimensions) in
-      let g : Has s (p + 6) 0 (each (getD s p 0) f) = has-rows s (p + 6) 10 (getD s p 0) f (λ k h. dimension-long (theDimension (layoutAt s p .dimensions) k)) (λ k h. rw (dimension-at k h) (has-dimension s (p + 6 + k * 10) b)) in
+      let g : Has s (p + 6) 0 (each (getD s p 0) f) = has-rows s (p + 6) 10 (getD s p 0) f (λ k h. length-dimension (theDimension (layoutAt s p .dimensions) k)) (λ k h. rw (dimension-at k h) (has-dimension s (p + 6 + k * 10) b)) in
       (rw add-zero refl, (sym c, (u .0, (u .1 .0, (u .1 .1 .0, (u .1 .1 .1 .0, has-back s p 6 0 (each (getD s p 0) f) g))))))
 
-  pub layout-at-fits : Bytes s → LayoutFits (layoutAt s p)
+  pub layout-at-fits : AreBytes s → LayoutFits (layoutAt s p)
   unfolding layoutAt dimensionsAt
   layout-at-fits b =
       record {
         clamp = u32-below s b (p + 2);
         dimension =
-            places-all DimensionFits 5 noDimension (λ (k : ℕ). dimensionAt s (p + 6 + k * 10)) (getD s p 0) few
+            places-all DimensionFits rankPlaces noDimension (λ (k : ℕ). dimensionAt s (p + 6 + k * 10)) (getD s p 0) few
             (record { stride = omega arith; offset = omega arith })
             (λ k h. dimension-fits s (p + 6 + k * 10) b);
       }
