@@ -1,13 +1,4 @@
-pub mod Stretches
-pub mod Codes
 pub mod Typed
-pub mod Layouts
-pub mod Views
-pub mod Steps
-pub mod Sheets
-pub mod Turns
-pub mod Growing
-pub mod Returning
-pub mod Written
-pub mod Prefixes
+pub mod Longest
+pub mod Laws
 pub mod Theorems

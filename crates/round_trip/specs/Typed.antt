@@ -2,7 +2,9 @@
 -- each number fits its type. Of the numbers only those are named whose range no judge of the model tests.
 use Prim.Native.Nat.{ℕ, _<_}
 use mathlib.Core.Path.{_≡_}
-use lib.ListN.{length}
+use mathlib.Core.List.{List}
+use lib.ListN.{length, getD}
+use Rattle.sheet.specs.Sizes.{rankPlaces, layoutPlaces, viewPlaces, stepPlaces}
 use Rattle.sheet.specs.Layouts.{theDimension, theLayout}
 use Rattle.sheet.specs.Views.{theViewDimension, theView}
 use Rattle.sheet.specs.Steps.{theStep}
@@ -13,6 +15,10 @@ use Rattle.sheet.specs.declared.View.{View}
 use Rattle.sheet.specs.declared.Step.{Step}
 use Rattle.sheet.specs.declared.Step.the-variants.{Nothing, Load, Store, Whole}
 use Rattle.sheet.specs.declared.Sheet.{Sheet}
+
+-- each number of s is a byte
+abbrev pub AreBytes : List ℕ → Type 0
+AreBytes s = (i : ℕ) → i < length s → getD s i 0 < 256
 
 abbrev pub U16 : ℕ → Type 0
 U16 x = x < 65536
@@ -39,31 +45,31 @@ pub record ViewFits (v : View) : Type 0 where
 
 abbrev pub StepFits : Step → Type 0
 StepFits Nothing = Unit {0}
-StepFits (Load register object layout view base) = U32 base
-StepFits (Store register layout view base) = U32 base
+StepFits (Load register object window) = U32 (window .base)
+StepFits (Store register window) = U32 (window .base)
 StepFits (Whole whole) = Unit {0}
 
-abbrev pub LayoutSized : Layout → Type 0
-LayoutSized l = length (l .dimensions) ≡ 5
+abbrev pub LayoutArrays : Layout → Type 0
+LayoutArrays l = length (l .dimensions) ≡ rankPlaces
 
-pub record ViewSized (v : View) : Type 0 where
-  pub permutation : length (v .permutation) ≡ 5
-  pub dimensions : length (v .dimensions) ≡ 5
+pub record ViewArrays (v : View) : Type 0 where
+  pub permutation : length (v .permutation) ≡ rankPlaces
+  pub dimensions : length (v .dimensions) ≡ rankPlaces
 
--- 5 dimensions, 5 permutation entries, 4 layouts, 4 views, 32 steps
-pub record Sized (sh : Sheet) : Type 0 where
-  pub layout : length (sh .layout) ≡ 4
-  pub view : length (sh .view) ≡ 4
-  pub step : length (sh .step) ≡ 32
-  pub layouts : (k : ℕ) → k < 4 → LayoutSized (theLayout (sh .layout) k)
-  pub views : (k : ℕ) → k < 4 → ViewSized (theView (sh .view) k)
+-- each array has its places
+pub record SheetArrays (sh : Sheet) : Type 0 where
+  pub layout : length (sh .tensors .layout) ≡ layoutPlaces
+  pub view : length (sh .tensors .view) ≡ viewPlaces
+  pub step : length (sh .step) ≡ stepPlaces
+  pub layouts : (k : ℕ) → k < layoutPlaces → LayoutArrays (theLayout (sh .tensors .layout) k)
+  pub views : (k : ℕ) → k < viewPlaces → ViewArrays (theView (sh .tensors .view) k)
 
 -- 16 and 32 bits
-pub record Fits (sh : Sheet) : Type 0 where
-  pub layouts : (k : ℕ) → LayoutFits (theLayout (sh .layout) k)
-  pub views : (k : ℕ) → ViewFits (theView (sh .view) k)
+pub record SheetFits (sh : Sheet) : Type 0 where
+  pub layouts : (k : ℕ) → LayoutFits (theLayout (sh .tensors .layout) k)
+  pub views : (k : ℕ) → ViewFits (theView (sh .tensors .view) k)
   pub steps : (k : ℕ) → StepFits (theStep (sh .step) k)
 
 pub record Typed (sh : Sheet) : Type 0 where
-  pub sized : Sized sh
-  pub fits : Fits sh
+  pub arrays : SheetArrays sh
+  pub fits : SheetFits sh

@@ -5,6 +5,7 @@ use lib.ListN.{length}
 use lib.Seq.{sets}
 use lib.Dec.{leb}
 use Rattle.numbers.specs.Choice.{pick}
+use Rattle.refusals.specs.Refusals.{beyondSizes, roomTooShort, refusalAt}
 use Rattle.sheet.specs.Sheets.{writable}
 use Rattle.sheet.specs.declared.Sheet.{Sheet}
 use Rattle.sheet_writer.specs.Bytes.{sheetBytes}
@@ -12,15 +13,15 @@ use Rattle.sheet_writer.specs.declared.WriteAnswer.{WriteAnswer}
 
 -- a refusal's number, or 0 with the count of bytes written
 abbrev pub writeAnswer : ℕ → ℕ → WriteAnswer
-writeAnswer number bytes = record { refusal = record { number = number; place = 0; element = 0 }; bytes = bytes }
+writeAnswer number bytes = record { refusal = refusalAt number 0 0; bytes = bytes }
 
 unfoldable pub written : Sheet → ℕ → WriteAnswer
 written sh room =
     pick (writable sh)
     (pick (leb (length (sheetBytes sh)) room)
     (writeAnswer 0 (length (sheetBytes sh)))
-    (writeAnswer 19 0))
-    (writeAnswer 5 0)
+    (writeAnswer roomTooShort 0))
+    (writeAnswer beyondSizes 0)
 
 -- the room afterwards: the sheet's bytes from its start on, and every byte past them as it was
 unfoldable pub writtenRoom : Sheet → List ℕ → List ℕ

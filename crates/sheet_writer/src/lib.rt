@@ -4,10 +4,10 @@ ghost use mathlib.Core.Bool.{true};
 ghost use Prim.Native.Nat.{_+_, _≤_};
 ghost use lib.ListN.{length};
 ghost use lib.Seq.{sets};
-ghost use Rattle.numbers.specs.Lists.{each};
-ghost use Rattle.numbers.specs.All.{all};
-ghost use Rattle.sheet.specs.Sheets.{layoutAtOk, viewAtOk, writable};
-ghost use Rattle.sheet_writer.specs.Bytes.{layoutField, viewField, stepField, sheetBytes};
+ghost use Rattle.sheet.specs.Sizes.{layoutPlaces, viewPlaces, stepPlaces};
+ghost use Rattle.sheet.specs.Sheets.{writable};
+ghost use Rattle.sheet.specs.Laws.Within.{LayoutsHeld, ViewsHeld};
+ghost use Rattle.sheet_writer.specs.Bytes.{layoutsBytes, viewsBytes, stepsBytes, sheetBytes};
 ghost use Rattle.sheet_writer.specs.Writing.{writeAnswer, written, writtenRoom};
 use refusals::Refusal;
 use sheet::Cell;
@@ -15,10 +15,14 @@ use sheet::Layout;
 use sheet::Sheet;
 use sheet::View;
 use sheet::sheets;
+use sheet::sizes::LAYOUTS;
+use sheet::sizes::STEPS;
+use sheet::sizes::VIEWS;
+use sheet_bytes::fields;
+use sheet_bytes::layouts;
+use sheet_bytes::views;
 
-mod fields;
 mod lengths;
-mod steps;
 
 // What writing gives: a refusal, or the count of bytes written.
 pub struct WriteAnswer {
@@ -26,63 +30,52 @@ pub struct WriteAnswer {
     pub bytes: usize,
 }
 
-// Refusals: a model that no sheet reads as, and a room too short for its bytes.
-const BEYOND_SIZES: u8 = 5;
-
-const SHORT_ROOM: u8 = 19;
-
 fn answer(number: u8, bytes: usize) -> WriteAnswer
     ensures { λ r. ⌜ r ≡ writeAnswer number bytes ⌝ }
 {
-    WriteAnswer {
-        refusal: Refusal {
-            number,
-            place: 0,
-            element: 0,
-        },
-        bytes,
-    }
+    let refusal = refusals::refusal_at(number, 0, 0);
+    WriteAnswer { refusal, bytes }
 }
 
 // Returns the place after the last field, as do the next two.
-fn put_layouts(out: &mut [u8], at: usize, count: usize, ls: [Layout; 4]) -> usize
-    requires { ⌜ ((count ≤ 4) × (all 4 (layoutAtOk count ls) ≡ true)) × (at + length (each count (layoutField ls)) ≤ length (now out)) ⌝ }
-    ensures { λ r. ⌜ (r ≡ at + length (each count (layoutField ls))) × (now (out .exit) ≡ sets (now (out .entry)) at (each count (layoutField ls))) ⌝ }
+fn put_layouts(out: &mut [u8], at: usize, count: usize, ls: [Layout; LAYOUTS]) -> usize
+    requires { ⌜ (count ≤ layoutPlaces) × LayoutsHeld count ls × (at + length (layoutsBytes count ls) ≤ length (now out)) ⌝ }
+    ensures { λ r. ⌜ (r ≡ at + length (layoutsBytes count ls)) × (now (out .exit) ≡ sets (now (out .entry)) at (layoutsBytes count ls)) ⌝ }
 {
     let mut p = at;
     let mut k = 0;
     while k < count {
         let l = ls[k];
-        p = fields::put_layout(out, p, l);
+        p = layouts::put_layout(out, p, l);
         k += 1;
     }
     p
 }
 
-fn put_views(out: &mut [u8], at: usize, count: usize, vs: [View; 4]) -> usize
-    requires { ⌜ ((count ≤ 4) × (all 4 (viewAtOk count vs) ≡ true)) × (at + length (each count (viewField vs)) ≤ length (now out)) ⌝ }
-    ensures { λ r. ⌜ (r ≡ at + length (each count (viewField vs))) × (now (out .exit) ≡ sets (now (out .entry)) at (each count (viewField vs))) ⌝ }
+fn put_views(out: &mut [u8], at: usize, count: usize, vs: [View; VIEWS]) -> usize
+    requires { ⌜ (count ≤ viewPlaces) × ViewsHeld count vs × (at + length (viewsBytes count vs) ≤ length (now out)) ⌝ }
+    ensures { λ r. ⌜ (r ≡ at + length (viewsBytes count vs)) × (now (out .exit) ≡ sets (now (out .entry)) at (viewsBytes count vs)) ⌝ }
 {
     let mut p = at;
     let mut k = 0;
     while k < count {
         let v = vs[k];
-        p = fields::put_view(out, p, v);
+        p = views::put_view(out, p, v);
         k += 1;
     }
     p
 }
 
-fn put_steps(out: &mut [u8], at: usize, count: usize, cs: [Cell; 32]) -> usize
-    requires { ⌜ (count ≤ 32) × (at + length (each count (stepField cs)) ≤ length (now out)) ⌝ }
-    ensures { λ r. ⌜ (r ≡ at + length (each count (stepField cs))) × (now (out .exit) ≡ sets (now (out .entry)) at (each count (stepField cs))) ⌝ }
+fn put_steps(out: &mut [u8], at: usize, edition: u8, count: usize, cs: [Cell; STEPS]) -> usize
+    requires { ⌜ (count ≤ stepPlaces) × (at + length (stepsBytes edition count cs) ≤ length (now out)) ⌝ }
+    ensures { λ r. ⌜ (r ≡ at + length (stepsBytes edition count cs)) × (now (out .exit) ≡ sets (now (out .entry)) at (stepsBytes edition count cs)) ⌝ }
 {
     let mut p = at;
     let mut k = 0;
     while k < count {
         let c = cs[k];
         let s = c.step;
-        p = steps::put_step(out, p, s);
+        p = step_bytes::put_step(out, p, edition, s);
         k += 1;
     }
     p
@@ -93,23 +86,24 @@ fn put_sheet(out: &mut [u8], model: Sheet) -> usize
     requires { ⌜ (writable model ≡ true) × (length (sheetBytes model) ≤ length (now out)) ⌝ }
     ensures { λ r. ⌜ (r ≡ length (sheetBytes model)) × (now (out .exit) ≡ sets (now (out .entry)) 0 (sheetBytes model)) ⌝ }
 {
-    let ls = model.layout;
-    let vs = model.view;
+    let t = model.tensors;
+    let ls = t.layout;
+    let vs = t.view;
     let cs = model.step;
     fields::put_edition(out, model.edition);
-    let views_at = put_layouts(out, lengths::EDITION_LEN, model.layouts, ls);
-    let steps_at = put_views(out, views_at, model.views, vs);
-    put_steps(out, steps_at, model.steps, cs)
+    let views_at = put_layouts(out, fields::EDITION_LEN, t.layouts, ls);
+    let steps_at = put_views(out, views_at, t.views, vs);
+    put_steps(out, steps_at, model.edition, model.steps, cs)
 }
 
 pub fn write_sheet(model: Sheet, out: &mut [u8]) -> WriteAnswer
     ensures { λ r. ⌜ (r ≡ written model (length (now (out .entry)))) × (now (out .exit) ≡ writtenRoom model (now (out .entry))) ⌝ }
 {
     if !sheets::writable(model) {
-        return answer(BEYOND_SIZES, 0);
+        return answer(refusals::BEYOND_SIZES, 0);
     }
     if out.len() < lengths::sheet_len(model) {
-        return answer(SHORT_ROOM, 0);
+        return answer(refusals::ROOM_TOO_SHORT, 0);
     }
     let bytes = put_sheet(out, model);
     answer(0, bytes)

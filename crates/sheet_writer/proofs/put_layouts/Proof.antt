@@ -1,13 +1,14 @@
-use Prim.Native.Nat.{_-_, _≤_}
+use Prim.Native.Nat.{ℕ, _-_, _≤_}
 use borrow.Author.Needs.{needs}
-use Rattle.sheet_writer.specs.Bytes.{layoutField}
-use Rattle.sheet_writer.proofs.Puts.{Turns, no-turns, one-turn, turn-fits, all-turns}
-use Rattle.sheet_writer.proofs.Writable.{layout-rank-at}
+use Rattle.sheet.specs.Layouts.{theLayout}
+use Rattle.sheet.specs.Laws.Facts.{layout-most}
+use Rattle.sheet_bytes.specs.Bytes.{layoutField}
+use Rattle.sheet_bytes.specs.Laws.Puts.{Turns, no-turns, one-turn, turn-fits, all-turns}
 use Rattle.sheet_writer.proofs.put_layouts.Statement.{statement}
 use Rattle.sheet_writer.proofs.put_layouts.Tie as tie
 
 abbrev Inv-loop : tie.InvT-loop
-Inv-loop out₀ at count ls p₀ k₀ out p k = (k ≤ count) × Turns out₀ at (layoutField ls) out p k
+Inv-loop out₀ at count ls p₀ k₀ out p k = (k ≤ count) × Turns out₀ at (λ (j : ℕ). layoutField (theLayout ls j)) out p k
 
 abbrev μ-loop : tie.MeasureT-loop
 μ-loop out₀ at count ls p₀ k₀ out p k = count - k
@@ -25,8 +26,8 @@ put-layout-requires : tie.Need-put-layout-requires Inv-loop μ-loop
 put-layout-requires c κs =
     let a = c .before .before .before .before .before .args in
     let k = c .before .before .before .loop .k in (
-      layout-rank-at (a .count) (a .t4) k (c .before .before .before .before .before .pre .0 .0) (c .before .before .before .before .before .pre .0 .1) (c .before .before .loop-test .taken),
-      turn-fits _ _ _ _ (c .before .before .before .loop .inv .1) (c .before .before .before .before .before .pre .1) (c .before .before .loop-test .taken),
+      layout-most (theLayout (a .t4) k) (c .before .before .before .before .before .pre .1 .given k (c .before .before .loop-test .taken)),
+      turn-fits _ _ _ _ (c .before .before .before .loop .inv .1) (c .before .before .before .before .before .pre .2) (c .before .before .loop-test .taken),
     )
 
 add-k : tie.Need-add-k Inv-loop μ-loop

@@ -1,15 +1,16 @@
-use Prim.Native.Nat.{_-_, _≤_}
+use Prim.Native.Nat.{ℕ, _-_, _≤_}
 use borrow.Author.Needs.{needs}
-use Rattle.sheet_writer.specs.Bytes.{stepField}
-use Rattle.sheet_writer.proofs.Puts.{Turns, no-turns, one-turn, turn-fits, all-turns}
+use Rattle.sheet.specs.Steps.{theStep}
+use Rattle.step_bytes.specs.Bytes.{stepField}
+use Rattle.sheet_bytes.specs.Laws.Puts.{Turns, no-turns, one-turn, turn-fits, all-turns}
 use Rattle.sheet_writer.proofs.put_steps.Statement.{statement}
 use Rattle.sheet_writer.proofs.put_steps.Tie as tie
 
 abbrev Inv-loop : tie.InvT-loop
-Inv-loop out₀ at count cs p₀ k₀ out p k = (k ≤ count) × Turns out₀ at (stepField cs) out p k
+Inv-loop out₀ at edition count cs p₀ k₀ out p k = (k ≤ count) × Turns out₀ at (λ (j : ℕ). stepField edition (theStep cs j)) out p k
 
 abbrev μ-loop : tie.MeasureT-loop
-μ-loop out₀ at count cs p₀ k₀ out p k = count - k
+μ-loop out₀ at edition count cs p₀ k₀ out p k = count - k
 
 loop-holds : tie.Need-loop-holds Inv-loop μ-loop
 loop-holds c = (search needs, no-turns _ _ _)

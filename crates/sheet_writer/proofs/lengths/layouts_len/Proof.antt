@@ -1,17 +1,19 @@
-use Prim.Native.Nat.{_-_, _*_, _≤_}
+use Prim.Native.Nat.{ℕ, _-_, _*_, _≤_}
 use mathlib.Core.Path.{_≡_, refl}
 use native.Mathlib.Omega.{arith}
 use borrow.Author.Needs.{needs}
 use lib.ListN.{length}
 use Rattle.numbers.specs.Lists.{each, length-each-more}
 use Rattle.sheet.specs.Layouts.{theLayout}
-use Rattle.sheet_writer.specs.Bytes.{layoutBytes, layoutField}
-use Rattle.sheet_writer.proofs.Counts.{length-field}
+use Rattle.sheet.specs.Codes.{layoutTag}
+use Rattle.sheet_bytes.specs.Bytes.{layoutBytes, layoutField}
+use Rattle.sheet_writer.specs.Bytes.{layoutsBytes}
+use Rattle.sheet_bytes.specs.Laws.Lengths.{length-field}
 use Rattle.sheet_writer.proofs.lengths.layouts_len.Statement.{statement}
 use Rattle.sheet_writer.proofs.lengths.layouts_len.Tie as tie
 
 abbrev Inv-loop : tie.InvT-loop
-Inv-loop count ls total₀ k₀ total k = (k ≤ count) × ((total ≡ length (each k (layoutField ls))) × (total ≤ k * 65538))
+Inv-loop count ls total₀ k₀ total k = (k ≤ count) × ((total ≡ length (layoutsBytes k ls)) × (total ≤ k * 65538))
 
 abbrev μ-loop : tie.MeasureT-loop
 μ-loop count ls total₀ k₀ total k = count - k
@@ -45,8 +47,8 @@ loop-again : tie.Need-loop-again Inv-loop μ-loop
 loop-again c =
     let i = c .before .before .before .before .loop in
     let ls = c .before .before .before .before .before .args .t2 in
-    let more = length-each-more (i .k) (layoutField ls) in
-    let len = length-field 0x10 (layoutBytes (theLayout ls (i .k))) in
+    let more = length-each-more (i .k) (λ (j : ℕ). layoutField (theLayout ls j)) in
+    let len = length-field layoutTag (layoutBytes (theLayout ls (i .k))) in
     search needs
 
 returns : tie.Need-returns Inv-loop μ-loop

@@ -1,20 +1,21 @@
-use Prim.Native.Nat.{_-_, _*_, _≤_}
+use Prim.Native.Nat.{ℕ, _-_, _*_, _≤_}
 use mathlib.Core.Path.{_≡_, refl}
 use native.Mathlib.Omega.{arith}
 use borrow.Author.Needs.{needs}
 use lib.ListN.{length}
 use Rattle.numbers.specs.Lists.{each, length-each-more}
 use Rattle.sheet.specs.Steps.{theStep}
-use Rattle.sheet_writer.specs.Bytes.{stepTag, stepBytes, stepField}
-use Rattle.sheet_writer.proofs.Counts.{length-field}
+use Rattle.step_bytes.specs.Bytes.{stepTag, stepBytes, stepField}
+use Rattle.sheet_writer.specs.Bytes.{stepsBytes}
+use Rattle.sheet_bytes.specs.Laws.Lengths.{length-field}
 use Rattle.sheet_writer.proofs.lengths.steps_len.Statement.{statement}
 use Rattle.sheet_writer.proofs.lengths.steps_len.Tie as tie
 
 abbrev Inv-loop : tie.InvT-loop
-Inv-loop count cs total₀ k₀ total k = (k ≤ count) × ((total ≡ length (each k (stepField cs))) × (total ≤ k * 65538))
+Inv-loop edition count cs total₀ k₀ total k = (k ≤ count) × ((total ≡ length (stepsBytes edition k cs)) × (total ≤ k * 65538))
 
 abbrev μ-loop : tie.MeasureT-loop
-μ-loop count cs total₀ k₀ total k = count - k
+μ-loop edition count cs total₀ k₀ total k = count - k
 
 loop-holds : tie.Need-loop-holds Inv-loop μ-loop
 unfolding each
@@ -44,9 +45,9 @@ loop-less c = search needs
 loop-again : tie.Need-loop-again Inv-loop μ-loop
 loop-again c =
     let i = c .before .before .before .before .loop in
-    let ls = c .before .before .before .before .before .args .t2 in
-    let more = length-each-more (i .k) (stepField ls) in
-    let len = length-field (stepTag (theStep ls (i .k))) (stepBytes (theStep ls (i .k))) in
+    let a = c .before .before .before .before .before .args in
+    let more = length-each-more (i .k) (λ (j : ℕ). stepField (a .edition) (theStep (a .t3) j)) in
+    let len = length-field (stepTag (theStep (a .t3) (i .k))) (stepBytes (a .edition) (theStep (a .t3) (i .k))) in
     search needs
 
 returns : tie.Need-returns Inv-loop μ-loop

@@ -1,17 +1,19 @@
-use Prim.Native.Nat.{_-_, _*_, _≤_}
+use Prim.Native.Nat.{ℕ, _-_, _*_, _≤_}
 use mathlib.Core.Path.{_≡_, refl}
 use native.Mathlib.Omega.{arith}
 use borrow.Author.Needs.{needs}
 use lib.ListN.{length}
 use Rattle.numbers.specs.Lists.{each, length-each-more}
 use Rattle.sheet.specs.Views.{theView}
-use Rattle.sheet_writer.specs.Bytes.{viewBytes, viewField}
-use Rattle.sheet_writer.proofs.Counts.{length-field}
+use Rattle.sheet.specs.Codes.{viewTag}
+use Rattle.sheet_bytes.specs.Bytes.{viewBytes, viewField}
+use Rattle.sheet_writer.specs.Bytes.{viewsBytes}
+use Rattle.sheet_bytes.specs.Laws.Lengths.{length-field}
 use Rattle.sheet_writer.proofs.lengths.views_len.Statement.{statement}
 use Rattle.sheet_writer.proofs.lengths.views_len.Tie as tie
 
 abbrev Inv-loop : tie.InvT-loop
-Inv-loop count vs total₀ k₀ total k = (k ≤ count) × ((total ≡ length (each k (viewField vs))) × (total ≤ k * 65538))
+Inv-loop count vs total₀ k₀ total k = (k ≤ count) × ((total ≡ length (viewsBytes k vs)) × (total ≤ k * 65538))
 
 abbrev μ-loop : tie.MeasureT-loop
 μ-loop count vs total₀ k₀ total k = count - k
@@ -45,8 +47,8 @@ loop-again : tie.Need-loop-again Inv-loop μ-loop
 loop-again c =
     let i = c .before .before .before .before .loop in
     let ls = c .before .before .before .before .before .args .t2 in
-    let more = length-each-more (i .k) (viewField ls) in
-    let len = length-field 0x11 (viewBytes (theView ls (i .k))) in
+    let more = length-each-more (i .k) (λ (j : ℕ). viewField (theView ls j)) in
+    let len = length-field viewTag (viewBytes (theView ls (i .k))) in
     search needs
 
 returns : tie.Need-returns Inv-loop μ-loop
