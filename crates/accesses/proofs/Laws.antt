@@ -23,7 +23,7 @@ use Rattle.refusals.specs.declared.Stop.{Stop}
 use Rattle.accesses.specs.declared.Tally.{Tally}
 use Rattle.accesses.specs.Refusals.{elementOutcome, firstRefused, sameByte, sameAt, meets, clashFrom, apart, clashRefusal, elementsRefusal, placedOne, placedCount, checkedBy, checked, misplaced, ranksDiffer, storeBlocked, accessRefusal, checkedAccess}
 use Rattle.accesses.specs.Entries.{Near, entryOf, hasByte, hits, sameEntry, Surveyed}
-use Rattle.addressing.specs.Capacities.{matrixPlaces}
+use Rattle.sheet.specs.Sizes.{matrixPlaces}
 
 -- The search of refusal 15
 module _ (same : ℕ → ℕ → Bool) where

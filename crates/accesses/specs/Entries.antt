@@ -9,7 +9,7 @@ use Rattle.numbers.specs.Choice.{pick, both}
 use Rattle.outcomes.specs.declared.Outcome.{Outcome}
 use Rattle.outcomes.specs.declared.Outcome.the-variants.{Skipped, Filled, Discarded, Placed}
 use Rattle.addressing.specs.declared.Located.{Located}
-use Rattle.addressing.specs.Capacities.{matrixPlaces}
+use Rattle.sheet.specs.Sizes.{matrixPlaces}
 use Rattle.accesses.specs.declared.Tally.{Tally}
 use Rattle.accesses.specs.Refusals.{firstRefused, placedCount}
 

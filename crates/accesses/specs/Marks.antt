@@ -7,7 +7,7 @@ use lib.Bits.{bitOr}
 use lib.Dec.{eqb}
 use lib.ListN.{length, getD, set, replicate}
 use Rattle.numbers.specs.Choice.{pick}
-use Rattle.addressing.specs.Capacities.{matrixPlaces}
+use Rattle.sheet.specs.Sizes.{matrixPlaces}
 use Rattle.accesses.specs.Entries.{hasByte}
 
 -- the words

@@ -1,7 +1,7 @@
 // Refusal 15: a store where a later element has an earlier one's byte.
 ghost use mathlib.Core.Path.{_≡_};
 ghost use Prim.Native.Nat.{_≤_};
-ghost use Rattle.addressing.specs.Capacities.{matrixPlaces};
+ghost use Rattle.sheet.specs.Sizes.{matrixPlaces};
 ghost use Rattle.accesses.specs.Refusals.{clashFrom, apart};
 ghost use Rattle.accesses.specs.Entries.{hasByte, hits, sameEntry};
 ghost use Rattle.accesses.specs.Marks.{noMarks, fresh, withMark, withoutMarks, ClearFrom};

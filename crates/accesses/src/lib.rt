@@ -7,7 +7,7 @@ ghost use Rattle.refusals.specs.Refusals.{stopAt};
 ghost use Rattle.sheet.specs.Layouts.{theDimension, layoutOk};
 ghost use Rattle.addressing.specs.Rules.{elementsOf};
 ghost use Rattle.addressing.specs.Valid.{SizedAccess, Planned};
-ghost use Rattle.addressing.specs.Capacities.{rankPlaces, matrixPlaces};
+ghost use Rattle.sheet.specs.Sizes.{rankPlaces, matrixPlaces};
 ghost use Rattle.accesses.specs.Refusals.{elementOutcome, ranksDiffer, blocksOne, storeBlocked, elementsRefusal, placedOne, checkedBy, checked, checkedAccess};
 ghost use Rattle.accesses.specs.Entries.{Near, entryOf, entryOutcome, Surveyed};
 ghost use Rattle.accesses.specs.Marks.{Scratch};

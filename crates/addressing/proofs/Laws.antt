@@ -27,7 +27,7 @@ use Rattle.sheet.specs.Layouts.{theDimension}
 use Rattle.addressing.specs.declared.Access.{Access}
 use Rattle.addressing.specs.declared.Clamped.{Clamped}
 use Rattle.addressing.specs.declared.Clamped.the-variants.{Refused, Discarded, Filled, At}
-use Rattle.addressing.specs.Capacities.{rankPlaces, matrixPlaces}
+use Rattle.sheet.specs.Sizes.{rankPlaces, matrixPlaces}
 use Rattle.addressing.specs.Plans.{dimensionNumbers, layoutNumbers, dimensionAt, sizesOf, stridesOf, planned}
 use Rattle.addressing.specs.Rules.{outsideClip, outsideView, clipWidth, five, rowMajor, viewSizes, viewStrides, coordinates, twos, remainder, folded, mirrored, onLoad, onStore, outside, clamped, scaled, part, tensorIndex, spanOf, spanCoordinates, refused, settled, reached}
 

@@ -17,7 +17,7 @@ use Rattle.sheet.specs.declared.ClampMode.{ClampMode}
 use Rattle.sheet.specs.declared.ClampMode.the-variants.{Undefined, Constant, ClampToEdge, Repeat, MirrorRepeat}
 use Rattle.sheet.specs.declared.Dimension.{Dimension}
 use Rattle.sheet.specs.declared.Layout.{Layout}
-use Rattle.addressing.specs.Capacities.{rankPlaces}
+use Rattle.sheet.specs.Sizes.{rankPlaces}
 use Rattle.addressing.specs.declared.Clamped.{Clamped}
 use Rattle.addressing.specs.declared.Clamped.the-variants.{Refused, Discarded, Filled, At}
 use Rattle.addressing.specs.Rules.{spanOf, coordinates, weighted, spanCoordinates, twos, onLoad, onStore, outside, clamped, scaled, part, plus, tensorIndex}

@@ -1,4 +1,3 @@
-pub mod Capacities
 pub mod Rules
 pub mod Plans
 pub mod Valid

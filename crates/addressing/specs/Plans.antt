@@ -13,7 +13,7 @@ use Rattle.addressing.specs.declared.Access.{Access}
 use Rattle.addressing.specs.declared.Plan.{Plan}
 use Rattle.addressing.specs.declared.Coordinate.{Coordinate}
 use Rattle.addressing.specs.declared.Coordinate.the-variants.{Below, At}
-use Rattle.addressing.specs.Capacities.{rankPlaces}
+use Rattle.sheet.specs.Sizes.{rankPlaces}
 use Rattle.addressing.specs.Rules.{elementsOf, clipWidth, lowBits, viewSizes, viewStrides}
 
 -- the integer that a coordinate of the code stands for

@@ -9,7 +9,7 @@ use Rattle.addressing.specs.declared.Access.{Access}
 use Rattle.addressing.specs.declared.Plan.{Plan}
 use Rattle.addressing.specs.declared.Clamped.{Clamped}
 use Rattle.addressing.specs.declared.Clamped.the-variants.{Refused, Discarded, Filled, At}
-use Rattle.addressing.specs.Capacities.{matrixPlaces}
+use Rattle.sheet.specs.Sizes.{matrixPlaces}
 use Rattle.addressing.specs.Rules.{elementsOf}
 use Rattle.addressing.specs.Plans.{planned}
 

@@ -2,7 +2,7 @@
 ghost use mathlib.Core.Path.{_≡_};
 ghost use Prim.Native.Nat.{_≤_, _<_};
 ghost use mathlib.Core.Bool.{false};
-ghost use Rattle.addressing.specs.Capacities.{matrixPlaces};
+ghost use Rattle.sheet.specs.Sizes.{matrixPlaces};
 ghost use Rattle.addressing.specs.Rules.{outsideClip, outsideView, clipIndex};
 use super::wide;
 use sheet::Clip;

@@ -1,7 +1,7 @@
 // Where one element of a load or a store goes (document 01, "Where an element goes").
 ghost use mathlib.Core.Path.{_≡_};
 ghost use Prim.Native.Nat.{_*_, _/_, _^_, _%_, _≤_, _<_, min};
-ghost use Rattle.addressing.specs.Capacities.{rankPlaces};
+ghost use Rattle.sheet.specs.Sizes.{rankPlaces};
 ghost use Rattle.addressing.specs.Plans.{layoutNumbers, planned};
 ghost use Rattle.addressing.specs.Rules.{elementsOf, lowBits, addressed, reached, indexed, located, refused, answered};
 ghost use Rattle.addressing.specs.Valid.{ValidAccess, Planned};

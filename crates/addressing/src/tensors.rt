@@ -4,7 +4,7 @@ ghost use mathlib.Core.Bool.{true};
 ghost use Prim.Native.Nat.{_*_, _/_, _^_, _<_};
 ghost use Rattle.sheet.specs.Layouts.{layoutOk};
 ghost use Rattle.sheet.specs.Laws.Facts.{InSize};
-ghost use Rattle.addressing.specs.Capacities.{rankPlaces};
+ghost use Rattle.sheet.specs.Sizes.{rankPlaces};
 ghost use Rattle.addressing.specs.Plans.{dimensionNumbers, dimensionPut, layoutNumbers, dimensionAt};
 ghost use Rattle.addressing.specs.Rules.{spanCoordinates, part, tensorIndex};
 ghost use Rattle.addressing.specs.Valid.{AtMost};

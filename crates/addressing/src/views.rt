@@ -6,7 +6,7 @@ ghost use lib.ListN.{getD};
 ghost use Rattle.sheet.specs.Layouts.{layoutOk};
 ghost use Rattle.sheet.specs.Views.{theViewDimension, viewOk};
 ghost use Rattle.sheet.specs.Laws.Facts.{InSize};
-ghost use Rattle.addressing.specs.Capacities.{rankPlaces};
+ghost use Rattle.sheet.specs.Sizes.{rankPlaces};
 ghost use Rattle.addressing.specs.Plans.{sizesOf, stridesOf};
 ghost use Rattle.addressing.specs.Rules.{five, spanOf, rowMajor, viewSizes, viewStrides, viewIndex};
 use super::divide;

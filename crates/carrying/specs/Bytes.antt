@@ -12,7 +12,7 @@ use Rattle.registers.specs.Types.{theType}
 use Rattle.addressing.specs.Rules.{elementsOf}
 use Rattle.addressing.specs.declared.Access.{Access}
 use Rattle.transfers.specs.Transfers.{outcomeOf}
-use Rattle.transfers.specs.Effects.{Has}
+use Rattle.transfers.specs.Acts.{Has}
 use Rattle.checking.specs.Steps.{accessOf, objectRegister}
 use Rattle.carrying.specs.Steps.{Machine}
 use Rattle.carrying.specs.Carrying.{performedFrom}

@@ -237,11 +237,7 @@ fn decoded_ok(
     }
 }
 
-fn decoded_types(
-    types: [MatrixType; REGISTERS],
-    named: Step,
-    d: Decoded,
-) -> [MatrixType; REGISTERS]
+fn decoded_types(types: [MatrixType; REGISTERS], named: Step, d: Decoded) -> [MatrixType; REGISTERS]
     requires { ⌜ Sound d × ((edition steps len : ℕ) × Placed edition named × (decodedOkWith edition steps types len named d ≡ true)) ⌝ }
     ensures { λ r. ⌜ r ≡ decodedTypesWith types named d ⌝ }
 {

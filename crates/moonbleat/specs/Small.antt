@@ -21,11 +21,13 @@ use Rattle.sheet_reader.specs.declared.ReadAnswer.{ReadAnswer}
 use Rattle.sheet_writer.specs.Bytes.{sheetBytes}
 use Rattle.sheet_writer.specs.Writing.{written}
 use Rattle.sheet_writer.specs.declared.WriteAnswer.{WriteAnswer}
-use Rattle.round_trip.specs.Sheets.{Within, within, sheet-short}
-use Rattle.round_trip.specs.Growing.{reading}
+use Rattle.round_trip.specs.Sheets.{Within, within}
+use Rattle.round_trip.specs.Laws.Sheets.{sheet-short}
+use Rattle.round_trip.specs.Laws.Growing.{reading}
 use Rattle.round_trip.specs.Theorems.{not-refused, read-within}
 use Rattle.registers.specs.Types.{theType, isEmpty}
-use Rattle.registers.specs.Sized.{SizedType, Sized, sized-empty, sized-places}
+use Rattle.registers.specs.Sized.{SizedType, Sized}
+use Rattle.registers.specs.Laws.Sized.{sized-empty, sized-places}
 use Rattle.registers.specs.Registers.{emptyRegisters}
 use Rattle.registers.specs.declared.MatrixType.{MatrixType}
 use Rattle.addressing.specs.declared.Access.{Access}
@@ -33,7 +35,7 @@ use Rattle.addressing.specs.declared.Located.{Located}
 use Rattle.accesses.specs.Refusals as accesses
 use Rattle.accesses.specs.Refusals.{elementOutcome, misplaced, ranksDiffer, storeBlocked, firstRefused, sameAt, clashFrom, clashRefusal, elementsRefusal, accessRefusal}
 use Rattle.refusals.specs.declared.Stop.{Stop}
-use Rattle.whole_steps.specs.Within.{refusal-element}
+use Rattle.whole_steps.specs.Laws.Within.{refusal-element}
 use Rattle.checking.specs.Steps.{accessOf, objectOf, loadCheck, storeCheck, checkedStep}
 use Rattle.carrying.specs.Steps.{Machine}
 use Rattle.checking.specs.Checking.{memoryLimit, checkedFrom, checked, checkedSheet}

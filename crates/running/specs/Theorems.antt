@@ -9,7 +9,7 @@ use Rattle.numbers.specs.Choice.{pick-case}
 use Rattle.kinds.specs.Widths.{bytesOf}
 use Rattle.sheet.specs.declared.Sheet.{Sheet}
 use Rattle.refusals.specs.declared.Refusal.{Refusal}
-use Rattle.memory.specs.Laws.{with-outside}
+use Rattle.memory.specs.Laws.Elements.{with-outside}
 use Rattle.registers.specs.Types.{theType}
 use Rattle.registers.specs.Registers.{emptyRegisters, elementOf}
 use Rattle.registers.specs.declared.MatrixType.{MatrixType}

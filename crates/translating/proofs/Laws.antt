@@ -17,14 +17,16 @@ use Rattle.outcomes.specs.declared.Outcome.the-variants.{Skipped, Filled, Disca
 use Rattle.addressing.specs.declared.Access.{Access}
 use Rattle.addressing.specs.Valid.{SizedAccess}
 use Rattle.addressing.specs.Rules.{lowBits}
-use Rattle.addressing.specs.Sound.{Sound, low-bits-fit}
-use Rattle.accesses.specs.Accepted.{element-sound}
-use Rattle.transfers.specs.Laws.{access-size}
+use Rattle.addressing.specs.Sound.{Sound}
+use Rattle.addressing.specs.Laws.Sound.{low-bits-fit}
+use Rattle.accesses.specs.Laws.Accepted.{element-sound}
+use Rattle.transfers.specs.Laws.Elements.{access-size}
 use Rattle.transfers.specs.Transfers.{outcomeOf}
 use Rattle.runs.specs.Ranges.{Near}
 use native.Mathlib.Nat.{mul-le-mul, sub-zero}
 use Rattle.registers.specs.Registers.{emptyRegisters}
-use Rattle.registers.specs.Sized.{SizedType, Sized, sized-empty}
+use Rattle.registers.specs.Sized.{SizedType, Sized}
+use Rattle.registers.specs.Laws.Sized.{sized-empty}
 use Rattle.runs.specs.Runs.{held, runs}
 use Rattle.runs.specs.Writing.{count-all, count-few, count-records, emit-one}
 use Rattle.sheet.specs.Steps.{theStep, stepOk}

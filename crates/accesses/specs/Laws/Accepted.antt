@@ -17,8 +17,8 @@ use Rattle.addressing.specs.Rules.{elementsOf}
 use Rattle.addressing.specs.Valid.{SizedAccess, ValidAccess}
 use Rattle.addressing.specs.Sound.{Sound}
 use Rattle.addressing.specs.Laws.Sound.{located-sound, low-bits-fit}
-use Rattle.stops.specs.Stops.{stopAt}
-use Rattle.stops.specs.declared.Stop.{Stop}
+use Rattle.refusals.specs.Refusals.{stopAt}
+use Rattle.refusals.specs.declared.Stop.{Stop}
 use Rattle.accesses.specs.Refusals.{elementOutcome, misplaced, ranksDiffer, storeBlocked, firstRefused, sameAt, meets, clashFrom, clashRefusal, elementsRefusal, accessRefusal, placedOne, placedCount}
 
 pub element-sound : (a : Access) (k : ℕ) → Sound a (elementOutcome a k .outcome)

@@ -4,7 +4,7 @@ use native.Mathlib.Omega.{arith}
 use borrow.Author.Tests.{le-leb, lt-leb}
 use borrow.Author.Needs.{needs}
 use Rattle.numbers.specs.Choice.{taken, left}
-use Rattle.addressing.specs.Capacities.{rankPlaces}
+use Rattle.sheet.specs.Sizes.{rankPlaces}
 use Rattle.addressing.specs.Rules.{addressed}
 use Rattle.addressing.proofs.address.Statement.{statement}
 use Rattle.addressing.proofs.address.Tie as tie

@@ -1,6 +1,6 @@
 use Rattle.addressing.proofs.Laws.{reached-far, reached-is}
 use Rattle.addressing.specs.declared.Clamped.the-variants.{Refused, Discarded, Filled, At}
-use Rattle.addressing.specs.Capacities.{rankPlaces}
+use Rattle.sheet.specs.Sizes.{rankPlaces}
 use mathlib.Core.Path.{_∙_}
 use Prim.Native.Nat.{_≤_, _*_, _^_}
 use borrow.Author.Needs.{needs}

@@ -20,7 +20,8 @@ use Rattle.sheet.specs.declared.Step.the-variants.{Nothing, Load, Store, Whole}
 use Rattle.sheet.specs.Laws.Within.{Within}
 use Rattle.registers.specs.Types.{theType}
 use Rattle.registers.specs.Registers.{emptyRegisters}
-use Rattle.registers.specs.Sized.{SizedType, Sized, sized-empty}
+use Rattle.registers.specs.Sized.{SizedType, Sized}
+use Rattle.registers.specs.Laws.Sized.{sized-empty}
 use Rattle.registers.specs.declared.MatrixType.{MatrixType}
 use Rattle.transfers.specs.Transfers.{outcomeOf}
 use Rattle.checking.specs.Steps.{accessOf, objectOf}

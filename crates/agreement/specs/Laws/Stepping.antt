@@ -24,8 +24,9 @@ use Rattle.registers.specs.declared.MatrixType.{MatrixType}
 use Rattle.whole_steps.specs.Refusals.{wholeRefusal}
 use Rattle.whole_steps.specs.Whole.{wholeTypes}
 use Rattle.addressing.specs.declared.Access.{Access}
-use Rattle.addressing.specs.Sound.{Sound, low-bits-fit}
-use Rattle.accesses.specs.Accepted.{element-sound}
+use Rattle.addressing.specs.Sound.{Sound}
+use Rattle.addressing.specs.Laws.Sound.{low-bits-fit}
+use Rattle.accesses.specs.Laws.Accepted.{element-sound}
 use Rattle.transfers.specs.Transfers.{outcomeOf, transferred}
 use Rattle.checking.specs.Steps.{accessOf, objectOf, checkedStep, stepTypes}
 use Rattle.checking.specs.Laws.Steps.{load-some, load-access, store-some, store-access}

@@ -12,7 +12,7 @@ use Rattle.sheet.specs.declared.Step.the-variants.{Nothing, Load, Store, Whole}
 use Rattle.registers.specs.Types.{theType, withType}
 use Rattle.addressing.specs.Rules.{elementsOf}
 use Rattle.accesses.specs.Refusals.{elementOutcome}
-use Rattle.transfers.specs.Effects.{transferred-counts, loaded-counts, stored-counts}
+use Rattle.transfers.specs.Laws.Effects.{transferred-counts, loaded-counts, stored-counts}
 use Rattle.checking.specs.Steps.{accessOf, objectRegister, checkedStep}
 use Rattle.checking.specs.Laws.Names.{load-register}
 use Rattle.checking.specs.Laws.Accesses.{access-moved, access-clear}

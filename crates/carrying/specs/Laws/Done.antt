@@ -11,11 +11,11 @@ use Rattle.registers.specs.declared.MatrixType.{MatrixType}
 use Rattle.addressing.specs.declared.Access.{Access}
 use Rattle.addressing.specs.declared.Plan.{Plan}
 use Rattle.addressing.specs.Plans.{planned}
-use Rattle.addressing.specs.Valid.{planned-access}
+use Rattle.addressing.specs.Laws.Plans.{planned-access}
 use Rattle.transfers.specs.Acts.{State}
 use Rattle.transfers.specs.Transfers.{loadedElements, storedElements}
-use Rattle.transfers.specs.Laws.{loaded-memory, stored-elements}
-use Rattle.transfers.specs.Effects.{transferred-keeps}
+use Rattle.transfers.specs.Laws.Elements.{loaded-memory, stored-elements}
+use Rattle.transfers.specs.Laws.Effects.{transferred-keeps}
 use Rattle.checking.specs.Steps.{accessOf}
 use Rattle.carrying.specs.Steps.{Machine, machine, stateOf, machineOf, loadDone, storeDone}
 

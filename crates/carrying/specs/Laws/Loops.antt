@@ -14,7 +14,8 @@ use Rattle.sheet.specs.declared.Sheet.{Sheet}
 use Rattle.sheet.specs.declared.Step.the-variants.{Load, Store}
 use Rattle.sheet.specs.Laws.Within.{Within}
 use Rattle.registers.specs.Types.{theType}
-use Rattle.registers.specs.Sized.{Sized, sized-with}
+use Rattle.registers.specs.Sized.{Sized}
+use Rattle.registers.specs.Laws.Sized.{sized-with}
 use Rattle.checking.specs.Steps.{objectRegister, accessOf, checkedStep}
 use Rattle.checking.specs.Checking.{checked}
 use Rattle.checking.specs.Laws.Turns.{within-step, one-less}

@@ -20,11 +20,11 @@ use Rattle.sheet.specs.Laws.Within.{Within}
 use Rattle.registers.specs.Types.{noType, theType, withType}
 use Rattle.registers.specs.Registers.{placeOf, elementOf, emptyRegisters}
 use Rattle.registers.specs.declared.Registers.{Registers}
-use Rattle.registers.specs.Sized.{sized-empty}
+use Rattle.registers.specs.Laws.Sized.{sized-empty}
 use Rattle.whole_steps.specs.Whole.{wholeResult}
 use Rattle.transfers.specs.Acts.{State}
-use Rattle.transfers.specs.Laws.{loaded-memory, stored-elements, stored-length}
-use Rattle.transfers.specs.Effects.{transferred-keeps, loaded-places}
+use Rattle.transfers.specs.Laws.Elements.{loaded-memory, stored-elements, stored-length}
+use Rattle.transfers.specs.Laws.Effects.{transferred-keeps, loaded-places}
 use Rattle.checking.specs.Steps.{objectRegister, stepTypes}
 use Rattle.checking.specs.Checking.{checkedFrom, checked}
 use Rattle.checking.specs.declared.CheckAnswer.{CheckAnswer}

@@ -15,9 +15,9 @@ use Rattle.sheet.specs.declared.Step.the-variants.{Nothing, Load, Store, Whole}
 use Rattle.registers.specs.Types.{theType}
 use Rattle.addressing.specs.declared.Access.{Access}
 use Rattle.accesses.specs.Refusals.{accessRefusal}
-use Rattle.accesses.specs.Accepted.{placed-inside, placed-apart}
+use Rattle.accesses.specs.Laws.Accepted.{placed-inside, placed-apart}
 use Rattle.transfers.specs.Transfers.{outcomeOf}
-use Rattle.transfers.specs.Effects.{has-placed}
+use Rattle.transfers.specs.Laws.Effects.{has-placed}
 use Rattle.checking.specs.Steps.{accessOf, objectRegister, checkedStep}
 use Rattle.checking.specs.Checking.{checked}
 use Rattle.checking.specs.Laws.Accesses.{access-clear}

@@ -15,8 +15,8 @@ use Rattle.sheet.specs.declared.Step.{Step}
 use Rattle.sheet.specs.declared.Step.the-variants.{Nothing, Load, Store, Whole}
 use Rattle.sheet_reader.specs.Reading.{readSheet}
 use Rattle.transfers.specs.Acts.{State}
-use Rattle.transfers.specs.Laws.{loaded-memory}
-use Rattle.transfers.specs.Effects.{transferred-keeps, stores-outside}
+use Rattle.transfers.specs.Laws.Elements.{loaded-memory}
+use Rattle.transfers.specs.Laws.Effects.{transferred-keeps, stores-outside}
 use Rattle.checking.specs.Checking.{checkedSheet}
 use Rattle.carrying.specs.Steps.{Machine, stateOf, loadDone, storeDone, objectDone, performedStep}
 use Rattle.carrying.specs.Carrying.{performedFrom, performed, started, carriedMemory}

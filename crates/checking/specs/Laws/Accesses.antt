@@ -21,7 +21,8 @@ use Rattle.sheet.specs.declared.Viewing.the-variants.{Plain, Through}
 use Rattle.sheet.specs.declared.Window.{Window}
 use Rattle.sheet.specs.declared.Tensors.{Tensors}
 use Rattle.registers.specs.Types.{isEmpty}
-use Rattle.registers.specs.Sized.{SizedType, sized-places}
+use Rattle.registers.specs.Sized.{SizedType}
+use Rattle.registers.specs.Laws.Sized.{sized-places}
 use Rattle.registers.specs.declared.MatrixType.{MatrixType}
 use Rattle.addressing.specs.Valid.{SizedAccess}
 use Rattle.addressing.specs.declared.Access.{Access}

@@ -15,16 +15,17 @@ use Rattle.sheet.specs.declared.Step.{Step}
 use Rattle.sheet.specs.declared.Step.the-variants.{Nothing, Load, Store, Whole}
 use Rattle.registers.specs.Types.{theType, isEmpty, withType}
 use Rattle.sheet.specs.Sizes.{matrixPlaces}
-use Rattle.registers.specs.Sized.{Sized, sized-with, SizedType, sized-places}
+use Rattle.registers.specs.Sized.{Sized, SizedType}
+use Rattle.registers.specs.Laws.Sized.{sized-with, sized-places}
 use Rattle.registers.specs.declared.MatrixType.{MatrixType}
 use Rattle.whole_steps.specs.Whole.{wholeResult}
-use Rattle.whole_steps.specs.Within.{whole-ok, sized-whole}
+use Rattle.whole_steps.specs.Laws.Within.{whole-ok, sized-whole}
 use Rattle.addressing.specs.Rules.{elementsOf}
 use Rattle.addressing.specs.declared.Access.{Access}
 use Rattle.addressing.specs.declared.Located.{Located}
 use Rattle.accesses.specs.Refusals.{checkedAccess, elementOutcome, placedCount}
 use Rattle.accesses.specs.Refusals as accesses
-use Rattle.accesses.specs.Accepted.{placed-most}
+use Rattle.accesses.specs.Laws.Accepted.{placed-most}
 use Rattle.checking.specs.Steps.{accessOf, objectRegister, accessCheck, checkedStep, stepTypes}
 use Rattle.checking.specs.Clear.{Clear}
 use Rattle.checking.specs.Laws.Accesses.{access-moved, access-clear}

@@ -2,7 +2,8 @@ use denote.Ref.{now}
 use Prim.Native.Nat.{_-_, _≤_}
 use mathlib.Core.Path.{_≡_, _∙_}
 use Rattle.numbers.specs.Choice.{went-not, went-past}
-use Rattle.registers.specs.Sized.{Sized, sized-empty}
+use Rattle.registers.specs.Sized.{Sized}
+use Rattle.registers.specs.Laws.Sized.{sized-empty}
 use Rattle.checking.specs.Laws.Turns.{empty-types}
 use Rattle.judging.specs.Judging.{tapeRecord, rangeFrom, rangeRefusal}
 use Rattle.judging.specs.Laws.Turns.{range-start, range-go, range-stop, range-end}

@@ -1,4 +1,4 @@
-use Rattle.whole_steps.specs.Within.{whole-ok}
+use Rattle.whole_steps.specs.Laws.Within.{whole-ok}
 use borrow.Author.Needs.{needs}
 use Rattle.judging.proofs.whole_clear.Statement.{statement}
 use Rattle.judging.proofs.whole_clear.Tie as tie

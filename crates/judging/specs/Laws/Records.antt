@@ -14,9 +14,11 @@ use Rattle.sheet.specs.declared.WholeStep.{WholeStep}
 use Rattle.sheet.specs.Laws.Within.{Within}
 use Rattle.registers.specs.declared.MatrixType.{MatrixType}
 use Rattle.registers.specs.Types.{theType}
-use Rattle.registers.specs.Sized.{Sized, sized-with}
+use Rattle.registers.specs.Sized.{Sized}
+use Rattle.registers.specs.Laws.Sized.{sized-with}
 use Rattle.whole_steps.specs.Refusals.{wholeRefusal}
-use Rattle.whole_steps.specs.Within.{WholeOk, whole-ok, sized-whole}
+use Rattle.whole_steps.specs.Within.{WholeOk}
+use Rattle.whole_steps.specs.Laws.Within.{whole-ok, sized-whole}
 use Rattle.checking.specs.Laws.Turns.{within-step}
 use Rattle.records.specs.declared.Record.{Record}
 use Rattle.records.specs.declared.Record.the-variants.{Copy, Take, Put, Fill, Whole}

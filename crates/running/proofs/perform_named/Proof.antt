@@ -2,7 +2,7 @@ use mathlib.Core.Path.{sym}
 use mathlib.Core.Bool.{true≢false}
 use denote.Ref.{now}
 use borrow.Author.Tests.{eqb-true}
-use Rattle.whole_steps.specs.Within.{whole-ok}
+use Rattle.whole_steps.specs.Laws.Within.{whole-ok}
 use Rattle.carrying.specs.Steps.{machine, registersOf, performedStep}
 use borrow.Author.Needs.{needs}
 use Rattle.running.proofs.perform_named.Statement.{statement}

@@ -9,7 +9,7 @@ use Rattle.kinds.specs.Widths.{bytesOf}
 use Rattle.sheet.specs.Steps.{theStep}
 use Rattle.sheet.specs.declared.Sheet.{Sheet}
 use Rattle.sheet.specs.Laws.Within.{Within}
-use Rattle.memory.specs.Laws.{length-with}
+use Rattle.memory.specs.Laws.Elements.{length-with}
 use Rattle.registers.specs.Types.{theType}
 use Rattle.sheet.specs.Sizes.{matrixPlaces}
 use Rattle.registers.specs.Registers.{placeOf, elementOf}

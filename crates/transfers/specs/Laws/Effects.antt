@@ -8,7 +8,7 @@ use Rattle.outcomes.specs.declared.Outcome.{Outcome}
 use Rattle.outcomes.specs.declared.Outcome.the-variants.{Skipped, Filled, Discarded, Placed}
 use Rattle.registers.specs.Registers.{placeOf, elementOf}
 use Rattle.memory.specs.Elements.{elementAt}
-use Rattle.memory.specs.Laws.{with-outside}
+use Rattle.memory.specs.Laws.Elements.{with-outside}
 use Rattle.addressing.specs.declared.Located.{Located}
 use Rattle.accesses.specs.Refusals.{placedOne, placedCount}
 use Rattle.transfers.specs.Acts.{State, loaded, stored, Has}

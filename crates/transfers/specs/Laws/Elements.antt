@@ -14,7 +14,7 @@ use Rattle.outcomes.specs.declared.Outcome.the-variants.{Skipped, Filled, Disca
 use Rattle.addressing.specs.declared.Access.{Access}
 use Rattle.addressing.specs.Valid.{SizedAccess}
 use Rattle.addressing.specs.Sound.{Sound}
-use Rattle.memory.specs.Laws.{length-with}
+use Rattle.memory.specs.Laws.Elements.{length-with}
 use Rattle.transfers.specs.Acts.{State, state, loaded, stored, Inside}
 use Rattle.transfers.specs.Transfers.{transferred}
 

@@ -2,7 +2,7 @@ use mathlib.Core.Path.{_≡_, sym, ap, _∙_}
 use Prim.Native.Nat.{_-_, _≤_}
 use lib.ListN.{length}
 use Rattle.transfers.specs.Transfers.{outcomeOf}
-use Rattle.accesses.specs.Surveys.{surveyed-outcome}
+use Rattle.accesses.specs.Laws.Surveys.{surveyed-outcome}
 use Rattle.runs.specs.declared.Run.{Run}
 use Rattle.runs.specs.Runs.{held as theHeld, ended, emit}
 use Rattle.runs.specs.Ranges.{held-small}

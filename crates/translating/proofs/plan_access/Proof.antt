@@ -1,7 +1,7 @@
 use mathlib.Core.Path.{ap, _∙_}
 use Rattle.addressing.specs.declared.Access.{Access}
-use Rattle.addressing.specs.Rules.{planned}
-use Rattle.accesses.specs.Accepted.{accepted-valid}
+use Rattle.addressing.specs.Plans.{planned}
+use Rattle.accesses.specs.Laws.Accepted.{accepted-valid}
 use borrow.Author.Needs.{needs}
 use Rattle.translating.proofs.plan_access.Statement.{statement}
 use Rattle.translating.proofs.plan_access.Tie as tie

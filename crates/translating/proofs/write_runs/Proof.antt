@@ -2,7 +2,7 @@ use mathlib.Core.Path.{_≡_, sym, _∙_}
 use Prim.Native.Nat.{_-_, _≤_}
 use denote.Ref.{now}
 use Rattle.transfers.specs.Transfers.{outcomeOf}
-use Rattle.accesses.specs.Surveys.{surveyed-outcome}
+use Rattle.accesses.specs.Laws.Surveys.{surveyed-outcome}
 use Rattle.runs.specs.Runs.{held as theHeld}
 use Rattle.runs.specs.Ranges.{held-small, ending-within, held-within}
 use Rattle.runs.specs.Writing.{Written, held-none, held-more, ending-is, count-records, written-none, written-more, written-length, written-all, written-place, room-more, room-last}

@@ -1,9 +1,8 @@
-use Rattle.addressing.proofs.Loops.{same-dimension, same-span, same-part}
+use Rattle.addressing.proofs.Loops.{same-dimension, same-span, same-part, Summing, summing-start, summing-more, summing-stop, summing-end, next-stop}
 use native.Mathlib.Nat.{mod-lt}
-use Rattle.addressing.proofs.Loops.{Summing, summing-start, summing-more, summing-stop, summing-end, next-stop}
 use Rattle.addressing.specs.declared.Clamped.the-variants.{Refused, Discarded, Filled}
 use Rattle.sheet.specs.Laws.Facts.{layout-most, layout-size, layout-block, layout-span}
-use Rattle.addressing.specs.Capacities.{rankPlaces}
+use Rattle.sheet.specs.Sizes.{rankPlaces}
 use mathlib.Core.Path.{refl, sym, _∙_}
 use Prim.Native.Nat.{_-_, _^_, _≤_, _<_}
 use borrow.Author.Needs.{needs}

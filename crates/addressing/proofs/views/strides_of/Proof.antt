@@ -3,7 +3,7 @@ use mathlib.Core.Path.{refl}
 use borrow.Author.Needs.{needs}
 use Rattle.numbers.specs.Choice.{taken, left}
 use Rattle.numbers.specs.Places.{none-all}
-use Rattle.addressing.specs.Capacities.{rankPlaces}
+use Rattle.sheet.specs.Sizes.{rankPlaces}
 use Rattle.addressing.specs.Plans.{stridesOf}
 use Rattle.addressing.proofs.views.strides_of.Statement.{statement}
 use Rattle.addressing.proofs.views.strides_of.Tie as tie

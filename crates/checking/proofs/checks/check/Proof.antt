@@ -2,7 +2,8 @@ use Prim.Native.Nat.{_-_, _*_, _≤_}
 use mathlib.Core.Path.{_≡_, ap, _∙_}
 use Rattle.sheet.specs.Sizes.{matrixPlaces}
 use Rattle.sheet.specs.Laws.Within.{within-places}
-use Rattle.registers.specs.Sized.{Sized, sized-empty}
+use Rattle.registers.specs.Sized.{Sized}
+use Rattle.registers.specs.Laws.Sized.{sized-empty}
 use Rattle.accesses.specs.Marks.{Scratch}
 use Rattle.checking.specs.Checking.{checkedFrom, checked, checkRefused}
 use Rattle.checking.specs.Laws.Steps.{check-sized, step-placed}

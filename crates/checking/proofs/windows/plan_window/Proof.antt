@@ -1,5 +1,5 @@
 use mathlib.Core.Path.{_∙_, ap}
-use Rattle.accesses.specs.Accepted.{accepted-valid}
+use Rattle.accesses.specs.Laws.Accepted.{accepted-valid}
 use Rattle.addressing.specs.Plans.{planned}
 use borrow.Author.Needs.{needs}
 use Rattle.checking.proofs.windows.plan_window.Statement.{statement}

@@ -2,7 +2,7 @@ use denote.Ref.{now}
 use lib.ListN.{length}
 use mathlib.Core.Path.{_≡_, refl, ap, _∙_}
 use Prim.Native.Nat.{ℕ, _+_, _-_, _≤_}
-use Rattle.memory.specs.Laws.{length-with}
+use Rattle.memory.specs.Laws.Elements.{length-with}
 use Rattle.transfers.specs.Acts.{state}
 use Rattle.running.specs.Records.{inOrder}
 use Rattle.running.specs.Elements.{putting}
