@@ -17,7 +17,7 @@ answerRow r count = r .number ∷ r .place ∷ r .element ∷ count ∷ []
 
 -- layouts, views, steps: zeros for the empty sheet of a refusal
 abbrev pub countsRow : Sheet → List ℕ
-countsRow sh = sh .layouts ∷ sh .views ∷ sh .steps ∷ []
+countsRow sh = sh .tensors .layouts ∷ sh .tensors .views ∷ sh .steps ∷ []
 
 -- kind, rows, columns and 0: four zeros for an empty register
 abbrev pub typeRow : MatrixType → List ℕ → List ℕ

@@ -13,6 +13,7 @@ use Rattle.numbers.specs.Choice.{pick, pick-case}
 use Rattle.sheet.specs.Sheets.{emptySheet, writable}
 use Rattle.sheet.specs.Steps.{theStep}
 use Rattle.refusals.specs.declared.Refusal.{Refusal}
+use Rattle.sheet.specs.declared.Tensors.{Tensors}
 use Rattle.sheet.specs.declared.Sheet.{Sheet}
 use Rattle.sheet.specs.declared.Step.{Step}
 use Rattle.sheet.specs.declared.Step.the-variants.{Nothing, Load, Store, Whole}
@@ -21,22 +22,25 @@ use Rattle.sheet_reader.specs.declared.ReadAnswer.{ReadAnswer}
 use Rattle.sheet_writer.specs.Bytes.{sheetBytes}
 use Rattle.sheet_writer.specs.Writing.{written}
 use Rattle.sheet_writer.specs.declared.WriteAnswer.{WriteAnswer}
-use Rattle.round_trip.specs.Sheets.{Within, within}
+use Rattle.sheet.specs.Sizes.{matrixPlaces, recordPlaces}
+use Rattle.sheet.specs.Laws.Within.{Within, within, within-places}
 use Rattle.round_trip.specs.Laws.Sheets.{sheet-short}
 use Rattle.round_trip.specs.Laws.Growing.{reading}
-use Rattle.round_trip.specs.Theorems.{not-refused, read-within}
-use Rattle.registers.specs.Types.{theType, isEmpty}
-use Rattle.registers.specs.Sized.{SizedType, Sized}
+use Rattle.round_trip.specs.Theorems.{place-small}
+use Rattle.sheet_reader.specs.Laws.Growing.{read-within}
+use Rattle.registers.specs.Types.{theType, isEmpty, withType}
+use Rattle.registers.specs.Sized.{Sized}
 use Rattle.registers.specs.Laws.Sized.{sized-empty, sized-places}
 use Rattle.registers.specs.Registers.{emptyRegisters}
 use Rattle.registers.specs.declared.MatrixType.{MatrixType}
+use Rattle.addressing.specs.Rules.{elementsOf}
 use Rattle.addressing.specs.declared.Access.{Access}
 use Rattle.addressing.specs.declared.Located.{Located}
 use Rattle.accesses.specs.Refusals as accesses
 use Rattle.accesses.specs.Refusals.{elementOutcome, misplaced, ranksDiffer, storeBlocked, firstRefused, sameAt, clashFrom, clashRefusal, elementsRefusal, accessRefusal}
 use Rattle.refusals.specs.declared.Stop.{Stop}
 use Rattle.whole_steps.specs.Laws.Within.{refusal-element}
-use Rattle.checking.specs.Steps.{accessOf, objectOf, loadCheck, storeCheck, checkedStep}
+use Rattle.checking.specs.Steps.{accessOf, objectRegister, accessCheck, checkedStep}
 use Rattle.carrying.specs.Steps.{Machine}
 use Rattle.checking.specs.Checking.{memoryLimit, checkedFrom, checked, checkedSheet}
 use Rattle.carrying.specs.Carrying.{performed, started, carried}
@@ -65,7 +69,7 @@ by-reading : {A : Type 0} (P : A → Type 0) (s : List ℕ) (len : ℕ) {x y z :
 by-reading P s len {x} {y} {z} f g h =
     pick-case P (leb len memoryLimit) _ z
     (λ l. pick-case P (eqb (readSheet s .refusal .number) 0) x y
-    (λ e. f (read-within s _ (not-refused s (eqb-true _ 0 e))))
+    (λ e. f (read-within s (eqb-true _ 0 e)))
     (λ e. let d = eqb-false (readSheet s .refusal .number) 0 e in g (omega arith)))
     (λ l. h)
 
@@ -79,13 +83,13 @@ read-small s =
 
 -- the counts of a sheet
 abbrev pub SmallSheet : Sheet → Type 0
-SmallSheet sh = (sh .layouts < 2 ^ 32) × (sh .views < 2 ^ 32) × (sh .steps < 2 ^ 32)
+SmallSheet sh = (sh .tensors .layouts < 2 ^ 32) × (sh .tensors .views < 2 ^ 32) × (sh .steps < 2 ^ 32)
 
 pub counts-small : (s : List ℕ) → SmallSheet (readSheet s .sheet)
 unfolding refusedRead acceptedRead emptySheet
 counts-small s =
     reading s (λ (r : ReadAnswer). SmallSheet (r .sheet)) (λ n at h m l. (omega arith, omega arith, omega arith))
-    (λ sh g. let w = g .within in (omega (arith, w .layouts), omega (arith, w .views), omega (arith, w .steps)))
+    (λ sh g. let w = g .within in (omega (arith, w .tensors .layouts), omega (arith, w .tensors .views), omega (arith, within-places w)))
 
 pub written-small : (sh : Sheet) (room : ℕ) → Small (written sh room .refusal) (written sh room .bytes)
 unfolding written
@@ -111,11 +115,11 @@ clash-among : (m i : ℕ) → clashRefusal m i .element ≤ m
 unfolding clashRefusal
 clash-among m i = pick-case (λ (t : Stop). t .element ≤ m) (ltb i m) _ _ (λ e. omega (arith, ltb-true i m e)) (λ e. omega arith)
 
-access-among : (a : Access) (rows n : ℕ) → accessRefusal a rows n .element ≤ rows * n
+access-among : (a : Access) → accessRefusal a .element ≤ elementsOf a
 unfolding accessRefusal elementsRefusal
-access-among a rows n =
-    let f = elementOutcome a n in
-    let m = rows * n in
+access-among a =
+    let f = elementOutcome a in
+    let m = elementsOf a in
     pick-case P (misplaced a) _ _ (λ e. omega arith)
     (λ e. pick-case P (ranksDiffer a) _ _ (λ e. omega arith)
     (λ e. pick-case P (storeBlocked a) _ _ (λ e. omega arith)
@@ -124,41 +128,41 @@ access-among a rows n =
     (λ e. omega (arith, first-among f 0 m)))))
   where
     P : Stop → Type 0
-    P t = t .element ≤ rows * n
+    P t = t .element ≤ elementsOf a
 
--- of at most 256
-sized-among : (a : Access) (t : MatrixType) → SizedType t → accessRefusal a (t .rows) (t .columns) .element ≤ 256
-sized-among a t s = omega (arith, access-among a (t .rows) (t .columns), sized-places t s)
+-- of at most a register's
+moved-among : (before after : List MatrixType) (t : MatrixType) (a : Access) → elementsOf a ≤ matrixPlaces → accessCheck before after t a .stop .element ≤ matrixPlaces
+unfolding accessCheck accesses.checked
+moved-among before after t a s =
+    pick-case (λ (c : StepCheck). c .stop .element ≤ matrixPlaces) (isEmpty t) _ _ (λ e. omega arith) (λ e. omega (arith, s, access-among a))
 
-step-element : (sh : Sheet) (ts : List MatrixType) (len : ℕ) (step : Step) → Sized ts → checkedStep sh ts len step .stop .element ≤ 256
-unfolding checkedStep loadCheck storeCheck accesses.checked
-step-element sh ts len Nothing s = omega arith
-step-element sh ts len (Load register object layout view base) s =
-    let t = theType ts (objectOf register object) in
-    pick-case (λ (c : StepCheck). c .stop .element ≤ 256) (isEmpty t) _ _ (λ e. omega arith)
-    (λ e. sized-among (accessOf sh true layout view base t len) t (s .each (objectOf register object)))
-step-element sh ts len (Store register layout view base) s =
+step-element : (edition : ℕ) (tensors : Tensors) (ts : List MatrixType) (len : ℕ) (step : Step) → Sized ts → checkedStep edition tensors ts len step .stop .element ≤ matrixPlaces
+unfolding checkedStep
+step-element edition tensors ts len Nothing s = omega arith
+step-element edition tensors ts len (Load register object window) s =
+    let t = theType ts (objectRegister register object) in
+    moved-among ts (withType ts register t) t (accessOf tensors true window t len) (sized-places t (s .each (objectRegister register object)))
+step-element edition tensors ts len (Store register window) s =
     let t = theType ts register in
-    pick-case (λ (c : StepCheck). c .stop .element ≤ 256) (isEmpty t) _ _ (λ e. omega arith)
-    (λ e. sized-among (accessOf sh false layout view base t len) t (s .each register))
-step-element sh ts len (Whole whole) s = refusal-element (sh .edition) ts len whole
+    moved-among ts ts t (accessOf tensors false window t len) (sized-places t (s .each register))
+step-element edition tensors ts len (Whole whole) s = refusal-element edition ts len whole
 
 abbrev SmallCheck : CheckAnswer → Type 0
 SmallCheck c = Small (c .refusal) (c .count)
 
--- steps of at most 256 elements each
+-- steps of at most a register's elements each
 module _ (sh : Sheet) (w : Within sh) (len : ℕ) where
-  from-small : (n k : ℕ) (ts : List MatrixType) (count : ℕ) → k + n ≤ sh .steps → count ≤ k * 256 → Sized ts → SmallCheck (checkedFrom n sh len k ts count)
+  from-small : (n k : ℕ) (ts : List MatrixType) (count : ℕ) → k + n ≤ sh .steps → count ≤ k * matrixPlaces → Sized ts → SmallCheck (checkedFrom n sh len k ts count)
   unfolding checkedFrom
-  from-small zero k ts count l few s = (omega arith, omega arith, omega (arith, w .steps))
+  from-small zero k ts count l few s = (omega arith, omega arith, omega (arith, within-places w))
   from-small (suc n) k ts count l few s =
       let step = theStep (sh .step) k in
-      let c = checkedStep sh ts len step in
+      let c = checkedStep (sh .edition) (sh .tensors) ts len step in
       let ok = within-step sh w k (omega arith) in
       pick-case SmallCheck (eqb (c .stop .number) 0) _ _
-      (λ e. from-small n (k + 1) (c .types) (count + c .placed) (omega arith) (omega (arith, step-placed sh ts len step s))
-      (check-sized sh ts len step (sh .edition) (sh .layouts) (sh .views) ok s))
-      (λ e. (omega (arith, w .steps), omega (arith, step-element sh ts len step s), omega arith))
+      (λ e. from-small n (k + 1) (c .types) (count + c .placed) (omega arith) (omega (arith, step-placed (sh .edition) (sh .tensors) ts len step s))
+      (check-sized (sh .edition) (sh .tensors) ts len step (sh .edition) (sh .tensors .layouts) (sh .tensors .views) ok s))
+      (λ e. (omega (arith, within-places w), omega (arith, step-element (sh .edition) (sh .tensors) ts len step s), omega arith))
 
   checked-small : SmallCheck (checked sh len)
   unfolding checked
@@ -196,16 +200,16 @@ translated-small s len room =
     (λ f. (omega arith, (omega arith, omega arith, omega arith))))
     (λ e. (omega arith, (c .0, c .1, omega arith)))
 
-range-small : (n : ℕ) (sh : Sheet) (len : ℕ) (the : ℕ → Decoded) (k : ℕ) (ts : List MatrixType) → k + n ≤ 1024 → Small (rangeFrom n sh len the k ts) 0
+range-small : (n : ℕ) (sh : Sheet) (len : ℕ) (the : ℕ → Decoded) (k : ℕ) (ts : List MatrixType) → k + n ≤ recordPlaces → Small (rangeFrom n sh len the k ts) 0
 unfolding rangeFrom
 range-small zero sh len the k ts l = (omega arith, omega arith, omega arith)
 range-small (suc n) sh len the k ts l =
     pick-case (λ (r : Refusal). Small r 0) (decodedOk sh ts len (the k)) _ _ (λ e. range-small n sh len the (k + 1) (decodedTypes sh ts (the k)) (omega arith))
     (λ e. (omega arith, omega arith, omega arith))
 
--- records of at most 256 elements each
+-- records of at most a register's elements each
 ran-few : (n : ℕ) (sh : Sheet) → Within sh → (len : ℕ) (the : ℕ → Decoded) (goal : Machine) (left k : ℕ) (m : Machine) → k + left ≡ n → Ready (n - k) sh len the k m goal
-    → goal .count ≤ n * 256
+    → goal .count ≤ n * matrixPlaces
 ran-few n sh w len the goal zero k m e r =
     let q = ap (λ (x : Machine). x .count) (turns-end n sh len the k m goal r (omega arith)) in omega (arith, q, r .few)
 ran-few n sh w len the goal (suc left) k m e r =

@@ -8,12 +8,13 @@ use lib.Seq.{sets}
 use Rattle.numbers.specs.Choice.{pick}
 use Rattle.sheet_reader.specs.Reading.{readSheet}
 use Rattle.sheet_writer.specs.Writing.{writeAnswer, written, writtenRoom}
-use Rattle.round_trip.specs.Stretches.{Bytes}
-use Rattle.round_trip.specs.Theorems.{WritesBack, read-writes-back, not-refused}
+use Rattle.sheet_reader.specs.Laws.Growing.{not-refused}
+use Rattle.round_trip.specs.Typed.{AreBytes}
+use Rattle.round_trip.specs.Theorems.{WritesBack, read-writes-back}
 use Rattle.moonbleat.specs.Rows.{rewritten, rewrittenRoom}
 
 -- A sheet that is read and for which there is room is rewritten byte for byte, and its byte count is its length.
-module _ (s : List ℕ) (b : Bytes s) (e : readSheet s .refusal .number ≡ 0) where
+module _ (s : List ℕ) (b : AreBytes s) (e : readSheet s .refusal .number ≡ 0) where
   back : WritesBack s (readSheet s .sheet)
   back = read-writes-back s (readSheet s .sheet) b (not-refused s e)
 

@@ -11,6 +11,7 @@ ghost use Rattle.running.specs.Running.{runTape, ranMemory};
 ghost use Rattle.moonbleat.specs.Rows.{answerRow, countsRow, typesRow, rewritten, rewrittenRoom};
 use refusals::Refusal;
 use registers::Registers;
+use sheet::sizes::ELEMENTS;
 
 // Numbers of an answer: number, place, second place, byte-elements.
 const ANSWER: usize = 4;
@@ -20,9 +21,6 @@ const COUNTS: usize = 3;
 
 // Bytes of the four registers' types: kind, rows, columns and 0 each.
 const TYPES: usize = 16;
-
-// Elements of the four registers.
-const ELEMENTS: usize = 1024;
 
 // A refusal and a count as the row of an answer. The result is the refusal's number.
 fn put_answer(answer: &mut [u32; ANSWER], refusal: Refusal, count: usize) -> u32
@@ -84,7 +82,12 @@ pub extern "C" fn moonbleat_read(
 {
     let read = sheet_reader::read_sheet(sheet);
     let model = read.sheet;
-    *counts = [model.layouts as u32, model.views as u32, model.steps as u32];
+    let tensors = model.tensors;
+    *counts = [
+        tensors.layouts as u32,
+        tensors.views as u32,
+        model.steps as u32,
+    ];
     put_answer(answer, read.refusal, 0)
 }
 

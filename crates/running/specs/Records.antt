@@ -31,4 +31,4 @@ ranRecord sh (Put register first count byte up down) m =
     onElements register (λ (size i : ℕ) (s : State). put size register (first + i) (byteAt byte up down i) s) count m
 ranRecord sh (Fill register first count value) m =
     onElements register (λ (size i : ℕ) (s : State). gave register (first + i) value s) count m
-ranRecord sh (Whole step) m = performedStep sh (theStep (sh .step) step) m
+ranRecord sh (Whole step) m = performedStep (sh .tensors) (theStep (sh .step) step) m

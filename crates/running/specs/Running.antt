@@ -9,7 +9,8 @@ use Rattle.sheet.specs.declared.Sheet.{Sheet}
 use Rattle.refusals.specs.declared.Refusal.{Refusal}
 use Rattle.sheet_reader.specs.Reading.{readSheet}
 use Rattle.registers.specs.Registers.{emptyRegisters}
-use Rattle.checking.specs.Checking.{refusalAt, memoryLimit}
+use Rattle.refusals.specs.Refusals.{memoryTooLarge, refusalAt, notRefused}
+use Rattle.checking.specs.Checking.{memoryLimit}
 use Rattle.carrying.specs.Steps.{Machine}
 use Rattle.carrying.specs.Carrying.{started, carryAnswer}
 use Rattle.carrying.specs.declared.CarryAnswer.{CarryAnswer}
@@ -36,14 +37,14 @@ unfoldable pub runRefusal : List ℕ → List ℤ → ℕ → ℕ → Refusal
 runRefusal s tape records len =
     pick (leb len memoryLimit)
     (pick (eqb (readSheet s .refusal .number) 0) (tapeRefusal (readSheet s .sheet) tape records len) (readSheet s .refusal))
-    (refusalAt 18 0 0)
+    (refusalAt memoryTooLarge 0 0)
 
 -- refused: empty registers and a count of 0; accepted: what the records leave
 unfoldable pub runTape : List ℕ → List ℤ → ℕ → List ℕ → CarryAnswer
 runTape s tape records memory =
     let r = runRefusal s tape records (length memory) in
     pick (eqb (r .number) 0)
-    (let m = ran records (readSheet s .sheet) (tapeRecord tape) (started memory) in carryAnswer (refusalAt 0 0 0) (m .registers) (m .count))
+    (let m = ran records (readSheet s .sheet) (tapeRecord tape) (started memory) in carryAnswer notRefused (m .registers) (m .count))
     (carryAnswer r emptyRegisters 0)
 
 -- memory afterwards: unchanged where the tape is refused

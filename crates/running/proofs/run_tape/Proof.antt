@@ -6,7 +6,7 @@ use Rattle.refusals.specs.declared.Refusal.{Refusal}
 use Rattle.sheet_reader.specs.Reading.{readSheet}
 use Rattle.sheet_reader.specs.declared.ReadAnswer.{ReadAnswer}
 use Rattle.registers.specs.Registers.{emptyRegisters}
-use Rattle.round_trip.specs.Theorems.{not-refused, read-within}
+use Rattle.sheet_reader.specs.Laws.Growing.{read-within}
 use Rattle.carrying.specs.Carrying.{started, carryAnswer}
 use Rattle.judging.specs.Judging.{tapeRecord, tapeRefusal}
 use Rattle.running.specs.Running.{ran}
@@ -56,7 +56,7 @@ tape-refusal-requires c κs =
     let s = now (d .before .before .before .before .args .sheet) in
     let e = d .read-sheet .ensures in
     let z : readSheet s .refusal .number ≤ 0 = rw e at (c .before .if2 .left) in
-    rw e (read-within s _ (not-refused s (omega arith)))
+    rw e (read-within s (omega arith))
 
 carry-refused-requires-3 : tie.Need-carry-refused-requires-3
 carry-refused-requires-3 c κs = search needs
@@ -85,7 +85,7 @@ run-records-requires c κs =
     let len = length (now (a .memory)) in
     let y : tapeRefusal sh t (a .records) len .number ≤ 0 = rw (c .before .before .before .tape-refusal .ensures) at (c .before .if3 .left) in
     let f = tape-fit sh t (a .records) len (omega arith) in
-    ((rw e (read-within s _ (not-refused s (omega arith))), fit-few _ _ _ f, fit-room _ _ _ f), tape-clear sh t (a .records) len (omega arith))
+    ((rw e (read-within s (omega arith)), fit-few _ _ _ f, fit-room _ _ _ f), tape-clear sh t (a .records) len (omega arith))
 
 refusal-at-requires-2 : tie.Need-refusal-at-requires-2
 refusal-at-requires-2 c κs = search needs

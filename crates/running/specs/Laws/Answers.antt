@@ -11,7 +11,8 @@ use Rattle.refusals.specs.declared.Refusal.{Refusal}
 use Rattle.sheet_reader.specs.Reading.{readSheet}
 use Rattle.registers.specs.Registers.{emptyRegisters}
 use Rattle.registers.specs.declared.Registers.{Registers}
-use Rattle.checking.specs.Checking.{refusalAt, memoryLimit}
+use Rattle.refusals.specs.Refusals.{memoryTooLarge, refusalAt, notRefused}
+use Rattle.checking.specs.Checking.{memoryLimit}
 use Rattle.carrying.specs.Steps.{machine}
 use Rattle.carrying.specs.Carrying.{started, carryAnswer}
 use Rattle.judging.specs.Judging.{tapeRecord, tapeRefusal}
@@ -19,7 +20,7 @@ use Rattle.running.specs.Running.{ran, runRefusal, runTape, ranMemory}
 
 module _ (s : List ℕ) (tape : List ℤ) (records : ℕ) where
   module _ (len : ℕ) where
-    pub run-large : memoryLimit < len → runRefusal s tape records len ≡ refusalAt 18 0 0
+    pub run-large : memoryLimit < len → runRefusal s tape records len ≡ refusalAt memoryTooLarge 0 0
     unfolding runRefusal pick
     run-large h = rw (lt-leb len memoryLimit h)
 
@@ -43,7 +44,7 @@ module _ (s : List ℕ) (tape : List ℤ) (records : ℕ) where
 
     -- accepted: what the records leave
     pub run-accepted : {registers : Registers} {after : List ℕ} {count : ℕ} → runRefusal s tape records (length memory) .number ≡ 0
-        → machine registers after count ≡ ran records (readSheet s .sheet) (tapeRecord tape) (started memory) → carryAnswer (refusalAt 0 0 0) registers count ≡ runTape s tape records memory
+        → machine registers after count ≡ ran records (readSheet s .sheet) (tapeRecord tape) (started memory) → carryAnswer notRefused registers count ≡ runTape s tape records memory
     unfolding runTape pick
     run-accepted n e = rw (eq-eqb (runRefusal s tape records (length memory) .number) 0 n, ← e)
 

@@ -63,12 +63,12 @@ module _ (sh : Sheet) (m : Machine) (len : ℕ) where
       order-keeps _ (λ (s : State). length (s .elements)) (λ i s. refl) count (stateOf m)
   record-places (Fill register first count value) =
       order-keeps _ (λ (s : State). length (s .elements)) (λ i s. length-set (s .elements) _ _) count (stateOf m)
-  record-places (Whole k) = step-places sh (theStep (sh .step) k) m
+  record-places (Whole k) = step-places (sh .tensors) (theStep (sh .step) k) m
 
-  few : (register first count : ℕ) → Sized (m .registers .types) → elementsOk (theType (m .registers .types) register) first count ≡ true → count ≤ 256
+  few : (register first count : ℕ) → Sized (m .registers .types) → elementsOk (theType (m .registers .types) register) first count ≡ true → count ≤ matrixPlaces
   few register first count s e = omega (arith, elements-fit _ first count (s .each register) e)
 
-  record-count : (r : Record) → recordOk sh (m .registers .types) len r ≡ true → Sized (m .registers .types) → ranRecord sh r m .count ≤ m .count + 256
+  record-count : (r : Record) → recordOk sh (m .registers .types) len r ≡ true → Sized (m .registers .types) → ranRecord sh r m .count ≤ m .count + matrixPlaces
   unfolding ranRecord performedStep
   record-count (Copy register object) e s = omega arith
   record-count (Take register first count byte up down) e s =
@@ -103,7 +103,7 @@ module _ (sh : Sheet) (m : Machine) (len : ℕ) where
   decoded-length (Good r) e = record-length r e
   decoded-length Bad e = refl
 
-  pub decoded-count : (d : Decoded) → decodedOk sh (m .registers .types) len d ≡ true → Sized (m .registers .types) → ranDecoded sh d m .count ≤ m .count + 256
+  pub decoded-count : (d : Decoded) → decodedOk sh (m .registers .types) len d ≡ true → Sized (m .registers .types) → ranDecoded sh d m .count ≤ m .count + matrixPlaces
   decoded-count (Good r) e s = record-count r e s
   decoded-count Bad e s = omega arith
 

@@ -6,6 +6,7 @@ use mathlib.Core.List.{List, [], _∷_}
 use native.Mathlib.Omega.{arith}
 use lib.ListN.{length, replicate}
 use Rattle.numbers.specs.Choice.{pick, pick-case}
+use Rattle.sheet.specs.Sizes.{matrixPlaces, elementPlaces}
 use Rattle.sheet.specs.declared.Sheet.{Sheet}
 use Rattle.refusals.specs.declared.Refusal.{Refusal}
 use Rattle.sheet.specs.Laws.Within.{Within}
@@ -24,14 +25,14 @@ use Rattle.running.specs.Running.{ranDecoded, ranFrom, ran}
 use Rattle.running.specs.Laws.Records.{decoded-types, decoded-length, decoded-count, decoded-formed}
 
 -- the run begins with registers that have no type, and elements that are 0
-pub empty-started : (none : MatrixType) → none ≡ noType → (memory : List ℕ) → machineOf (none ∷ none ∷ none ∷ none ∷ []) (state (replicate 1024 0) memory 0) ≡ started memory
+pub empty-started : (none : MatrixType) → none ≡ noType → (memory : List ℕ) → machineOf (none ∷ none ∷ none ∷ none ∷ []) (state (replicate elementPlaces 0) memory 0) ≡ started memory
 unfolding emptyRegisters
 empty-started none e memory = rw e
 
 -- a machine before record k of n more: well formed, few elements counted, the rest in range, and the rest leaves the goal
 pub record Ready (n : ℕ) (sh : Sheet) (len : ℕ) (the : ℕ → Decoded) (k : ℕ) (m goal : Machine) : Type 0 where
   pub formed : Formed m
-  pub few : m .count ≤ k * 256
+  pub few : m .count ≤ k * matrixPlaces
   pub kept : length (m .memory) ≡ len
   pub clear : rangeFrom n sh len the k (m .registers .types) .number ≡ 0
   pub rest : ranFrom n sh the k m ≡ goal
