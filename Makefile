@@ -27,7 +27,8 @@ SANITIZE = -fsanitize=address,undefined -fno-sanitize-recover=all
 VALGRIND = valgrind -q --vgdb=no --error-exitcode=99
 LEAKS = --leak-check=full --show-leak-kinds=all --errors-for-leak-kinds=all
 HEADERS = include/moonbleat.h $(wildcard harness/*.h)
-TOOL_SOURCES = harness/moonbleat.c harness/files.c harness/kinds.c harness/refusals.c harness/show.c harness/tape_text.c
+PROGRAMS = harness/example.c harness/unhex.c
+TOOL_SOURCES = $(filter-out $(PROGRAMS),$(wildcard harness/*.c))
 
 # Cargo needs no network, writes to target/ alone, and links the archive by its absolute path.
 CARGO = CARGO_HOME='$(abspath target/cargo)' CARGO_TARGET_DIR='$(abspath target/compare)' \

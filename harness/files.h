@@ -1,4 +1,4 @@
-/* Files, read and written whole. Each function says on standard error what went wrong. */
+/* Files to read. Each function says on standard error what went wrong. */
 #ifndef FILES_H
 #define FILES_H
 
@@ -13,8 +13,8 @@ struct bytes {
     size_t len;
 };
 
-/* The name that stands for standard input. */
-#define STANDARD_INPUT "-"
+/* The name that stands for standard input or standard output. */
+#define STANDARD_STREAM "-"
 
 /* Opens a file to read, or standard input; NULL if that fails. */
 FILE *open_input(const char *name);
@@ -28,8 +28,8 @@ void complain(const char *name);
 /* Reads the first `limit` bytes of a file, or all of it if it is shorter. */
 bool read_file(const char *name, size_t limit, struct bytes *bytes);
 
-/* Writes a file whole: under another name first, so that a file that exists is replaced by all of
- * the new one or not at all. */
-bool write_file(const char *name, const uint8_t *bytes, size_t len);
+/* Read a sheet or a memory: as much of it as can change the answer. */
+bool read_sheet(const char *name, struct bytes *sheet);
+bool read_memory(const char *name, struct bytes *memory);
 
 #endif

@@ -72,6 +72,11 @@
 extern "C" {
 #endif
 
+/* The version of this interface: a major one may break callers, a minor one adds to it. */
+#define MOONBLEAT_VERSION_MAJOR 1
+#define MOONBLEAT_VERSION_MINOR 1
+#define MOONBLEAT_VERSION_PATCH 0
+
 /* Sizes. */
 #define MOONBLEAT_MEMORY_MAX 65536        /* bytes of memory */
 #define MOONBLEAT_REGISTERS 4             /* registers, each empty or holding a matrix */

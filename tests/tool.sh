@@ -433,16 +433,41 @@ done
 call 0 --help
 cp stdout help
 if grep -q '^usage:$' help; then pass; else fail 'no help'; fi
-call 0 -h
-same '-h' stdout help
+for words in -h help 'help --'; do
+    # shellcheck disable=SC2086
+    call 0 $words
+    same "$words" stdout help
+done
+sed -n '/^usage:$/,/^ *moonbleat help/p' help > usage
+commands=$(sed -n 's/^  moonbleat \([a-z-]*\) .*/\1/p' usage)
+for command in $commands; do
+    call 0 help "$command"
+    cp stdout command_help
+    grep "^  moonbleat $command " usage | sed 's/^ */usage: /' > expected
+    head -n 1 command_help > stdout
+    same "help $command" stdout expected
+    for words in --help -h 'sheet --help'; do
+        # shellcheck disable=SC2086
+        call 0 "$command" $words
+        same "$command $words" stdout command_help
+    done
+done
+call 0 --version
+sed -n 's/^#define MOONBLEAT_VERSION_[A-Z]* //p' "$root/include/moonbleat.h" | paste -s -d. - |
+    sed 's/^/moonbleat /' > expected
+same '--version' stdout expected
 
-# wrong TEXT WORD..: exit status 2, nothing printed, the text and the help on standard error.
+# wrong TEXT WORD..: exit status 2, nothing printed, the text and the usage on standard error.
 wrong() {
     text=$1
     shift
     call 2 "$@"
     silent
-    { echo "moonbleat: $text"; cat help; } > expected
+    cp usage wanted_usage
+    if echo "$commands" | grep -q -x -e "${1:-none}" && [ "$1 $text" != "help unknown command ${2:-}" ]; then
+        tool help "$1" | head -n 1 > wanted_usage
+    fi
+    { echo "moonbleat: $text"; cat wanted_usage; } > expected
     same "wrong use: $*" stderr expected
     absent out
 }
@@ -454,33 +479,57 @@ rm -f out
 wrong 'what is to be done?'
 wrong 'unknown command nothing' nothing
 wrong 'unknown command ' ''
-wrong 'check takes 1 file(s)' check
-wrong 'check needs --memory N' check sheet
+wrong 'unknown command nothing' help nothing
+wrong 'help takes [COMMAND], and run is one more' help check run
+wrong 'check takes SHEET' check
 wrong '--memory needs a word after it' check sheet --memory
 wrong '--memory -1: not a length in bytes' check sheet --memory -1
 wrong '--memory 12x: not a length in bytes' check sheet --memory 12x
 wrong '--memory : not a length in bytes' check sheet --memory ''
+wrong '--memory 0x: not a length in bytes' check sheet --memory 0x
+wrong '--memory 0x1g: not a length in bytes' check sheet --memory=0x1g
+wrong '--memory 0x10000000000000000: not a length in bytes' check sheet --memory 0x10000000000000000
+wrong '--memory : not a length in bytes' check sheet --memory=
+wrong 'check does not take --memory-' check sheet --memory- 64
+wrong 'check does not take --mem' check sheet --mem 64
+wrong '--man takes no word after it' help --man=1
+wrong 'check takes SHEET, and --memory is one more' check sheet -- --memory
 wrong '--memory 18446744073709551616: not a length in bytes' check sheet --memory 18446744073709551616
 wrong '--memory 99999999999999999999999: not a length in bytes' check sheet --memory 99999999999999999999999
 wrong '--memory is given twice' check sheet --memory 64 --memory 64
-wrong 'check takes 1 file(s), and memory is one more' check sheet memory --memory 64
+wrong 'check takes SHEET, and memory is one more' check sheet memory --memory 64
 wrong 'check does not take -o' check sheet --memory 64 -o out
-wrong 'run takes 2 file(s)' run sheet
-wrong 'run takes 2 file(s), and tape is one more' run sheet memory tape
+wrong 'run takes SHEET MEMORY' run sheet
+wrong 'run takes SHEET MEMORY, and tape is one more' run sheet memory tape
 wrong '-o needs a word after it' run sheet memory -o
-wrong '-o needs the name of a file' run sheet memory -o -
+wrong '--registers needs a word after it' run sheet memory --registers
+wrong 'standard output can take only one of -o, --registers and --json' run sheet memory -o - --registers -
 wrong '-o is given twice' run sheet memory -o out -o out
 wrong 'run does not take --memory' run sheet memory -o out --memory 64
 wrong 'run does not take --output' run sheet memory --output out
 wrong 'standard input can be read only once' run - - -o out
-wrong 'run-tape takes 3 file(s)' run-tape sheet memory
-wrong 'run-tape takes 3 file(s), and out is one more' run-tape sheet tape memory out
+wrong 'run-tape takes SHEET TAPE MEMORY' run-tape sheet memory
+wrong 'run-tape takes SHEET TAPE MEMORY, and out is one more' run-tape sheet tape memory out
 wrong 'standard input can be read only once' run-tape - tape -
-wrong 'tape takes 1 file(s)' tape
+wrong 'tape takes SHEET' tape
 wrong 'tape does not take -x' tape sheet -x
 wrong 'tape does not take -o' tape sheet -o out
-wrong 'show takes 1 file(s)' show
+wrong 'show takes SHEET' show
 wrong 'show does not take --memory' show sheet --memory 64
+
+# Lengths in hex, behind =, and left out; files behind --.
+for words in '--memory 64' '--memory=64' '--memory 0x40' '--memory=0X40'; do
+    # shellcheck disable=SC2086
+    call 0 check sheet $words
+    # shellcheck disable=SC2086
+    call 0 check $words -- sheet
+done
+bytes far_sheet "$edition $layout $fill" 21 0800 00 FF 00 FF F0FF0000
+call 0 check far_sheet
+refused '14 1 7' check far_sheet --memory 65527
+cp sheet ./--help
+call 0 check -- --help
+rm ./--help
 
 # -- Files that cannot be read -------------------------------------------------------------------
 
@@ -628,6 +677,46 @@ cp old out
 call 0 run fill_sheet nothing -o out
 same 'an empty output file' out nothing
 rm out
+
+# Standard output as OUT gets the memory and nothing else; as FILE the registers.
+call 0 run sheet memory -o -
+same 'run -o -' stdout expected_out
+tool run sheet memory > expected_run
+call 0 run sheet memory --registers registers -o out
+same 'run --registers' stdout expected_run
+same 'run --registers -o' out expected_out
+bytes expected 00 01 08 00 00000000 00000000 00000000
+for _ in 1 2 3 4 5 6 7 8; do printf '\a\0\0\0'; done >> expected
+head -c 48 registers > stdout
+same 'the first registers' stdout expected
+zeros expected 4064
+tail -c +49 registers > stdout
+same 'the other elements' stdout expected
+call 0 run sheet memory --registers -
+same 'run --registers -' stdout registers
+rm out registers
+
+# A file that is replaced keeps its mode, a new one gets the usual one, and a symbolic link is
+# written through.
+(umask 022 && tool run sheet memory -o out > stdout)
+if [ "$(stat -c %a out)" = 644 ]; then pass; else fail "mode of a new file: $(stat -c %a out)"; fi
+cp old out
+chmod 600 out
+ln -s out link
+call 0 run sheet memory -o link
+same 'an output file behind a link' out expected_out
+if [ -h link ] && [ "$(stat -c %a out)" = 600 ]; then pass; else fail 'a link or a mode was lost'; fi
+rm out
+broken "link: $gone" run sheet memory -o link
+absent out
+broken 'out: two outputs go to this file' run sheet memory -o out --registers out
+absent out
+cp old out
+broken 'out: two outputs go to this file' run sheet memory -o link --registers out
+same 'an output file that was named twice' out old
+broken "nowhere/out: $gone" run sheet memory -o out --registers nowhere/out
+same 'an output file beside one that cannot be written' out old
+rm out link
 
 # An output that cannot be written leaves everything as it was.
 broken "nowhere/out: $gone" run sheet memory -o nowhere/out
