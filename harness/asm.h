@@ -18,14 +18,14 @@ struct asm_error {
 enum { ASM_ERRORS_KEPT = 10 };
 
 struct assembly {
-    struct bytes sheet;   /* to be freed with free_assembly */
-    bool allows_refused;  /* the text has the line `allow refused` */
+    struct bytes sheet;  /* to be freed with free_assembly */
+    bool allows_refused; /* the text has the line `allow refused` */
     size_t error_count;
-    struct asm_error errors[ASM_ERRORS_KEPT]; /* the first ones, in the text's order */
+    struct asm_error errors[ASM_ERRORS_KEPT + 1]; /* the first ones in the text's order, and a place to sort in */
 };
 
 /* Makes a sheet of a text; true if the text has no error. Of a text that allows it the sheet may
- * be one that the library refuses to read. */
+ * be one that the library refuses to read; of any other it is not. */
 bool assemble(const char *text, size_t len, struct assembly *assembly);
 
 /* Prints the kept errors on standard error, each as `name:line:column: sentence`. */

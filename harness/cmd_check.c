@@ -1,9 +1,23 @@
 #include <stdlib.h>
 
+#include "answers.h"
 #include "command.h"
 #include "files.h"
-#include "refusals.h"
 #include "result.h"
+
+static int print_answer(const struct request *request, const struct refused *checked)
+{
+    if (request->words[OPTION_JSON] == NULL) {
+        print_accepted(checked->answer);
+        return DONE;
+    }
+    struct json json = {false};
+    open_answer(&json, &check_command, checked);
+    json_number(&json, "memory", (int64_t)checked->memory_len);
+    json_number(&json, BYTE_ELEMENTS_KEY, checked->answer[MOONBLEAT_BYTE_ELEMENTS]);
+    close_answer(&json);
+    return DONE;
+}
 
 static int do_check(const struct request *request)
 {
@@ -12,14 +26,11 @@ static int do_check(const struct request *request)
         return FAILED;
     }
     uint32_t answer[MOONBLEAT_ANSWER] = {0};
+    const struct refused checked = {sheet.at, sheet.len, request->memory, NULL, answer};
     uint32_t number = moonbleat_check(sheet.at, sheet.len, request->memory, answer);
+    int status = number == 0 ? print_answer(request, &checked) : answer_refusal(&check_command, request, &checked);
     free(sheet.at);
-    if (number != 0) {
-        print_refusal(answer);
-        return REFUSED;
-    }
-    print_accepted(answer);
-    return DONE;
+    return status;
 }
 
 const struct command check_command = {
@@ -27,7 +38,7 @@ const struct command check_command = {
     .files = "SHEET",
     .files_min = 1,
     .files_max = 1,
-    .takes = SET(OPTION_MEMORY),
+    .takes = SET(OPTION_MEMORY) | SET(OPTION_JSON),
     .summary = "say whether the sheet is accepted for a memory of N bytes",
     .perform = do_check,
 };

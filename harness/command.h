@@ -26,7 +26,8 @@ struct command {
     int (*perform)(const struct request *request);
 };
 
-extern const struct command check_command, run_command, tape_command, run_tape_command, show_command, help_command;
+extern const struct command asm_command, show_command, check_command, run_command, tape_command, run_tape_command,
+    help_command;
 
 /* All commands in the help's order, NULL behind the last. */
 extern const struct command *const commands[];

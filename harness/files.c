@@ -4,16 +4,6 @@
 #include <stdlib.h>
 #include <string.h>
 
-#include "moonbleat.h"
-
-/*
- * How much of a file is read. A longer memory is refused whatever it holds. A longer sheet is
- * refused at a field whose head lies no further than the longest accepted sheet reaches, and
- * whose content is at most 65,535 bytes; what follows cannot change the answer.
- */
-#define MEMORY_LIMIT ((size_t)MOONBLEAT_MEMORY_MAX + 1)
-#define SHEET_LIMIT ((size_t)MOONBLEAT_SHEET_MAX + 3 + UINT16_MAX)
-
 /* A file is read in pieces of at least this size. */
 enum { PIECE = 4096 };
 

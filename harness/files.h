@@ -7,6 +7,8 @@
 #include <stdint.h>
 #include <stdio.h>
 
+#include "moonbleat.h"
+
 /* Bytes of a file; `at` is to be freed and never NULL after a successful read. */
 struct bytes {
     uint8_t *at;
@@ -27,6 +29,14 @@ void complain(const char *name);
 
 /* Reads the first `limit` bytes of a file, or all of it if it is shorter. */
 bool read_file(const char *name, size_t limit, struct bytes *bytes);
+
+/*
+ * How much of a file is read. A longer memory is refused whatever it holds. A longer sheet is
+ * refused at a field whose head lies no further than the longest accepted sheet reaches, and
+ * whose content is at most 65,535 bytes; what follows cannot change the answer.
+ */
+#define MEMORY_LIMIT ((size_t)MOONBLEAT_MEMORY_MAX + 1)
+#define SHEET_LIMIT ((size_t)MOONBLEAT_SHEET_MAX + 3 + UINT16_MAX)
 
 /* Read a sheet or a memory: as much of it as can change the answer. */
 bool read_sheet(const char *name, struct bytes *sheet);

@@ -33,3 +33,13 @@ bool parse_number(const char *text, size_t len, uint64_t *number)
     bool hex = len > 2 && text[0] == '0' && (text[1] == 'x' || text[1] == 'X');
     return hex ? parse_digits(text + 2, len - 2, 16, number) : parse_digits(text, len, 10, number);
 }
+
+bool parse_hex_byte(const char *text, uint8_t *byte)
+{
+    uint64_t number;
+    if (!parse_digits(text, 2, 16, &number)) {
+        return false;
+    }
+    *byte = (uint8_t)number;
+    return true;
+}

@@ -9,4 +9,7 @@
 /* Reads `len` characters as a number; false if they are none or past 64 bits. */
 bool parse_number(const char *text, size_t len, uint64_t *number);
 
+/* Reads two hex digits. */
+bool parse_hex_byte(const char *text, uint8_t *byte);
+
 #endif

@@ -31,9 +31,9 @@ static int value_width(uint8_t kind, const uint32_t *elements, size_t count)
 
 static void print_matrix(const uint8_t *type, const uint32_t *elements)
 {
-    uint8_t kind = type[0];
-    size_t columns = type[2];
-    size_t count = type[1] * columns;
+    uint8_t kind = type[MOONBLEAT_TYPE_KIND];
+    size_t columns = type[MOONBLEAT_TYPE_COLUMNS];
+    size_t count = type[MOONBLEAT_TYPE_ROWS] * columns;
     int width = value_width(kind, elements, count);
     for (size_t i = 0; i < count; i++) {
         const char *end = (i + 1) % columns == 0 ? "\n" : "";
@@ -43,11 +43,12 @@ static void print_matrix(const uint8_t *type, const uint32_t *elements)
 
 static void print_register(unsigned number, const uint8_t *type, const uint32_t *elements)
 {
-    if (type[1] == 0) {
+    if (type[MOONBLEAT_TYPE_ROWS] == 0) {
         printf("register %u: empty\n", number);
         return;
     }
-    printf("register %u: %u by %u of %s\n", number, (unsigned)type[1], (unsigned)type[2], kind_name(type[0]));
+    printf("register %u: %u by %u of %s\n", number, (unsigned)type[MOONBLEAT_TYPE_ROWS],
+           (unsigned)type[MOONBLEAT_TYPE_COLUMNS], kind_name(type[MOONBLEAT_TYPE_KIND]));
     print_matrix(type, elements);
 }
 
@@ -56,11 +57,53 @@ void print_accepted(const uint32_t answer[4])
     printf("accepted, byte-elements: %" PRIu32 "\n", answer[MOONBLEAT_BYTE_ELEMENTS]);
 }
 
+/* The type and the elements of a register. */
+static const uint8_t *type_of(const struct result *result, unsigned number)
+{
+    return result->types + (size_t)MOONBLEAT_TYPE_BYTES * number;
+}
+
+static const uint32_t *elements_of(const struct result *result, unsigned number)
+{
+    return result->elements + (size_t)MOONBLEAT_REGISTER_ELEMENTS * number;
+}
+
 void print_result(const struct result *result)
 {
     for (unsigned i = 0; i < MOONBLEAT_REGISTERS; i++) {
-        print_register(i, result->types + (size_t)MOONBLEAT_TYPE_BYTES * i,
-                       result->elements + (size_t)MOONBLEAT_REGISTER_ELEMENTS * i);
+        print_register(i, type_of(result, i), elements_of(result, i));
     }
     print_accepted(result->answer);
+}
+
+static void json_matrix(struct json *json, const uint8_t *type, const uint32_t *elements)
+{
+    json_open(json, NULL, '{');
+    json_text(json, "kind", kind_name(type[MOONBLEAT_TYPE_KIND]));
+    json_number(json, "rows", type[MOONBLEAT_TYPE_ROWS]);
+    json_number(json, "columns", type[MOONBLEAT_TYPE_COLUMNS]);
+    json_open(json, "elements", '[');
+    for (size_t row = 0; row < type[MOONBLEAT_TYPE_ROWS]; row++) {
+        json_open(json, NULL, '[');
+        for (size_t column = 0; column < type[MOONBLEAT_TYPE_COLUMNS]; column++) {
+            json_number(json, NULL, element_value(type[MOONBLEAT_TYPE_KIND], *elements++));
+        }
+        json_close(json, ']');
+    }
+    json_close(json, ']');
+    json_close(json, '}');
+}
+
+void json_result(struct json *json, const struct result *result)
+{
+    json_number(json, BYTE_ELEMENTS_KEY, result->answer[MOONBLEAT_BYTE_ELEMENTS]);
+    json_open(json, "registers", '[');
+    for (unsigned i = 0; i < MOONBLEAT_REGISTERS; i++) {
+        if (type_of(result, i)[MOONBLEAT_TYPE_ROWS] == 0) {
+            json_null(json, NULL);
+        } else {
+            json_matrix(json, type_of(result, i), elements_of(result, i));
+        }
+    }
+    json_close(json, ']');
 }

@@ -4,6 +4,7 @@
 
 #include <stdint.h>
 
+#include "json.h"
 #include "moonbleat.h"
 
 /* As the library fills it. */
@@ -24,5 +25,10 @@ void print_accepted(const uint32_t answer[4]);
 
 /* Prints the registers, then the above. */
 void print_result(const struct result *result);
+
+/* The same as members of an object. */
+void json_result(struct json *json, const struct result *result);
+
+#define BYTE_ELEMENTS_KEY "byte elements"
 
 #endif

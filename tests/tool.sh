@@ -83,41 +83,19 @@ says() {
 # where NUMBER FIRST SECOND: the words for a refusal's place.
 where() {
     case $1 in
-        1 | 2 | 3 | 4 | 5 | 6) echo " (byte $2 of the sheet)" ;;
-        7 | 8 | 9 | 10 | 11) echo " (step $2)" ;;
-        12 | 13 | 14 | 15) echo " (step $2, element $3)" ;;
-        17) echo " (record $2)" ;;
+        1 | 2 | 3 | 4 | 5 | 6) echo " at byte $2" ;;
+        7 | 8 | 9 | 10 | 11) echo " at step $2" ;;
+        12 | 13 | 14 | 15) echo " at step $2, element $3" ;;
+        17) echo " at record $2" ;;
     esac
 }
 
-# sentence NUMBER: what is said of a refusal.
-sentence() {
-    case $1 in
-        1) echo "a field's head or content runs past the end of the sheet" ;;
-        2) echo "the field's tag is not a known one" ;;
-        3) echo "the field is out of order, repeated or one too many, or the edition is missing" ;;
-        4) echo "the field's length is not one that its tag has" ;;
-        5) echo "a number of the field is out of its range" ;;
-        6) echo "the edition is not 1" ;;
-        7) echo "a register that the step reads is empty" ;;
-        8) echo "shapes or kinds of the step's matrices do not fit" ;;
-        9) echo "the base is not a multiple of 16" ;;
-        10) echo "the view has no dimensions and another dimension count than the layout" ;;
-        11) echo "a store goes through a layout with a block size above 1" ;;
-        12) echo "the index after the view is 2^32 or more" ;;
-        13) echo "the element lies outside the tensor and the clamp mode is Undefined" ;;
-        14) echo "the element's bytes do not all lie in memory" ;;
-        15) echo "the store has put an earlier element at the same byte" ;;
-        16) echo "the tape has more records than 1024 or than the room holds" ;;
-        17) echo "the record is out of range, or there are more than 1024 records" ;;
-        18) echo "the memory is longer than 65536 bytes" ;;
-    esac
-}
-
-# refuses NUMBER FIRST SECOND: standard error must be the line of that refusal, and nothing else.
+# refuses 'NUMBER FIRST SECOND' CAUSE: standard error must be the line of that refusal, and nothing
+# else.
 refuses() {
-    echo "moonbleat: refusal $1 at $2 $3$(where "$1" "$2" "$3"): $(sentence "$1")" > line
-    same "the line of refusal $1" stderr line
+    # shellcheck disable=SC2086
+    echo "moonbleat: refusal ${1%% *}$(where $1): $2" > line
+    same "the line of refusal ${1%% *}" stderr line
 }
 
 # silent: standard output must be empty.
@@ -159,16 +137,16 @@ accepted_strip() {
 }
 
 refused_strip() {
-    read -r number first second < "$strips/$1/tape.txt"
+    sed 's/^/moonbleat: /' "$strips/$1/refusal.txt" > line
     call 1 tape sheet
     same "$1: tape" stdout "$strips/$1/tape.txt"
-    refuses "$number" "$first" "$second"
+    same "$1: the refusal of tape" stderr line
     call 1 check sheet --memory "$(wc -c < memory)"
     silent
-    refuses "$number" "$first" "$second"
+    same "$1: the refusal of check" stderr line
     call 1 run sheet memory -o out
     silent
-    refuses "$number" "$first" "$second"
+    same "$1: the refusal of run" stderr line
     absent out
 }
 
@@ -182,6 +160,11 @@ for folder in "$strips"/*/; do
     fi
     call 0 show sheet
     same "$strip: show" stdout "$folder/show.txt"
+    call 0 asm "$folder/sheet.txt" -o assembled
+    same "$strip: asm" assembled sheet
+    call 0 show --asm sheet
+    grep -v '^#' "$folder/sheet.txt" > expected
+    same "$strip: show --asm" stdout expected
     if [ -e "$folder/run.txt" ]; then
         accepted_strip "$strip"
     else
@@ -191,49 +174,60 @@ done
 
 # -- Refusals ------------------------------------------------------------------------------------
 
-# refused 'NUMBER FIRST SECOND' WORD..: the call must be refused so, and print nothing.
+# refused 'NUMBER FIRST SECOND' CAUSE WORD..: the call must be refused so, and print nothing.
 refused() {
     three=$1
-    shift
+    cause=$2
+    shift 2
     call 1 "$@"
     silent
-    # shellcheck disable=SC2086
-    refuses $three
+    refuses "$three" "$cause"
 }
 
-# refused_tape 'NUMBER FIRST SECOND' WORD..: the same, and the three numbers on standard output.
+# refused_tape 'NUMBER FIRST SECOND' CAUSE WORD..: the same, and the three numbers on standard output.
 refused_tape() {
     three=$1
-    shift
+    cause=$2
+    shift 2
     call 1 "$@"
-    # shellcheck disable=SC2086
-    refuses $three
+    refuses "$three" "$cause"
     echo "$three" > numbers
     same "$*" stdout numbers
 }
 
-# unreadable 'NUMBER FIRST SECOND' HEX..: every subcommand refuses the sheet when it reads it.
+# shows_refused 'NUMBER FIRST SECOND' CAUSE: show prints a mark with the refusal.
+shows_refused() {
+    call 1 show sheet
+    refuses "$1" "$2"
+    sed 's/^moonbleat: /^ /' line > mark
+    grep '^\^' stdout > marks
+    same "the mark of refusal $1" marks mark
+}
+
+# unreadable 'NUMBER FIRST SECOND' CAUSE HEX..: every subcommand refuses the sheet when it reads it.
 unreadable() {
     wanted_place=$1
-    shift
+    wanted_cause=$2
+    shift 2
     bytes sheet "$@"
-    refused "$wanted_place" show sheet
-    refused "$wanted_place" check sheet --memory 64
-    refused "$wanted_place" run sheet memory -o out
-    refused "$wanted_place" run-tape sheet tape memory -o out
-    refused_tape "$wanted_place" tape sheet
+    shows_refused "$wanted_place" "$wanted_cause"
+    refused "$wanted_place" "$wanted_cause" check sheet --memory 64
+    refused "$wanted_place" "$wanted_cause" run sheet memory -o out
+    refused "$wanted_place" "$wanted_cause" run-tape sheet tape memory -o out
+    refused_tape "$wanted_place" "$wanted_cause" tape sheet
     absent out
 }
 
-# misstepped 'NUMBER FIRST SECOND' HEX..: the sheet is read, and refused for 64 bytes of memory.
+# misstepped 'NUMBER FIRST SECOND' CAUSE HEX..: the sheet is read, and refused for 64 bytes of memory.
 misstepped() {
     wanted_place=$1
-    shift
+    wanted_cause=$2
+    shift 2
     bytes sheet "$@"
     call 0 show sheet
-    refused "$wanted_place" check sheet --memory 64
-    refused "$wanted_place" run sheet memory -o out
-    refused_tape "$wanted_place" tape sheet --memory 64
+    refused "$wanted_place" "$wanted_cause" check sheet --memory 64
+    refused "$wanted_place" "$wanted_cause" run sheet memory -o out
+    refused_tape "$wanted_place" "$wanted_cause" tape sheet --memory 64
     absent out
 }
 
@@ -250,99 +244,177 @@ reduce='23 0600 01 00 01 01 03 00'
 transpose='24 0200 01 00'
 multiply='25 0400 03 00 01 02'
 
-unreadable '1 0 0' 01
-unreadable '1 0 0' 01 01
-unreadable '1 0 0' 01 0100
-unreadable '1 0 0' 01 0200 01
-unreadable '1 4 0' "$edition" 10 10
-unreadable '1 23 0' "$edition $layout" 20 0800 00 01 08 00
-unreadable '1 4 0' "$edition" FF FFFF
-unreadable '2 0 0' 00 0000
-unreadable '2 4 0' "$edition" 12 0000
-unreadable '2 23 0' "$edition $layout" 26 0000
-unreadable '3 0 0' ''
-unreadable '3 0 0' "$layout"
-unreadable '3 4 0' "$edition $edition"
-unreadable '3 18 0' "$edition $view $layout"
-unreadable '3 15 0' "$edition $fill $view"
-unreadable '3 15 0' "$edition $fill $edition"
-unreadable '3 80 0' "$edition $layout $layout $layout $layout $layout"
-unreadable '3 60 0' "$edition $view $view $view $view $view"
+unreadable '1 0 0' "a field's head has 3 bytes, the sheet ends after 1" \
+    01
+unreadable '1 0 0' "a field's head has 3 bytes, the sheet ends after 2" \
+    01 01
+unreadable '1 0 0' 'edition: length 1 runs past the end of the sheet by 1' \
+    01 0100
+unreadable '1 0 0' 'edition: length 2 runs past the end of the sheet by 1' \
+    01 0200 01
+unreadable '1 4 0' "a field's head has 3 bytes, the sheet ends after 2" \
+    "$edition" 10 10
+unreadable '1 23 0' 'step 0 (fill): length 8 runs past the end of the sheet by 4' \
+    "$edition $layout" 20 0800 00 01 08 00
+unreadable '1 4 0' 'a field with tag 0xFF: length 65535 runs past the end of the sheet by 65535' \
+    "$edition" FF FFFF
+unreadable '2 0 0' 'tag 0x00 is none of 0x01, 0x10, 0x11, 0x20, 0x21, 0x22, 0x23, 0x24, 0x25' \
+    00 0000
+unreadable '2 4 0' 'tag 0x12 is none of 0x01, 0x10, 0x11, 0x20, 0x21, 0x22, 0x23, 0x24, 0x25' \
+    "$edition" 12 0000
+unreadable '2 23 0' 'tag 0x26 is none of 0x01, 0x10, 0x11, 0x20, 0x21, 0x22, 0x23, 0x24, 0x25' \
+    "$edition $layout" 26 0000
+unreadable '3 0 0' 'the sheet has no edition' \
+    ''
+unreadable '3 0 0' 'layout 0 comes before the edition' \
+    "$layout"
+unreadable '3 4 0' 'edition is repeated' \
+    "$edition $edition"
+unreadable '3 18 0' 'layout 0 comes after a view' \
+    "$edition $view $layout"
+unreadable '3 15 0' 'view 0 comes after a step' \
+    "$edition $fill $view"
+unreadable '3 15 0' 'edition is repeated' \
+    "$edition $fill $edition"
+unreadable '3 80 0' 'layout 4 is one too many: a sheet has at most 4' \
+    "$edition $layout $layout $layout $layout $layout"
+unreadable '3 60 0' 'view 4 is one too many: a sheet has at most 4' \
+    "$edition $view $view $view $view $view"
 eight="$fill $fill $fill $fill $fill $fill $fill $fill"
 bytes sheet "$edition $eight $eight $eight $eight"
 call 0 show sheet
-unreadable '3 356 0' "$edition $eight $eight $eight $eight $fill"
-unreadable '4 0 0' 01 0000
-unreadable '4 0 0' 01 0200 01 01
-unreadable '4 4 0' "$edition" 10 0600 01 00 00000000
-unreadable '4 4 0' "$edition" 11 0A00 01 00 0000 FFFF 0000 FFFF
-unreadable '4 23 0' "$edition $layout" 24 0300 01 00 00
-unreadable '6 0 0' 01 0100 00
-unreadable '6 0 0' 01 0100 02
+unreadable '3 356 0' 'step 32 (fill) is one too many: a sheet has at most 32' \
+    "$edition $eight $eight $eight $eight $fill"
+unreadable '4 0 0' 'edition: length 0 is not 1' \
+    01 0000
+unreadable '4 0 0' 'edition: length 2 is not 1' \
+    01 0200 01 01
+unreadable '4 4 0' 'layout 0: length 6 is not 16 or 26 or 36 or 46 or 56' \
+    "$edition" 10 0600 01 00 00000000
+unreadable '4 4 0' 'view 0: length 10 is not 11 or 12 or 13 or 14 or 15 or 20 or 25 or 30 or 35' \
+    "$edition" 11 0A00 01 00 0000 FFFF 0000 FFFF
+unreadable '4 23 0' 'step 0 (transpose): length 3 is not 2' \
+    "$edition $layout" 24 0300 01 00 00
+unreadable '6 0 0' 'edition 0 is not 1' \
+    01 0100 00
+unreadable '6 0 0' 'edition 2 is not 1' \
+    01 0100 02
 # 5: dimension count, clamp mode, block size, dimension, offset, span.
-unreadable '5 4 0' "$edition" 10 1000 00 00 00000000 0100 0800 0100 0000 0800
-unreadable '5 4 0' "$edition" 10 1000 02 00 00000000 0100 0800 0100 0000 0800
-unreadable '5 4 0' "$edition" 10 1000 01 05 00000000 0100 0800 0100 0000 0800
-unreadable '5 4 0' "$edition" 10 1000 01 00 00000000 0000 0800 0100 0000 0800
-unreadable '5 4 0' "$edition" 10 1000 01 00 00000000 0110 0800 0100 0000 0800
-unreadable '5 4 0' "$edition" 10 1000 01 00 00000000 0100 0000 0100 0000 0800
-unreadable '5 4 0' "$edition" 10 1000 01 00 00000000 0100 0110 0100 0000 0800
-unreadable '5 4 0' "$edition" 10 1000 01 00 00000000 0100 0800 0100 0010 0800
-unreadable '5 4 0' "$edition" 10 1000 01 00 00000000 0100 0800 0100 FFEF 0800
-unreadable '5 4 0' "$edition" 10 1000 01 00 00000000 0100 0800 0100 0000 0000
-unreadable '5 23 0' "$edition $layout" 10 1000 01 00 00000000 0100 0800 0100 0000 0110
+unreadable '5 4 0' 'layout 0: dimension count 0 is not within 1 to 5' \
+    "$edition" 10 1000 00 00 00000000 0100 0800 0100 0000 0800
+unreadable '5 4 0' 'layout 0: dimension count 2 gives a length of 26, not 16' \
+    "$edition" 10 1000 02 00 00000000 0100 0800 0100 0000 0800
+unreadable '5 4 0' 'layout 0: clamp mode 5 is not within 0 to 4' \
+    "$edition" 10 1000 01 05 00000000 0100 0800 0100 0000 0800
+unreadable '5 4 0' 'layout 0, dimension 0: block 0 is not within 1 to 4096' \
+    "$edition" 10 1000 01 00 00000000 0000 0800 0100 0000 0800
+unreadable '5 4 0' 'layout 0, dimension 0: block 4097 is not within 1 to 4096' \
+    "$edition" 10 1000 01 00 00000000 0110 0800 0100 0000 0800
+unreadable '5 4 0' 'layout 0, dimension 0: size 0 is not within 1 to 4096' \
+    "$edition" 10 1000 01 00 00000000 0100 0000 0100 0000 0800
+unreadable '5 4 0' 'layout 0, dimension 0: size 4097 is not within 1 to 4096' \
+    "$edition" 10 1000 01 00 00000000 0100 0110 0100 0000 0800
+unreadable '5 4 0' 'layout 0, dimension 0: offset 4096 is not within -4096 to 4095' \
+    "$edition" 10 1000 01 00 00000000 0100 0800 0100 0010 0800
+unreadable '5 4 0' 'layout 0, dimension 0: offset -4097 is not within -4096 to 4095' \
+    "$edition" 10 1000 01 00 00000000 0100 0800 0100 FFEF 0800
+unreadable '5 4 0' 'layout 0, dimension 0: span 0 is not within 1 to 4096' \
+    "$edition" 10 1000 01 00 00000000 0100 0800 0100 0000 0000
+unreadable '5 23 0' 'layout 1, dimension 0: span 4097 is not within 1 to 4096' \
+    "$edition $layout" 10 1000 01 00 00000000 0100 0800 0100 0000 0110
 # 5: a view's dimension count, has-dimensions, permutation and view dimension.
-unreadable '5 4 0' "$edition" 11 0B00 02 00 00 0000 FFFF 0000 FFFF
-unreadable '5 4 0' "$edition" 11 0B00 01 02 00 0000 FFFF 0000 FFFF
-unreadable '5 4 0' "$edition" 11 0B00 01 00 01 0000 FFFF 0000 FFFF
-unreadable '5 4 0' "$edition" 11 0C00 02 00 00 00 0000 FFFF 0000 FFFF
-unreadable '5 4 0' "$edition" 11 0F00 01 01 00 0110 0100 0000 FFFF 0000 FFFF
+unreadable '5 4 0' 'view 0: dimension count 2 gives a length of 12, not 11' \
+    "$edition" 11 0B00 02 00 00 0000 FFFF 0000 FFFF
+unreadable '5 4 0' 'view 0: has-dimensions 2 is not within 0 to 1' \
+    "$edition" 11 0B00 01 02 00 0000 FFFF 0000 FFFF
+unreadable '5 4 0' 'view 0: permutation 1 does not name each of 0 to 0 once' \
+    "$edition" 11 0B00 01 00 01 0000 FFFF 0000 FFFF
+unreadable '5 4 0' 'view 0: permutation 0 0 does not name each of 0 to 1 once' \
+    "$edition" 11 0C00 02 00 00 00 0000 FFFF 0000 FFFF
+unreadable '5 4 0' 'view 0, dimension 0: size 4097 is not within 1 to 4096' \
+    "$edition" 11 0F00 01 01 00 0110 0100 0000 FFFF 0000 FFFF
 # 5: steps.
-unreadable '5 4 0' "$edition" 20 0800 04 01 08 00 00000000
-unreadable '5 4 0' "$edition" 20 0800 00 00 08 00 00000000
-unreadable '5 4 0' "$edition" 20 0800 00 01 11 00 00000000
-unreadable '5 4 0' "$edition" 20 0800 00 01 08 06 00000000
-unreadable '5 4 0' "$edition" 20 0800 00 01 08 00 00010000
-unreadable '5 15 0' "$edition $fill $load"
-unreadable '5 34 0' "$edition $layout $fill" 21 0800 00 04 00 FF 00000000
-unreadable '5 34 0' "$edition $layout $fill" 21 0800 00 FF 00 00 00000000
-unreadable '5 34 0' "$edition $layout $fill" 22 0700 00 01 FF 00000000
-unreadable '5 4 0' "$edition" 23 0600 01 00 01 01 00 00
-unreadable '5 4 0' "$edition" 23 0600 01 00 01 01 05 00
-unreadable '5 4 0' "$edition" 23 0600 01 00 01 01 03 06
-unreadable '5 4 0' "$edition" 24 0200 01 04
-unreadable '5 4 0' "$edition" 25 0400 03 00 01 04
+unreadable '5 4 0' 'step 0 (fill): register 4 is not within 0 to 3' \
+    "$edition" 20 0800 04 01 08 00 00000000
+unreadable '5 4 0' 'step 0 (fill): rows 0 is not within 1 to 16' \
+    "$edition" 20 0800 00 00 08 00 00000000
+unreadable '5 4 0' 'step 0 (fill): columns 17 is not within 1 to 16' \
+    "$edition" 20 0800 00 01 11 00 00000000
+unreadable '5 4 0' 'step 0 (fill): kind 6 is not within 0 to 5' \
+    "$edition" 20 0800 00 01 08 06 00000000
+unreadable '5 4 0' 'step 0 (fill): value 256 is not within 0 to 255' \
+    "$edition" 20 0800 00 01 08 00 00010000
+unreadable '5 15 0' 'step 1 (load): layout 0 is not given: the sheet has no layout' \
+    "$edition $fill $load"
+unreadable '5 34 0' 'step 1 (load): object 4 is not within 0 to 3' \
+    "$edition $layout $fill" 21 0800 00 04 00 FF 00000000
+unreadable '5 34 0' 'step 1 (load): view 0 is not given: the sheet has no view' \
+    "$edition $layout $fill" 21 0800 00 FF 00 00 00000000
+unreadable '5 34 0' 'step 1 (store): layout 1 is not 0' \
+    "$edition $layout $fill" 22 0700 00 01 FF 00000000
+unreadable '5 4 0' 'step 0 (reduce): mode 0 is not within 1 to 4' \
+    "$edition" 23 0600 01 00 01 01 00 00
+unreadable '5 4 0' 'step 0 (reduce): mode 5 is not within 1 to 4' \
+    "$edition" 23 0600 01 00 01 01 05 00
+unreadable '5 4 0' 'step 0 (reduce): combine 6 is not within 0 to 5' \
+    "$edition" 23 0600 01 00 01 01 03 06
+unreadable '5 4 0' 'step 0 (transpose): source 4 is not within 0 to 3' \
+    "$edition" 24 0200 01 04
+unreadable '5 4 0' 'step 0 (multiply-add): C 4 is not within 0 to 3' \
+    "$edition" 25 0400 03 00 01 04
 
-misstepped '7 0 0' "$edition $layout $load"
-misstepped '7 0 0' "$edition $layout $store"
-misstepped '7 1 0' "$edition $layout $fill" 21 0800 00 01 00 FF 00000000
-misstepped '7 1 0' "$edition $fill" 23 0600 00 01 01 01 03 00
-misstepped '7 1 0' "$edition $fill" 24 0200 00 03
-misstepped '7 1 0' "$edition $fill $multiply"
-misstepped '8 1 0' "$edition $fill" 23 0600 01 00 02 01 01 00
-misstepped '8 1 0' "$edition $fill" 23 0600 01 00 01 07 02 00
-misstepped '8 1 0' "$edition $fill" 23 0600 01 00 01 04 04 00
-misstepped '8 3 0' "$edition $fill $reduce $transpose" 25 0400 03 00 01 00
-misstepped '8 1 0' "$edition" 20 0800 00 01 01 03 00000000 25 0400 03 00 00 00
-misstepped '9 1 0' "$edition $layout $fill" 21 0800 00 FF 00 FF 08000000
-misstepped '9 1 0' "$edition $layout $fill" 22 0700 00 00 FF 01000000
+misstepped '7 0 0' 'load: register 0 is empty, and without an object the load starts from it' \
+    "$edition $layout $load"
+misstepped '7 0 0' 'store: register 0 is empty' \
+    "$edition $layout $store"
+misstepped '7 1 0' 'load: register 1 is empty' \
+    "$edition $layout $fill" 21 0800 00 01 00 FF 00000000
+misstepped '7 1 0' 'reduce: register 1 is empty' \
+    "$edition $fill" 23 0600 00 01 01 01 03 00
+misstepped '7 1 0' 'transpose: register 3 is empty' \
+    "$edition $fill" 24 0200 00 03
+misstepped '7 1 0' 'multiply-add: register 1 is empty' \
+    "$edition $fill $multiply"
+misstepped '8 1 0' "reduce: a result of 2x1 of register 0 (1x8 u8): the rows must be the source's" \
+    "$edition $fill" 23 0600 01 00 02 01 01 00
+misstepped '8 1 0' "reduce: a result of 1x7 of register 0 (1x8 u8): the columns must be the source's" \
+    "$edition $fill" 23 0600 01 00 01 07 02 00
+misstepped '8 1 0' "reduce: a result of 1x4 of register 0 (1x8 u8): rows and columns must be half the source's" \
+    "$edition $fill" 23 0600 01 00 01 04 04 00
+misstepped '8 3 0' 'multiply-add: A register 0 (1x8 u8), B register 1 (8x1 u8), C register 0 (1x8 u8): the sides must be MxK, KxN and MxN' \
+    "$edition $fill $reduce $transpose" 25 0400 03 00 01 00
+misstepped '8 1 0' 'multiply-add: A register 0 (1x1 s16), B register 0 (1x1 s16), C register 0 (1x1 s16): C must be u32 or s32' \
+    "$edition" 20 0800 00 01 01 03 00000000 25 0400 03 00 00 00
+misstepped '9 1 0' 'load: base 8 is not a multiple of 16' \
+    "$edition $layout $fill" 21 0800 00 FF 00 FF 08000000
+misstepped '9 1 0' 'store: base 1 is not a multiple of 16' \
+    "$edition $layout $fill" 22 0700 00 00 FF 01000000
 two='11 0C00 02 00 00 01 0000 FFFF 0000 FFFF'
-misstepped '10 1 0' "$edition $layout $two $fill" 21 0800 00 FF 00 00 00000000
+misstepped '10 1 0' 'load: view 0 has no dimensions of its own and permutes 2, layout 0 has 1' \
+    "$edition $layout $two $fill" 21 0800 00 FF 00 00 00000000
 blocks='10 1000 01 00 00000000 0200 0800 0100 0000 0800'
-misstepped '11 1 0' "$edition $blocks $fill $store"
+misstepped '11 1 0' 'store: layout 0, dimension 0: block 2 is above 1' \
+    "$edition $blocks $fill $store"
 wide='10 2E00 04 02 00000000 0100 0010 0000 0000 0010 0100 0010 0000 0000 0010
       0100 0010 0000 0000 0010 0100 0010 0000 0000 0010'
 outer_first='11 0E00 04 00 01 02 03 00 0000 FFFF 0000 FFFF'
-misstepped '12 1 1' "$edition $wide $outer_first $fill" 21 0800 00 FF 00 00 00000000
+misstepped '12 1 1' 'load: row 0, column 1: the index after the view is 68719476736, not below 4294967296' \
+    "$edition $wide $outer_first $fill" 21 0800 00 FF 00 00 00000000
 past='10 1000 01 00 00000000 0100 0400 0100 0000 0800'
-misstepped '13 1 4' "$edition $past $fill $load"
-misstepped '13 1 4' "$edition $past $fill $store"
-misstepped '14 1 0' "$edition $layout $fill" 21 0800 00 FF 00 FF 40000000
+misstepped '13 1 4' 'load: row 0, column 4: coordinate 4 of dimension 0 is not within 0 to 3, and the clamp mode is Undefined' \
+    "$edition $past $fill $load"
+misstepped '13 1 4' 'store: row 0, column 4: coordinate 4 of dimension 0 is not within 0 to 3, and the clamp mode is Undefined' \
+    "$edition $past $fill $store"
+misstepped '14 1 0' 'load: row 0, column 0: byte 64 does not lie in the memory of 64 bytes' \
+    "$edition $layout $fill" 21 0800 00 FF 00 FF 40000000
 far='10 1000 01 00 00000000 0100 0800 1500 0000 0800'
-misstepped '14 1 4' "$edition $far $fill $load"
-misstepped '14 2 4' "$edition $far $fill $fill $store"
+misstepped '14 1 4' 'load: row 0, column 4: byte 84 does not lie in the memory of 64 bytes' \
+    "$edition $far $fill $load"
+misstepped '14 2 4' 'store: row 0, column 4: byte 84 does not lie in the memory of 64 bytes' \
+    "$edition $far $fill $fill $store"
 round='10 1000 01 00 00000000 0100 0800 0100 0000 0400'
-misstepped '15 1 4' "$edition $round $fill $store"
+misstepped '15 1 4' 'store: row 0, column 4: byte 0 has element 0 already, row 0, column 0' \
+    "$edition $round $fill $store"
 
 # 16: as many records as a tape may have, then one more.
 zigzag='10 1000 01 04 00000000 0100 0200 0100 0000 0010'
@@ -358,7 +430,7 @@ cp stdout ran
 call 0 run sheet memory
 same 'the longest tape' stdout ran
 bytes sheet "$edition $zigzag $sixteen $seven $rest" 21 0800 02 00 00 FF 00000000
-refused_tape '16 0 0' tape sheet
+refused_tape '16 0 0' 'the tape has more than 1024 records' tape sheet
 call 0 run sheet memory
 
 # 17: each record out of range behind two good ones.
@@ -366,7 +438,8 @@ tape_refused() {
     wanted_place=$1
     shift
     printf '%s\n' '4 0 0 0 0 0' '1 0 0 8 0 1' "$@" > tape
-    refused "$wanted_place" run-tape sheet tape memory -o out
+    for record do :; done
+    refused "$wanted_place" "the record $record is out of range" run-tape sheet tape memory -o out
     absent out
 }
 # tape_accepted RECORD..
@@ -409,7 +482,7 @@ tape_accepted '1 0 7 1 63 65535'
 tape_accepted '2 0 7 1 63 -65535' '2 0 0 8 7 -1' '2 0 0 8 0 0'
 tape_accepted '3 0 0 8 255 0' '0 3 0 0 0 0' '4 3 0 0 0 0'
 { cat longest; echo '4 0 0 0 0 0'; } > tape
-refused '17 0 0' run-tape sheet tape memory
+refused '17 0 0' 'the tape has more than 1024 records' run-tape sheet tape memory
 
 # 18 comes before everything else.
 zeros memory 65536
@@ -420,11 +493,11 @@ zeros memory 65537
 : > tape
 for hex in "$edition $fill" 01; do
     bytes sheet "$hex"
-    refused '18 0 0' check sheet --memory 65537
-    refused '18 0 0' check sheet --memory 18446744073709551615
-    refused '18 0 0' run sheet memory -o out
-    refused '18 0 0' run-tape sheet tape memory -o out
-    refused_tape '18 0 0' tape sheet --memory 65537
+    refused '18 0 0' 'the memory is longer than 65536 bytes' check sheet --memory 65537
+    refused '18 0 0' 'the memory is longer than 65536 bytes' check sheet --memory 18446744073709551615
+    refused '18 0 0' 'the memory is longer than 65536 bytes' run sheet memory -o out
+    refused '18 0 0' 'the memory is longer than 65536 bytes' run-tape sheet tape memory -o out
+    refused_tape '18 0 0' 'the memory is longer than 65536 bytes' tape sheet --memory 65537
     absent out
 done
 
@@ -526,7 +599,7 @@ for words in '--memory 64' '--memory=64' '--memory 0x40' '--memory=0X40'; do
 done
 bytes far_sheet "$edition $layout $fill" 21 0800 00 FF 00 FF F0FF0000
 call 0 check far_sheet
-refused '14 1 7' check far_sheet --memory 65527
+refused '14 1 7' 'load: row 0, column 7: byte 65527 does not lie in the memory of 65527 bytes' check far_sheet --memory 65527
 cp sheet ./--help
 call 0 check -- --help
 rm ./--help
@@ -590,10 +663,12 @@ call 0 run-tape sheet tape memory
 call 0 run-tape sheet tape memory
 
 # Endless files: the answer is known after a part of them.
-refused '2 0 0' show /dev/zero
-refused '18 0 0' run sheet /dev/zero
+call 1 show /dev/zero
+refuses '2 0 0' 'tag 0x00 is none of 0x01, 0x10, 0x11, 0x20, 0x21, 0x22, 0x23, 0x24, 0x25'
+if [ "$(wc -l < stdout)" -eq 4 ]; then pass; else fail 'an endless sheet in words'; fi
+refused '18 0 0' 'the memory is longer than 65536 bytes' run sheet /dev/zero
 yes '4 0 0 0 0 0' 2> /dev/null | tool run-tape sheet - memory > stdout 2> stderr
-refuses 17 0 0
+refuses '17 0 0' 'the tape has more than 1024 records'
 
 # -- Standard input ------------------------------------------------------------------------------
 
@@ -629,8 +704,8 @@ call 0 run-tape sheet tape - -o out < memory
 same 'run-tape -, a memory' stdout expected_run
 same 'run-tape -, a memory: memory' out expected_out
 rm out
-refused '3 0 0' check - --memory 64 < /dev/null
-refused '14 1 0' run sheet - -o out < /dev/null
+refused '3 0 0' 'the sheet has no edition' check - --memory 64 < /dev/null
+refused '14 1 0' 'store: row 0, column 0: byte 0 does not lie in the memory of 0 bytes' run sheet - -o out < /dev/null
 call 3 run-tape sheet - memory -o out < help
 silent
 says 'moonbleat: -: line 1 is no record of six 32-bit numbers'
@@ -648,13 +723,13 @@ same 'a file named -' stdout expected_show
 bytes refused_sheet "$edition $layout $load"
 zeros old 100
 cp old out
-refused '7 0 0' run refused_sheet memory -o out
+refused '7 0 0' 'load: register 0 is empty, and without an object the load starts from it' run refused_sheet memory -o out
 same 'an output file after a refusal' out old
 echo '4 1 0 0 0 0' > refused_tape
-refused '17 0 0' run-tape sheet refused_tape memory -o out
+refused '17 0 0' 'the record 4 1 0 0 0 0 is out of range' run-tape sheet refused_tape memory -o out
 same 'an output file after a refused tape' out old
 zeros long_memory 65537
-refused '18 0 0' run sheet long_memory -o out
+refused '18 0 0' 'the memory is longer than 65536 bytes' run sheet long_memory -o out
 same 'an output file after too long a memory' out old
 
 # Success replaces it by all of the memory, and leaves nothing else. The memory's own file stays.
@@ -789,7 +864,7 @@ view 0: 1 dimension, of its own, permutation 0
 step 0: fill register 0, 1 by 8 of u8, with 0
 step 1: load register 1, object register 0, layout 0, view 0, base 16
 step 2: store register 1, layout 0, view 0, base 32
-step 3: reduce register 0 to register 1, 1 by 1: all elements by add
+step 3: reduce register 0 to register 1, 1 by 1, mode both, combine add
 step 4: transpose register 0 to register 1
 step 5: multiply registers 0 and 1, add register 2, to register 3
 END

@@ -1,0 +1,97 @@
+#include "sheet_text.h"
+
+#include <inttypes.h>
+#include <stdbool.h>
+
+#include "fields.h"
+#include "judge.h"
+#include "kinds.h"
+#include "moonbleat.h"
+
+/* Prints a number as the text form has it, without its keyword. */
+static void print_number(FILE *file, const struct value *value, uint32_t kind)
+{
+    const struct number_form *form = value->form;
+    switch (form->sort) {
+    case RESULT:
+    case REGISTER:
+    case OBJECT:
+        fprintf(file, " r%" PRIu32, value->raw);
+        break;
+    case LAYOUT:
+    case VIEW:
+        fprintf(file, " %s%" PRIu32, rank_forms[form->sort == LAYOUT ? LAYOUT_RANK : VIEW_RANK].label, value->raw);
+        break;
+    case COLUMNS:
+        fprintf(file, "x%" PRIu32, value->raw);
+        break;
+    case MODE:
+    case KIND:
+        fprintf(file, " %s", form->name_of(value->raw));
+        break;
+    case VALUE:
+        fprintf(file, " %" PRId64, element_value(kind, value->raw));
+        break;
+    default:
+        fprintf(file, " %" PRId64, number_of(form, value->raw));
+        break;
+    }
+}
+
+/* Whether a number is left out: asm computes it, or it says none. */
+static bool is_left_out(const struct value *value)
+{
+    enum sort sort = value->form->sort;
+    return sort == COUNT || sort == SIZED || (value->form->may_lack && value->raw == MOONBLEAT_NONE &&
+                                              value->form->lacking == MOONBLEAT_NONE);
+}
+
+static void print_field(FILE *file, const struct field *field, unsigned number)
+{
+    const struct rank_form *rank = &rank_forms[field->form->rank];
+    fputs(field->form->name, file);
+    if (rank->label != NULL) {
+        fprintf(file, " %s%u", rank->label, number);
+    }
+    struct values values;
+    field_values(field, &values);
+    for (size_t i = 0; i < values.count; i++) {
+        const struct value *value = &values.at[i];
+        const struct part_form *part = &field->form->parts[value->part];
+        bool first = value->form == part->numbers;
+        if (part->word != NULL && first) {
+            fprintf(file, "\n  %s", part->word);
+        }
+        if (is_left_out(value)) {
+            continue;
+        }
+        bool is_listed = value->form->sort == PERMUTED && value->dimension > 0;
+        if (value->form->keyword != NULL && !is_listed) {
+            fprintf(file, " %s", value->form->keyword);
+        }
+        print_number(file, value, value_of_sort(&values, KIND));
+    }
+    fputc('\n', file);
+}
+
+static void print_bytes(FILE *file, const uint8_t *bytes, size_t len)
+{
+    enum { ON_A_LINE = 32 };
+    for (size_t i = 0; i < len; i++) {
+        fprintf(file, "%s %02X", i % ON_A_LINE == 0 ? "bytes" : "", (unsigned)bytes[i]);
+        if (i + 1 == len || (i + 1) % ON_A_LINE == 0) {
+            fputc('\n', file);
+        }
+    }
+}
+
+void print_sheet_text(FILE *file, const uint8_t *sheet, size_t sheet_len, size_t readable)
+{
+    struct reading reading = {{0}, EDITION_RANK};
+    struct field field;
+    for (size_t at = 0; field_at(sheet, readable, at, &field); at = field_end(&field)) {
+        print_field(file, &field, reading.counts[field.form->rank]);
+        note_field(&reading, field.form);
+    }
+    print_bytes(file, sheet + readable, sheet_len - readable);
+}
