@@ -4,11 +4,16 @@
 #   make            the tool, the examples and unhex, in target/tool/
 #   make demo       print the tape of strip 4 and carry it out
 #   make archive    the library, target/staticlib/libmoonbleat.a
-#   make test       run the tool's tests
+#   make install    the tool, the library, its header, manual page and completion, below PREFIX
+#   make uninstall  take them away again
+#   make dist       the sources of the last commit, target/moonbleat-VERSION.tar.gz
+#   make test       run the tests of the tool, of the header's promises and of an installed library
+#   make text-test  try the text form and the diagnoses, with sanitizers: on all sheets of the
+#                   comparison, and on TEXTS damaged texts
 #   make compare    hold the archive to the second implementation; SHEETS=n SEED=n for other sheets
 #   make bench      time the archive beside it
 #   make lint       cppcheck, warnings as errors, and the header as C++
-#   make check      lint, test and compare: all but the proofs
+#   make check      lint, test, text-test and compare: all but the proofs
 #   make memcheck   the tool's tests with sanitizers, then with each third call under valgrind (all
 #                   of them would take six minutes), then 1,000 sheets of the comparison under it:
 #                   some two minutes
@@ -20,22 +25,33 @@ TOOL = target/tool
 ARCHIVE = target/staticlib/libmoonbleat.a
 SHEETS = 20000
 SEED = 1
+TEXTS = 30000
+
+PREFIX = /usr/local
+BINDIR = $(PREFIX)/bin
+LIBDIR = $(PREFIX)/lib
+INCLUDEDIR = $(PREFIX)/include
+MANDIR = $(PREFIX)/share/man/man1
+COMPLETIONDIR = $(PREFIX)/share/bash-completion/completions
 
 CFLAGS = -O2 -g
 WARNINGS = -std=c11 -Wall -Wextra -Wpedantic -Werror
 SANITIZE = -fsanitize=address,undefined -fno-sanitize-recover=all
 VALGRIND = valgrind -q --vgdb=no --error-exitcode=99
 LEAKS = --leak-check=full --show-leak-kinds=all --errors-for-leak-kinds=all
+COMPILE = $(CC) $(WARNINGS) $(CFLAGS) -Iinclude -Iharness
+
 HEADERS = include/moonbleat.h $(wildcard harness/*.h)
-PROGRAMS = harness/example.c harness/unhex.c
-TOOL_SOURCES = $(filter-out $(PROGRAMS),$(wildcard harness/*.c))
+PROGRAMS = harness/example.c harness/unhex.c harness/moonbleat.c
+OBJECTS = $(patsubst harness/%.c,$(TOOL)/%.o,$(filter-out $(PROGRAMS),$(wildcard harness/*.c)))
+VERSION = $(shell sed -n 's/^.define MOONBLEAT_VERSION_[A-Z]* //p' include/moonbleat.h | paste -s -d. -)
 
 # Cargo needs no network, writes to target/ alone, and links the archive by its absolute path.
 CARGO = CARGO_HOME='$(abspath target/cargo)' CARGO_TARGET_DIR='$(abspath target/compare)' \
 	MOONBLEAT_ARCHIVE='$(abspath $(ARCHIVE))' cargo
 CARGO_WORDS = --quiet --release --locked --offline --manifest-path compare/Cargo.toml
 
-all: $(TOOL)/moonbleat $(TOOL)/example $(TOOL)/readme $(TOOL)/unhex
+all: $(addprefix $(TOOL)/,moonbleat example readme unhex)
 
 # rt keeps what it has proved; the time stamp tells make that it looked.
 target/staticlib/libmoonbleat.a: crates.txt $(shell find crates -name '*.rt' -o -name '*.antt')
@@ -47,37 +63,58 @@ archive: target/staticlib/libmoonbleat.a
 $(TOOL):
 	mkdir -p $@
 
-$(TOOL)/moonbleat: $(TOOL_SOURCES) $(HEADERS) $(ARCHIVE) | $(TOOL)
-	$(CC) $(WARNINGS) $(CFLAGS) -Iinclude $(TOOL_SOURCES) $(ARCHIVE) $(LDLIBS) -o $@
+$(TOOL)/%.o: harness/%.c $(HEADERS) | $(TOOL)
+	$(COMPILE) -c $< -o $@
+
+$(TOOL)/moonbleat: harness/moonbleat.c $(OBJECTS) $(ARCHIVE)
+	$(COMPILE) $^ $(LDLIBS) -o $@
 
 $(TOOL)/example: harness/example.c include/moonbleat.h $(ARCHIVE) | $(TOOL)
-	$(CC) $(WARNINGS) $(CFLAGS) -Iinclude harness/example.c $(ARCHIVE) $(LDLIBS) -o $@
+	$(COMPILE) harness/example.c $(ARCHIVE) $(LDLIBS) -o $@
 
 # The lines of C that README.md shows.
 $(TOOL)/readme: README.md include/moonbleat.h $(ARCHIVE) | $(TOOL)
 	sed -n '/^```c$$/,/^```$$/{/^```/!p;}' README.md > $@.c
-	$(CC) $(WARNINGS) $(CFLAGS) -Iinclude $@.c $(ARCHIVE) $(LDLIBS) -o $@
+	$(COMPILE) $@.c $(ARCHIVE) $(LDLIBS) -o $@
 
 $(TOOL)/unhex: harness/unhex.c | $(TOOL)
-	$(CC) $(WARNINGS) $(CFLAGS) harness/unhex.c -o $@
+	$(COMPILE) harness/unhex.c -o $@
+
+$(TOOL)/test-%: tests/%.c $(OBJECTS) $(ARCHIVE)
+	$(COMPILE) $^ $(LDLIBS) -o $@
 
 demo: all
-	@$(TOOL)/unhex < strips/04-mirror-repeat/sheet.hex > $(TOOL)/strip4.sheet
-	@$(TOOL)/unhex < strips/04-mirror-repeat/memory.hex > $(TOOL)/strip4.memory
 	@echo '-- the sheet'
-	@$(TOOL)/moonbleat show $(TOOL)/strip4.sheet
+	@cat strips/04-mirror-repeat/sheet.txt
+	@$(TOOL)/moonbleat asm strips/04-mirror-repeat/sheet.txt -o $(TOOL)/strip4.sheet
+	@$(TOOL)/unhex < strips/04-mirror-repeat/memory.hex > $(TOOL)/strip4.memory
 	@echo '-- its tape'
 	@$(TOOL)/moonbleat tape $(TOOL)/strip4.sheet
 	@echo '-- carried out on a memory whose byte i holds i'
 	@$(TOOL)/moonbleat run $(TOOL)/strip4.sheet $(TOOL)/strip4.memory
 
-test: all
+test: all $(TOOL)/test-null $(TOOL)/test-stack target/sheets
 	tests/tool.sh $(TOOL)
+	$(TOOL)/test-null
+	$(TOOL)/test-stack target/sheets/00???-*.sheet
 
 memcheck: all
 	$(MAKE) TOOL=target/sanitized CFLAGS='$(CFLAGS) $(SANITIZE)' test
 	RUNNER='$(VALGRIND) $(LEAKS)' EVERY=3 tests/tool.sh $(TOOL)
 	CARGO_TARGET_X86_64_UNKNOWN_LINUX_GNU_RUNNER='$(VALGRIND)' $(CARGO) run $(CARGO_WORDS) -- --sheets 1000
+
+# The sheets of the comparison as files.
+target/sheets: $(ARCHIVE) $(wildcard compare/src/*.rs compare/src/reference/*.rs)
+	rm -rf $@
+	mkdir -p $@
+	$(CARGO) run $(CARGO_WORDS) -- dump $@ --sheets $(SHEETS) --seed $(SEED)
+
+text-test: target/sheets
+	$(MAKE) TOOL=target/sanitized CFLAGS='$(CFLAGS) $(SANITIZE)' \
+		$(addprefix target/sanitized/test-,sheets fuzz_text null)
+	target/sanitized/test-null
+	target/sanitized/test-sheets target/sheets
+	target/sanitized/test-fuzz_text $(TEXTS) strips/*/sheet.txt
 
 compare: $(ARCHIVE)
 	$(CARGO) test $(CARGO_WORDS) --lib
@@ -88,13 +125,13 @@ bench: $(ARCHIVE)
 
 lint:
 	cppcheck --quiet --std=c11 --enable=warning,style,performance,portability --inconclusive \
-		--error-exitcode=1 --suppress=missingIncludeSystem -Iinclude harness
-	$(CC) $(WARNINGS) -Wshadow -Wconversion -Wstrict-prototypes -Iinclude -fsyntax-only harness/*.c
+		--error-exitcode=1 --suppress=missingIncludeSystem -Iinclude -Iharness harness tests
+	$(CC) $(WARNINGS) -Wshadow -Wconversion -Wstrict-prototypes -Iinclude -Iharness -fsyntax-only harness/*.c tests/*.c
 	$(CC) -x c++ -std=c++11 -Wall -Wextra -Wpedantic -Werror -fsyntax-only include/moonbleat.h
 
-check: lint test compare
+check: lint test text-test compare
 
 clean:
-	rm -rf $(TOOL) target/sanitized target/cargo target/compare
+	rm -rf $(TOOL) target/sanitized target/cargo target/compare target/sheets
 
-.PHONY: all archive demo test memcheck compare bench lint check clean
+.PHONY: all archive demo test text-test memcheck compare bench lint check clean

@@ -94,6 +94,7 @@ extern "C" {
 #define MOONBLEAT_TAPE_NUMBERS 6144       /* numbers of the longest tape */
 #define MOONBLEAT_COUNTS 3                /* layouts, views, steps */
 #define MOONBLEAT_ANSWER 4                /* number, place, second place, byte-elements */
+#define MOONBLEAT_STACK 32768             /* bytes of stack that no call exceeds */
 
 /* Places in an answer. */
 enum {
