@@ -7,7 +7,8 @@
 #   make install    the tool, the library, its header, manual page and completion, below PREFIX
 #   make uninstall  take them away again
 #   make dist       the sources of the last commit, target/moonbleat-VERSION.tar.gz
-#   make test       run the tests of the tool, of the header's promises and of an installed library
+#   make tool-test  run the tool's tests
+#   make test       these, those of the header's promises, and those of an installed library
 #   make text-test  try the text form and the diagnoses, with sanitizers: on all sheets of the
 #                   comparison, and on TEXTS damaged texts
 #   make compare    hold the archive to the second implementation; SHEETS=n SEED=n for other sheets
@@ -36,7 +37,7 @@ COMPLETIONDIR = $(PREFIX)/share/bash-completion/completions
 
 CFLAGS = -O2 -g
 WARNINGS = -std=c11 -Wall -Wextra -Wpedantic -Werror
-SANITIZE = -fsanitize=address,undefined -fno-sanitize-recover=all
+SANITIZED = TOOL=target/sanitized CFLAGS='$(CFLAGS) -fsanitize=address,undefined -fno-sanitize-recover=all'
 VALGRIND = valgrind -q --vgdb=no --error-exitcode=99
 LEAKS = --leak-check=full --show-leak-kinds=all --errors-for-leak-kinds=all
 COMPILE = $(CC) $(WARNINGS) $(CFLAGS) -Iinclude -Iharness
@@ -55,8 +56,9 @@ all: $(addprefix $(TOOL)/,moonbleat example readme unhex)
 
 # rt keeps what it has proved; the time stamp tells make that it looked.
 target/staticlib/libmoonbleat.a: crates.txt $(shell find crates -name '*.rt' -o -name '*.antt')
-	rt staticlib moonbleat
-	touch $@
+	@echo 'proving the library, some minutes the first time'
+	@bash -o pipefail -c 'rt staticlib moonbleat 2>&1 | awk -f harness/progress.awk crates.txt -'
+	@touch $@
 
 archive: target/staticlib/libmoonbleat.a
 
@@ -83,6 +85,32 @@ $(TOOL)/unhex: harness/unhex.c | $(TOOL)
 $(TOOL)/test-%: tests/%.c $(OBJECTS) $(ARCHIVE)
 	$(COMPILE) $^ $(LDLIBS) -o $@
 
+# Help and manual page have one source, the tool itself.
+$(TOOL)/moonbleat.1: $(TOOL)/moonbleat
+	$< help --man > $@
+
+$(TOOL)/moonbleat.pc: harness/moonbleat.pc.in include/moonbleat.h FORCE | $(TOOL)
+	sed -e 's|@PREFIX@|$(PREFIX)|' -e 's|@INCLUDEDIR@|$(INCLUDEDIR)|' -e 's|@LIBDIR@|$(LIBDIR)|' \
+		-e 's|@VERSION@|$(VERSION)|' $< > $@
+
+# What install puts there and uninstall takes away.
+INSTALLED = $(BINDIR)/moonbleat $(LIBDIR)/libmoonbleat.a $(LIBDIR)/pkgconfig/moonbleat.pc \
+	$(INCLUDEDIR)/moonbleat.h $(MANDIR)/moonbleat.1 $(COMPLETIONDIR)/moonbleat
+
+install: all $(TOOL)/moonbleat.1 $(TOOL)/moonbleat.pc
+	install -D -m 755 $(TOOL)/moonbleat '$(DESTDIR)$(BINDIR)/moonbleat'
+	install -D -m 644 $(ARCHIVE) '$(DESTDIR)$(LIBDIR)/libmoonbleat.a'
+	install -D -m 644 $(TOOL)/moonbleat.pc '$(DESTDIR)$(LIBDIR)/pkgconfig/moonbleat.pc'
+	install -D -m 644 include/moonbleat.h '$(DESTDIR)$(INCLUDEDIR)/moonbleat.h'
+	install -D -m 644 $(TOOL)/moonbleat.1 '$(DESTDIR)$(MANDIR)/moonbleat.1'
+	install -D -m 644 harness/completion.bash '$(DESTDIR)$(COMPLETIONDIR)/moonbleat'
+
+uninstall:
+	for file in $(INSTALLED); do rm -f '$(DESTDIR)'"$$file"; done
+
+dist:
+	git archive --format=tar.gz --prefix=moonbleat-$(VERSION)/ -o target/moonbleat-$(VERSION).tar.gz HEAD
+
 demo: all
 	@echo '-- the sheet'
 	@cat strips/04-mirror-repeat/sheet.txt
@@ -93,13 +121,16 @@ demo: all
 	@echo '-- carried out on a memory whose byte i holds i'
 	@$(TOOL)/moonbleat run $(TOOL)/strip4.sheet $(TOOL)/strip4.memory
 
-test: all $(TOOL)/test-null $(TOOL)/test-stack target/sheets
+tool-test: all
 	tests/tool.sh $(TOOL)
+
+test: tool-test $(TOOL)/test-null $(TOOL)/test-stack target/sheets
 	$(TOOL)/test-null
 	$(TOOL)/test-stack target/sheets/00???-*.sheet
+	tests/install.sh
 
 memcheck: all
-	$(MAKE) TOOL=target/sanitized CFLAGS='$(CFLAGS) $(SANITIZE)' test
+	$(MAKE) $(SANITIZED) tool-test
 	RUNNER='$(VALGRIND) $(LEAKS)' EVERY=3 tests/tool.sh $(TOOL)
 	CARGO_TARGET_X86_64_UNKNOWN_LINUX_GNU_RUNNER='$(VALGRIND)' $(CARGO) run $(CARGO_WORDS) -- --sheets 1000
 
@@ -110,8 +141,7 @@ target/sheets: $(ARCHIVE) $(wildcard compare/src/*.rs compare/src/reference/*.rs
 	$(CARGO) run $(CARGO_WORDS) -- dump $@ --sheets $(SHEETS) --seed $(SEED)
 
 text-test: target/sheets
-	$(MAKE) TOOL=target/sanitized CFLAGS='$(CFLAGS) $(SANITIZE)' \
-		$(addprefix target/sanitized/test-,sheets fuzz_text null)
+	$(MAKE) $(SANITIZED) $(addprefix target/sanitized/test-,sheets fuzz_text null)
 	target/sanitized/test-null
 	target/sanitized/test-sheets target/sheets
 	target/sanitized/test-fuzz_text $(TEXTS) strips/*/sheet.txt
@@ -134,4 +164,6 @@ check: lint test text-test compare
 clean:
 	rm -rf $(TOOL) target/sanitized target/cargo target/compare target/sheets
 
-.PHONY: all archive demo test text-test memcheck compare bench lint check clean
+FORCE:
+
+.PHONY: all archive install uninstall dist demo tool-test test text-test memcheck compare bench lint check clean FORCE

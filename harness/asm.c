@@ -333,11 +333,26 @@ static uint32_t judged(struct assembler *assembler, const struct number_form *fo
     return bits_of(form, number, kind);
 }
 
-/* Takes the next word as a number; 0 where it is none. */
-static uint32_t take_number(struct assembler *assembler, const struct number_form *form, uint32_t kind)
+/* Whether a word stands before a later number of a part. */
+static bool is_later_keyword(const struct part_form *part, const struct number_form *form, struct token token)
 {
-    struct token token = take(assembler);
+    for (const struct number_form *later = form + 1; later < part->numbers + part->count; later++) {
+        if (later->keyword != NULL && is_word(token, later->keyword)) {
+            return true;
+        }
+    }
+    return false;
+}
+
+/* Takes the next word as a number; 0 where it is none. */
+static uint32_t take_number(struct assembler *assembler, const struct part_form *part, const struct number_form *form,
+                            uint32_t kind)
+{
+    struct token token = peek(assembler);
     int64_t number = 0;
+    if (!is_later_keyword(part, form, token)) {
+        take(assembler);
+    }
     if (!parse_word(form, token, &number)) {
         struct text expected = {.len = 0};
         add_expected(&expected, form);
@@ -433,7 +448,7 @@ static void take_part(struct assembler *assembler, const struct part_form *form,
         bool computed = number->sort == COUNT || number->sort == SIZED;
         if (!computed) {
             given = is_given(assembler, number, given);
-            bits = given ? take_number(assembler, number, kind) : bits;
+            bits = given ? take_number(assembler, form, number, kind) : bits;
         }
         kind = number->sort == KIND ? bits : kind;
         put_number(part, bits, number->width);
@@ -446,7 +461,7 @@ static void take_list(struct assembler *assembler, const struct part_form *form,
 {
     take_keyword(assembler, &form->numbers[0]);
     do {
-        put_number(part, take_number(assembler, &form->numbers[0], 0), form->numbers[0].width);
+        put_number(part, take_number(assembler, form, &form->numbers[0], 0), form->numbers[0].width);
         part->times++;
     } while (peek(assembler).len > 0 && part->times < DIMENSIONS_MAX);
 }
@@ -752,7 +767,7 @@ static void judge_sheet(struct assembler *assembler)
         add_text(&sentence, HEAD_CUT_SENTENCE, sheet->len - at);
         report_at(assembler, &assembler->origins[assembler->origin_count - 1], &sentence);
     } else if (reading.counts[EDITION_RANK] == 0) {
-        const struct origin end = {at, assembler->line, 1, false};
+        const struct origin end = {at, assembler->line == 0 ? 1 : assembler->line, 1, false};
         add_text(&sentence, NO_EDITION_SENTENCE);
         report_at(assembler, &end, &sentence);
     }

@@ -1,4 +1,5 @@
 /* run and run-tape: a sheet or a tape carried out on a memory. */
+#include <stdio.h>
 #include <stdlib.h>
 
 #include "answers.h"
@@ -83,6 +84,9 @@ static int do_run_tape(const struct request *request)
     int status = FAILED;
     if (read_tape(request->files[1], &tape)) {
         status = carry_out_or_run(&run_tape_command, request, &sheet, &tape, request->files[2]);
+    }
+    if (status == DONE && tape.records == 0) {
+        fprintf(stderr, "moonbleat: %s: warning: the tape is empty\n", request->files[1]);
     }
     free(sheet.at);
     return status;

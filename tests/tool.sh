@@ -661,6 +661,7 @@ printf '4  0 0\t0 0 0 \r\n1 0 0 8 0 1' > tape
 call 0 run-tape sheet tape memory
 : > tape
 call 0 run-tape sheet tape memory
+says 'moonbleat: tape: warning: the tape is empty'
 
 # Endless files: the answer is known after a part of them.
 call 1 show /dev/zero
@@ -869,6 +870,202 @@ step 4: transpose register 0 to register 1
 step 5: multiply registers 0 and 1, add register 2, to register 3
 END
 same 'a sheet in words' stdout expected
+
+# A refused sheet, as far as it makes sense, with a mark behind the field; the fields behind it may be
+# right.
+bytes sheet "$edition" 10 1000 01 04 00000000 0100 0000 0100 0000 0800 "$fill" 12 0200 0102 0304
+call 1 show sheet
+cat > expected << 'END'
+sheet: 41 bytes, refused
+edition 1
+layout 0: 1 dimension, clamp mode MirrorRepeat, clamp value 0
+  dimension 0: block 1, size 0, stride 1, offset 0, span 8
+^ refusal 5 at byte 4: layout 0, dimension 0: size 0 is not within 1 to 4096
+step 0: fill register 0, 1 by 8 of u8, with 0
+7 more bytes
+END
+same 'a refused sheet in words' stdout expected
+bytes sheet "$edition" 12 0200 0102 20 0800 09 01 08 07 000000
+call 1 show sheet
+cat > expected << 'END'
+sheet: 19 bytes, refused
+edition 1
+field 0x12, 2 bytes: 01 02
+^ refusal 2 at byte 4: tag 0x12 is none of 0x01, 0x10, 0x11, 0x20, 0x21, 0x22, 0x23, 0x24, 0x25
+step 0: fill register 9, 1 by 8 of 7, with ?
+END
+same 'an unknown field in words' stdout expected
+bytes sheet "$edition" 20 08
+call 1 show sheet
+cat > expected << 'END'
+sheet: 6 bytes, refused
+edition 1
+2 bytes: 20 08
+^ refusal 1 at byte 4: a field's head has 3 bytes, the sheet ends after 2
+END
+same 'a cut head in words' stdout expected
+
+# -- The text form -------------------------------------------------------------------------------
+
+# assembles TEXT HEX..: the text must give these bytes, and these bytes come back from their text.
+assembles() {
+    printf '%b' "$1" > text
+    shift
+    call 0 asm text -o sheet
+    bytes expected "$@"
+    same 'a sheet of a text' sheet expected
+    call 0 show --asm sheet
+    cp stdout text
+    call 0 asm text -o again
+    same 'a sheet of its own text' again expected
+}
+
+# misspelt TEXT LINE..: the text has these errors, and nothing is written.
+misspelt() {
+    printf '%b' "$1" > text
+    shift
+    rm -f out
+    call 3 asm text -o out
+    silent
+    printf '%s\n' "$@" > expected
+    same 'the errors of a text' stderr expected
+    absent out
+}
+
+head='edition 1\nlayout L0 Repeat\n  dim size 8 stride 1 span 8\n'
+repeat='10 1000 01 03 00000000 0100 0800 0100 0000 0800'
+assembles 'edition 1' "$edition"
+assembles 'edition 0x1 # comment\n\n\t# another\r\n' "$edition"
+assembles "$head" "$edition $repeat"
+assembles 'edition 1\nlayout L0 Constant value 0x09\ndim block 2 size 4096 stride 65535 offset -4096 span 1\n' \
+    "$edition" 10 1000 01 01 09000000 0200 0010 FFFF 00F0 0100
+assembles "${head}view V0 permutation 0\n" "$edition $repeat $view"
+assembles "${head}view V0 permutation 0\n  dim size 8 stride 1\n  clip rows 0 65535 columns 0 65535\n" \
+    "$edition $repeat $own_view"
+assembles "${head}view V0 permutation 1 0\n  clip columns 2 3\n  dim size 8 stride 1\n  dim size 9 stride 2\n" \
+    "$edition $repeat" 11 1400 02 01 01 00 0800 0100 0900 0200 0000 FFFF 0200 0300
+assembles "${head}fill r3 16x1 s8 -1\nfill r0 1x1 s32 -2147483648\nfill r0 1x1 s16 65535\n" \
+    "$edition $repeat" 20 0800 03 10 01 01 FF000000 20 0800 00 01 01 05 00000080 20 0800 00 01 01 03 FFFF0000
+assembles "${head}load r1 object r0 L0 base 0x10\nload r1 L0 base 0\nload r1 object none L0 none base 0\n" \
+    "$edition $repeat" 21 0800 01 00 00 FF 10000000 21 0800 01 FF 00 FF 00000000 21 0800 01 FF 00 FF 00000000
+assembles "${head}view V0 permutation 0\nstore r0 L0 V0 base 4294967295\nreduce r1 of r2 3x4 2x2 xor\n" \
+    "$edition $repeat $view" 22 0700 00 00 00 FFFFFFFF 23 0600 01 02 03 04 04 05
+assembles 'edition 1\ntranspose r1 of r0\nmultiply-add r3 A r0 B r1 C r2\n' "$edition $transpose $multiply"
+assembles 'bytes 01 0100 01\nbytes 20\nbytes 080000010800 00000000' "$edition $fill"
+
+misspelt '' 'text:1:1: the sheet has no edition'
+misspelt 'fill r0 1x8 u8 0\n' 'text:1:1: step 0 (fill) comes before the edition' 'text:1:1: the sheet has no edition'
+misspelt 'edition 2\n' 'text:1:9: edition 2 is not 1'
+misspelt 'edition 1 1\nedition 1\n' "text:1:11: expected the end of the line, not '1'" \
+    'text:2:1: edition is repeated'
+misspelt 'edition\n' 'text:1:8: expected the edition, a number'
+misspelt 'edition 99999999999999999999\n' \
+    "text:1:9: expected the edition, a number, not '99999999999999999999'"
+misspelt 'edition 1\n\tlayout L0 Mirror value x\n\tdim block 0 size 4 stride 1 ofset 2 span 9999\n' \
+    "text:2:12: expected the clamp mode: Undefined or Constant or ClampToEdge or Repeat or MirrorRepeat, not 'Mirror'" \
+    "text:2:25: expected the clamp value, a number, not 'x'" \
+    'text:3:12: block 0 is not within 1 to 4096' \
+    "text:3:30: expected 'span' and a number, not 'ofset'" \
+    'text:3:43: span 9999 is not within 1 to 4096'
+misspelt 'edition 1\nlayout L1 Repeat\n' "text:2:8: expected 'L0', this layout's name, not 'L1'"
+misspelt 'edition 1\nlayout L0 Repeat\n' 'text:2:1: the layout has no dimensions'
+misspelt "$head  dim size 8\n" "text:4:13: expected 'stride' and a number"
+misspelt "${head}view V0 permutation 0 0\nview V1 permutation 2 0\n" \
+    'text:4:1: view 0: permutation 0 0 does not name each of 0 to 1 once' \
+    'text:5:1: view 1: permutation 2 0 does not name each of 0 to 1 once'
+misspelt "${head}view V0 permutation 0\ndim size 1 stride 1\ndim size 1 stride 1\n" \
+    'text:4:1: the view permutes 1 dimensions and has 2 of its own'
+misspelt "${head}view V0 permutation 0\nclip rows 0\nclip\n" 'text:5:12: expected the row span, a number' \
+    "text:6:1: a view has at most 1 'clip'"
+misspelt "${head}fill r9 0x99 u8 256\nfill r0 1x1 s8 -129\nfill r0 8 u8 1\n" \
+    'text:4:6: register 9 is not within 0 to 3' 'text:4:9: rows 0 is not within 1 to 16' \
+    'text:4:11: columns 99 is not within 1 to 16' 'text:4:17: value 256 is not within 0 to 255' \
+    'text:5:16: value -129 is not within -128 to 255' "text:6:9: expected rows and columns as 1x8, not '8'"
+misspelt "${head}load 1 object r7 L1 V0 base -1\nstore r1 base 0" \
+    "text:4:6: expected the register as r0, not '1'" 'text:4:15: object 7 is not within 0 to 3' \
+    'text:4:18: layout 1 is not 0' 'text:4:21: view 0 is not given: the sheet has no view' \
+    'text:4:29: base -1 is not within 0 to 4294967295' "text:5:10: expected the layout as L0, not 'base'"
+misspelt "${head}fill r0 1x1 u8 0\nlayout L1 Repeat\ndim size 1 stride 1 span 1\n" \
+    'text:5:1: layout 1 comes after a step'
+misspelt 'edition 1\nfrob r0\ndim size 1\nfill r0 1x1 u8 0\ndim size 1\n' "text:2:1: 'frob' begins no field" \
+    "text:5:1: 'dim' does not belong to the field before it"
+misspelt 'bytes 0g\nbytes 0\nbytes 01 0200 01\n' "text:1:7: expected pairs of hex digits, not '0g'" \
+    "text:2:7: expected pairs of hex digits, not '0'" \
+    'text:3:1: edition: length 2 runs past the end of the sheet by 1'
+misspelt 'edition 1\nallow refused\n' "text:2:1: 'allow refused' stands before the first field, not 'allow'"
+misspelt 'allow\n' 'text:1:1: the sheet has no edition' "text:1:6: expected 'refused'"
+# Many errors: all are counted, the first ten printed.
+{ echo 'edition 1'; yes 'fill r4 1x1 u8 0' | head -n 40; } > text
+call 3 asm text -o out
+{
+    for line in 2 3 4 5 6 7 8 9 10 11; do echo "text:$line:6: register 4 is not within 0 to 3"; done
+    echo 'text: 40 errors, the first 10 are printed'
+} > expected
+same 'many errors' stderr expected
+
+# What the library refuses is written where the text allows it, with a warning.
+printf 'allow refused\nlayout L0 7\n  dim size 0 stride 1 span 5000\nfill r9 0x200 9 1\nbytes 77\n' > text
+call 0 asm text -o sheet
+says 'text: warning: refusal 3 at byte 0: layout 0 comes before the edition'
+bytes expected 10 1000 01 07 00000000 0100 0000 0100 0000 8813 20 0800 09 00 C8 09 01000000 77
+same 'a refused sheet of a text' sheet expected
+call 1 show --asm sheet
+cp stdout text
+call 0 asm text -o again
+same 'a refused sheet of its own text' again expected
+misspelt 'allow refused\nfill r256 1x1 u8 0\n' 'text:2:6: register 256 is not within 0 to 255'
+
+# Standard input and output, and texts that are too long.
+printf 'edition 1\n' > text
+call 0 asm - -o - < text
+bytes expected "$edition"
+same 'asm - -o -' stdout expected
+yes '# comment' | head -c 1048577 > text
+broken 'text: longer than 1048576 bytes' asm text -o out
+wrong 'asm needs -o OUT' asm text
+wrong 'show prints one of --asm and --json' show --asm --json text
+
+# -- JSON ----------------------------------------------------------------------------------------
+
+# json TEXT WORD..: standard output must be one object on one line in which the filter is true, and
+# standard error empty.
+json() {
+    filter=$1
+    shift
+    "$@" --json
+    if [ "$(wc -l < stdout)" -eq 1 ] && [ ! -s stderr ] && jq -e "$filter" < stdout > answer 2>&1; then
+        pass
+    else
+        fail "$*: not so in JSON: $filter: $(head -c 300 stdout)"
+    fi
+}
+
+bytes sheet "$edition $layout $own_view $fill" 21 0800 00 FF 00 00 10000000 22 0700 00 00 FF 20000000
+json '.command == "check" and .accepted and .refusal == null and .memory == 64 and .byte_elements == 16' \
+    call 0 check sheet --memory 64
+json '.refusal == {number: 14, place: 1, second_place: 0, at: "step 1, element 0",
+    sentence: "load: row 0, column 0: byte 16 does not lie in the memory of 16 bytes"} and (.accepted | not)' \
+    call 1 check sheet --memory 16
+json '.command == "tape" and .memory == 65536 and .byte_elements == 16 and
+    .records == [[4,0,0,0,0,0],[1,0,0,8,16,1],[2,0,0,8,32,1]]' call 0 tape sheet
+call 0 tape sheet
+cp stdout tape
+for words in 'run sheet memory' 'run-tape sheet tape memory'; do
+    # shellcheck disable=SC2086
+    json '.registers == [{kind: "u8", rows: 1, columns: 8, elements: [[0,0,0,0,0,0,0,0]]},null,null,null] and
+        .byte_elements == 16' call 0 $words
+done
+json '.bytes == 73 and (.fields | map(.field)) == ["edition","layout","view","fill","load","store"] and
+    .fields[1].clamp_mode == "Undefined" and .fields[1].dimensions ==
+        [{block: 1, size: 8, stride: 1, offset: 0, span: 8}] and
+    .fields[2].permutation == [0] and .fields[2].dimensions == [{size: 8, stride: 1}] and
+    .fields[2].column_span == 65535 and .fields[4].object == null and .fields[4].view == 0' call 0 show sheet
+bytes sheet "$edition" 20 0800 00 02 01 03 00800000
+json '.registers[0].elements == [[-32768],[-32768]]' call 0 run sheet memory
+bytes sheet "$edition" 20 0800 00 02 01 06 00000000
+json '.fields == [{field: "edition", byte: 0, edition: 1}] and .refusal.at == "byte 4"' call 1 show sheet
+json '.refusal.number == 18 and .refusal.at == ""' call 1 run sheet /dev/zero
+json '.refusal.number == 5 and .command == "tape"' call 1 tape sheet
 
 # The examples, and what README.md says that they print.
 ${RUNNER:-} "$bin/example" > stdout 2> stderr
