@@ -7,7 +7,7 @@
 #   make install    the tool, the library, its header, manual page and completion, below PREFIX
 #   make uninstall  take them away again
 #   make dist       the sources of the last commit, target/moonbleat-VERSION.tar.gz
-#   make tool-test  run the tool's tests
+#   make tool-test  run the tool's tests and the examples of docs/SHEETS.md
 #   make test       these, those of the header's promises, and those of an installed library
 #   make text-test  try the text form and the diagnoses, with sanitizers: on all sheets of the
 #                   comparison, and on TEXTS damaged texts
@@ -45,6 +45,7 @@ COMPILE = $(CC) $(WARNINGS) $(CFLAGS) -Iinclude -Iharness
 HEADERS = include/moonbleat.h $(wildcard harness/*.h)
 PROGRAMS = harness/example.c harness/unhex.c harness/moonbleat.c
 OBJECTS = $(patsubst harness/%.c,$(TOOL)/%.o,$(filter-out $(PROGRAMS),$(wildcard harness/*.c)))
+SHEET_FILES = target/sheets/$(SEED)-$(SHEETS)
 VERSION = $(shell sed -n 's/^.define MOONBLEAT_VERSION_[A-Z]* //p' include/moonbleat.h | paste -s -d. -)
 
 # Cargo needs no network, writes to target/ alone, and links the archive by its absolute path.
@@ -113,7 +114,7 @@ dist:
 
 demo: all
 	@echo '-- the sheet'
-	@cat strips/04-mirror-repeat/sheet.txt
+	@grep -v '^#' strips/04-mirror-repeat/sheet.txt
 	@$(TOOL)/moonbleat asm strips/04-mirror-repeat/sheet.txt -o $(TOOL)/strip4.sheet
 	@$(TOOL)/unhex < strips/04-mirror-repeat/memory.hex > $(TOOL)/strip4.memory
 	@echo '-- its tape'
@@ -123,10 +124,11 @@ demo: all
 
 tool-test: all
 	tests/tool.sh $(TOOL)
+	tests/examples.sh $(TOOL)
 
-test: tool-test $(TOOL)/test-null $(TOOL)/test-stack target/sheets
+test: tool-test $(TOOL)/test-null $(TOOL)/test-stack $(SHEET_FILES)
 	$(TOOL)/test-null
-	$(TOOL)/test-stack target/sheets/00???-*.sheet
+	$(TOOL)/test-stack $(SHEET_FILES)/00???-*.sheet
 	tests/install.sh
 
 memcheck: all
@@ -135,15 +137,16 @@ memcheck: all
 	CARGO_TARGET_X86_64_UNKNOWN_LINUX_GNU_RUNNER='$(VALGRIND)' $(CARGO) run $(CARGO_WORDS) -- --sheets 1000
 
 # The sheets of the comparison as files.
-target/sheets: $(ARCHIVE) $(wildcard compare/src/*.rs compare/src/reference/*.rs)
-	rm -rf $@
-	mkdir -p $@
-	$(CARGO) run $(CARGO_WORDS) -- dump $@ --sheets $(SHEETS) --seed $(SEED)
+$(SHEET_FILES): $(ARCHIVE) $(wildcard compare/src/*.rs compare/src/reference/*.rs)
+	rm -rf $@ $@.part
+	mkdir -p $@.part
+	$(CARGO) run $(CARGO_WORDS) -- dump $@.part --sheets $(SHEETS) --seed $(SEED)
+	mv $@.part $@
 
-text-test: target/sheets
+text-test: $(SHEET_FILES)
 	$(MAKE) $(SANITIZED) $(addprefix target/sanitized/test-,sheets fuzz_text null)
 	target/sanitized/test-null
-	target/sanitized/test-sheets target/sheets
+	target/sanitized/test-sheets $(SHEET_FILES)
 	target/sanitized/test-fuzz_text $(TEXTS) strips/*/sheet.txt
 
 compare: $(ARCHIVE)

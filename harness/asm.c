@@ -610,13 +610,15 @@ static void take_further_line(struct assembler *assembler, size_t index, struct 
 
 /* -- Lines ------------------------------------------------------------------------------------ */
 
-static void take_allow(struct assembler *assembler, struct token word)
+static void take_allow(struct assembler *assembler)
 {
     struct token token = take(assembler);
     if (!is_word(token, "refused")) {
         report_expected(assembler, "expected 'refused'", token);
     } else if (assembler->origin_count > 0) {
-        report_expected(assembler, "'allow refused' stands before the first field", word);
+        struct asm_error error = error_at(assembler, token.column);
+        add_text(&error.sentence, "'allow refused' must stand before the first field");
+        add_error(assembler->assembly, &error);
     } else {
         assembler->assembly->allows_refused = true;
     }
@@ -703,7 +705,7 @@ static bool take_line(struct assembler *assembler)
     bool is_bytes = is_word(word, "bytes");
     if (is_word(word, "allow")) {
         close_field(assembler);
-        take_allow(assembler, word);
+        take_allow(assembler);
         expect_line_end(assembler);
     } else if (form == NULL && !is_bytes) {
         take_other_line(assembler, word);

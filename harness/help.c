@@ -19,12 +19,12 @@ static const char purpose[] = "reference software for tensor shaders: write, che
 
 /* What holds for every command. */
 static const struct section sections[] = {
-    {"files",
+    {"FILES",
      "SHEET and MEMORY are files of bytes, TAPE and TEXT are lines of text; - is standard input, as an\n"
      "OUT or a FILE standard output, which then gets nothing else. OUT and FILE are written only if\n"
      "nothing was refused, and whole or not at all: a file that is there keeps its mode, and a symbolic\n"
      "link is written through. A number is decimal, or hex behind 0x. A word after -- is a file.\n"},
-    {"exit status",
+    {"EXIT STATUS",
      "0 accepted; 1 refused, with number, place and sentence on standard error (with --json in the\n"
      "object); 2 wrong use; 3 a file could not be read or written, or a line of it is wrong.\n"},
 };
@@ -86,7 +86,7 @@ static void print_tool_help(void)
         printf("  %-10s%s\n", (*command)->name, (*command)->summary);
     }
     for (size_t i = 0; i < SECTIONS; i++) {
-        printf("\n%s:\n%s", sections[i].heading, sections[i].lines);
+        printf("\n%s\n%s", sections[i].heading, sections[i].lines);
     }
 }
 

@@ -52,7 +52,7 @@ expect 'the consumer runs' prints ' 12 11 10 11 12 13 12 11
 # The manual page has every command and option that the help has, and the formatter no complaint.
 page=$prefix/share/man/man1/moonbleat.1
 expect 'the manual page' prints '' sh -c "groff -man -Tascii -ww -z '$page'"
-groff -man -Tascii -P-c -rLL=200n "$page" | col -bx > "$work/page"
+groff -man -Tascii -P-cbou -rLL=200n "$page" > "$work/page"
 "$prefix/bin/moonbleat" help | sed -n 's/^  \(moonbleat [a-z].*\)/\1/p' > "$work/usage"
 while read -r line; do
     expect "the manual page has: $line" grep -q -F -e "$line" "$work/page"

@@ -992,7 +992,7 @@ misspelt 'edition 1\nfrob r0\ndim size 1\nfill r0 1x1 u8 0\ndim size 1\n' "text:
 misspelt 'bytes 0g\nbytes 0\nbytes 01 0200 01\n' "text:1:7: expected pairs of hex digits, not '0g'" \
     "text:2:7: expected pairs of hex digits, not '0'" \
     'text:3:1: edition: length 2 runs past the end of the sheet by 1'
-misspelt 'edition 1\nallow refused\n' "text:2:1: 'allow refused' stands before the first field, not 'allow'"
+misspelt 'edition 1\nallow refused\n' "text:2:7: 'allow refused' must stand before the first field"
 misspelt 'allow\n' 'text:1:1: the sheet has no edition' "text:1:6: expected 'refused'"
 # Many errors: all are counted, the first ten printed.
 { echo 'edition 1'; yes 'fill r4 1x1 u8 0' | head -n 40; } > text
@@ -1074,14 +1074,30 @@ same 'the example' stdout expected
 ${RUNNER:-} "$bin/readme" > stdout 2> stderr
 echo '1 by 4, first element 7' > expected
 same 'the lines of C in README.md' stdout expected
-sed -n '/^    -- its tape$/,/^    accepted/s/^    //p' "$root/README.md" > expected
+sed -n '/^    -- the sheet$/,/^    accepted/s/^    //p' "$root/README.md" > expected
 {
+    echo '-- the sheet'
+    grep -v '^#' "$strips/04-mirror-repeat/sheet.txt"
     echo '-- its tape'
     cat "$strips/04-mirror-repeat/tape.txt"
     echo '-- carried out on a memory whose byte i holds i'
     cat "$strips/04-mirror-repeat/run.txt"
 } > stdout
-same 'the tape in README.md' stdout expected
+same 'the demo in README.md' stdout expected
+
+# The commands of README.md, from the sheet above with a size of 0 on, and what it says that they print.
+sed -n 's/^    //;/^-- the sheet$/,/^-- its tape$/p' "$root/README.md" | grep -v '^--' | sed 's/size 4/size 0/' > my.txt
+sed -n '/^    \$ /,/^$/p' "$root/README.md" | sed 's/^    //' > session
+sed -n 's/^\$ //p' session | sed "s|target/tool/moonbleat|$bin/moonbleat|" > commands
+grep -v -e '^\$ ' -e '^$' session > expected
+sh commands > stdout 2>&1
+same 'the commands of README.md' stdout expected
+if [ -s expected ]; then pass; else fail 'no commands in README.md'; fi
+
+# The usage in the manual is the tool's.
+sed -n 's/^    \(moonbleat [a-z]\)/  \1/p' "$root/harness/README.md" > stdout
+sed 1d usage > expected
+same 'the usage in the manual' stdout expected
 
 # Hex that is none.
 for text in 0 0g 'x1' '01 # 23' ; do
