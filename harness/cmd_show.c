@@ -10,14 +10,6 @@
 #include "sheet_text.h"
 #include "show.h"
 
-/* A sheet and what reading it gave. */
-struct read {
-    const struct bytes *sheet;
-    const uint32_t *counts;
-    const struct refused *refused;
-    size_t readable; /* bytes of the fields before the refused one */
-};
-
 /* A number of the JSON object: a name where it has one, null for none. */
 static void json_value(struct json *json, const struct value *value, const char *key)
 {
@@ -61,54 +53,45 @@ static void json_field(struct json *json, const struct field *field)
     json_close(json, '}');
 }
 
-static void show_json(const struct read *read)
+static void show_json(const struct refused *read)
 {
     struct json json = {false};
     struct field field;
-    open_answer(&json, &show_command, read->refused);
-    json_number(&json, "bytes", (int64_t)read->sheet->len);
+    open_answer(&json, &show_command, read);
+    json_number(&json, "bytes", (int64_t)read->sheet_len);
     json_open(&json, "fields", '[');
-    for (size_t at = 0; field_at(read->sheet->at, read->readable, at, &field); at = field_end(&field)) {
+    for (size_t at = 0; field_at(read->sheet, readable_bytes(read), at, &field); at = field_end(&field)) {
         json_field(&json, &field);
     }
     json_close(&json, ']');
     close_answer(&json);
 }
 
-static void show_text(const struct read *read)
+static void show_words(const struct refused *read, const uint32_t counts[MOONBLEAT_COUNTS])
 {
-    if (read->refused->answer[MOONBLEAT_NUMBER] != 0) {
-        printf("allow refused # %s\n", refusal_line(read->refused).at);
-    }
-    print_sheet_text(stdout, read->sheet->at, read->sheet->len, read->readable);
-}
-
-static void show_words(const struct read *read)
-{
-    const struct bytes *sheet = read->sheet;
-    if (read->refused->answer[MOONBLEAT_NUMBER] == 0) {
-        printf("sheet: %zu bytes, layouts %" PRIu32 ", views %" PRIu32 ", steps %" PRIu32 "\n", sheet->len,
-               read->counts[0], read->counts[1], read->counts[2]);
-        show_sheet(sheet->at, sheet->len);
+    if (read->answer[MOONBLEAT_NUMBER] == 0) {
+        printf("sheet: %zu bytes, layouts %" PRIu32 ", views %" PRIu32 ", steps %" PRIu32 "\n", read->sheet_len,
+               counts[0], counts[1], counts[2]);
+        show_sheet(read->sheet, read->sheet_len);
     } else {
-        printf("sheet: %zu bytes, refused\n", sheet->len);
-        show_refused_sheet(sheet->at, sheet->len, read->readable, refusal_line(read->refused).at);
+        printf("sheet: %zu bytes, refused\n", read->sheet_len);
+        show_refused_sheet(read->sheet, read->sheet_len, readable_bytes(read), refusal_line(read).at);
     }
 }
 
-static int show(const struct request *request, const struct read *read)
+static int show(const struct request *request, const struct refused *read, const uint32_t counts[MOONBLEAT_COUNTS])
 {
-    bool accepted = read->refused->answer[MOONBLEAT_NUMBER] == 0;
+    bool accepted = read->answer[MOONBLEAT_NUMBER] == 0;
     if (request->words[OPTION_JSON] != NULL) {
         show_json(read);
         return accepted ? DONE : REFUSED;
     }
     if (request->words[OPTION_ASM] != NULL) {
-        show_text(read);
+        print_sheet_text(stdout, read);
     } else {
-        show_words(read);
+        show_words(read, counts);
     }
-    return accepted ? DONE : answer_refusal(&show_command, request, read->refused);
+    return accepted ? DONE : answer_refusal(&show_command, request, read);
 }
 
 static int do_show(const struct request *request)
@@ -122,10 +105,9 @@ static int do_show(const struct request *request)
     }
     uint32_t counts[MOONBLEAT_COUNTS] = {0};
     uint32_t answer[MOONBLEAT_ANSWER] = {0};
-    const struct refused refused = {sheet.at, sheet.len, 0, NULL, answer};
-    uint32_t number = moonbleat_read(sheet.at, sheet.len, counts, answer);
-    const struct read read = {&sheet, counts, &refused, number == 0 ? sheet.len : answer[MOONBLEAT_PLACE]};
-    int status = show(request, &read);
+    const struct refused read = {sheet.at, sheet.len, 0, NULL, answer};
+    moonbleat_read(sheet.at, sheet.len, counts, answer);
+    int status = show(request, &read, counts);
     free(sheet.at);
     return status;
 }

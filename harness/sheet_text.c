@@ -85,13 +85,23 @@ static void print_bytes(FILE *file, const uint8_t *bytes, size_t len)
     }
 }
 
-void print_sheet_text(FILE *file, const uint8_t *sheet, size_t sheet_len, size_t readable)
+size_t readable_bytes(const struct refused *sheet)
 {
+    bool is_read = sheet->answer[MOONBLEAT_NUMBER] == 0;
+    return is_read ? sheet->sheet_len : sheet->answer[MOONBLEAT_PLACE];
+}
+
+void print_sheet_text(FILE *file, const struct refused *sheet)
+{
+    size_t readable = readable_bytes(sheet);
     struct reading reading = {{0}, EDITION_RANK};
     struct field field;
-    for (size_t at = 0; field_at(sheet, readable, at, &field); at = field_end(&field)) {
+    if (sheet->answer[MOONBLEAT_NUMBER] != 0) {
+        fprintf(file, "allow refused # %s\n", refusal_line(sheet).at);
+    }
+    for (size_t at = 0; field_at(sheet->sheet, readable, at, &field); at = field_end(&field)) {
         print_field(file, &field, reading.counts[field.form->rank]);
         note_field(&reading, field.form);
     }
-    print_bytes(file, sheet + readable, sheet_len - readable);
+    print_bytes(file, sheet->sheet + readable, sheet->sheet_len - readable);
 }

@@ -2,12 +2,15 @@
 #ifndef SHEET_TEXT_H
 #define SHEET_TEXT_H
 
-#include <stddef.h>
-#include <stdint.h>
 #include <stdio.h>
 
-/* Prints the first `readable` bytes of a sheet, which are whole fields that the library reads, line
- * by line, and the others as they are. */
-void print_sheet_text(FILE *file, const uint8_t *sheet, size_t sheet_len, size_t readable);
+#include "refusals.h"
+
+/* Prints a sheet that the library has read or refused to read. Of a refused one the fields before
+ * the refused one are lines of text, the others bytes as they are, and the text allows it. */
+void print_sheet_text(FILE *file, const struct refused *sheet);
+
+/* How many bytes the fields have that the library has read. */
+size_t readable_bytes(const struct refused *sheet);
 
 #endif

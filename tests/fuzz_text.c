@@ -16,7 +16,7 @@
 #include "asm.h"
 #include "files.h"
 #include "moonbleat.h"
-#include "sheet_text.h"
+#include "round_trip.h"
 
 enum { TEXT_MAX = 4096, SEEDS_MAX = 64, DAMAGES_MAX = 6 };
 
@@ -123,32 +123,18 @@ static void check_errors(const struct sample *sample, const struct assembly *ass
     }
 }
 
-/* The text of a sheet must give its bytes again. */
 static void check_sheet(const struct sample *sample, const struct assembly *assembly)
 {
-    static struct assembly again;
     uint32_t counts[MOONBLEAT_COUNTS], answer[MOONBLEAT_ANSWER];
     const struct bytes *sheet = &assembly->sheet;
-    bool is_read = moonbleat_read(sheet->at, sheet->len, counts, answer) == 0;
-    char *text = NULL;
-    size_t len = 0;
-    FILE *file = open_memstream(&text, &len);
-    if (!is_read && !assembly->allows_refused) {
+    const struct refused read = {sheet->at, sheet->len, 0, NULL, answer};
+    accepted++;
+    if (moonbleat_read(sheet->at, sheet->len, counts, answer) != 0 && !assembly->allows_refused) {
         fail(sample, "a text without errors that is not read");
     }
-    if (file == NULL) {
-        return;
-    }
-    accepted++;
-    fputs(is_read ? "" : "allow refused\n", file);
-    print_sheet_text(file, sheet->at, sheet->len, is_read ? sheet->len : answer[MOONBLEAT_PLACE]);
-    fclose(file);
-    if (!assemble(text, len, &again) || again.sheet.len != sheet->len ||
-        memcmp(again.sheet.at, sheet->at, sheet->len) != 0) {
+    if (!comes_back(&read)) {
         fail(sample, "a sheet whose text gives other bytes");
     }
-    free_assembly(&again);
-    free(text);
 }
 
 static void try_sample(const struct sample *sample)

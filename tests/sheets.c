@@ -15,11 +15,10 @@
 #include <stdlib.h>
 #include <string.h>
 
-#include "asm.h"
 #include "diagnose.h"
 #include "files.h"
 #include "moonbleat.h"
-#include "sheet_text.h"
+#include "round_trip.h"
 
 static size_t sheets, read_sheets, failed, refused[MOONBLEAT_REFUSED_SHARED_BYTE + 1];
 
@@ -29,35 +28,14 @@ static void fail(const char *name, const char *what)
     printf("FAILED: %s: %s\n", name, what);
 }
 
-/* The text of a sheet; to be freed. */
-static char *text_of(const struct bytes *sheet, size_t *len)
-{
-    uint32_t counts[MOONBLEAT_COUNTS], answer[MOONBLEAT_ANSWER];
-    char *text = NULL;
-    FILE *file = open_memstream(&text, len);
-    if (file == NULL) {
-        return NULL;
-    }
-    bool is_read = moonbleat_read(sheet->at, sheet->len, counts, answer) == 0;
-    read_sheets += is_read;
-    fputs(is_read ? "" : "allow refused\n", file);
-    print_sheet_text(file, sheet->at, sheet->len, is_read ? sheet->len : answer[MOONBLEAT_PLACE]);
-    fclose(file);
-    return text;
-}
-
 static void try_text(const char *name, const struct bytes *sheet)
 {
-    static struct assembly assembly;
-    size_t len;
-    char *text = text_of(sheet, &len);
-    if (text == NULL || !assemble(text, len, &assembly)) {
-        fail(name, text == NULL ? "no text" : assembly.errors[0].sentence.at);
-    } else if (assembly.sheet.len != sheet->len || memcmp(assembly.sheet.at, sheet->at, sheet->len) != 0) {
+    uint32_t counts[MOONBLEAT_COUNTS], answer[MOONBLEAT_ANSWER];
+    const struct refused read = {sheet->at, sheet->len, 0, NULL, answer};
+    read_sheets += moonbleat_read(sheet->at, sheet->len, counts, answer) == 0;
+    if (!comes_back(&read)) {
         fail(name, "the text gives other bytes");
     }
-    free_assembly(&assembly);
-    free(text);
 }
 
 static void try_diagnosis(const char *name, const struct bytes *sheet, size_t memory_len)
