@@ -11,18 +11,20 @@
 /* Texts of more than a megabyte are no sheets of people. */
 enum { LONGEST_TEXT = 1 << 20 };
 
-/* Writes a sheet that has no error: the library has the last word on it. */
+/* Writes a sheet that has no error: the library has the last word on it. A sheet that is refused for
+ * the longest memory is refused for every one. */
 static int write_sheet(const struct request *request, const struct assembly *assembly)
 {
     const struct bytes *sheet = &assembly->sheet;
-    uint32_t counts[MOONBLEAT_COUNTS] = {0};
     uint32_t answer[MOONBLEAT_ANSWER] = {0};
-    const struct refused refused = {sheet->at, sheet->len, 0, NULL, answer};
-    if (moonbleat_read(sheet->at, sheet->len, counts, answer) != 0) {
-        if (!assembly->allows_refused) {
-            print_refusal(&refused);
-            return REFUSED;
-        }
+    const struct refused refused = {sheet->at, sheet->len, MOONBLEAT_MEMORY_MAX, NULL, answer};
+    uint32_t number = moonbleat_check(sheet->at, sheet->len, MOONBLEAT_MEMORY_MAX, answer);
+    bool is_read = number == 0 || number > MOONBLEAT_REFUSED_EDITION;
+    if (!is_read && !assembly->allows_refused) {
+        print_refusal(&refused);
+        return REFUSED;
+    }
+    if (number != 0) {
         fprintf(stderr, "%s: warning: %s\n", request->files[0], refusal_line(&refused).at);
     }
     const struct output output = {request->words[OPTION_OUT], sheet->at, sheet->len};
@@ -67,8 +69,8 @@ const struct command asm_command = {
                "  fill r0 1x8 u8 0\n"
                "  load r1 object r0 L0 base 0\n"
                "\n"
-               "The first ten errors are printed as TEXT:LINE:COLUMN: and a sentence. Behind a first line\n"
-               "'allow refused' numbers may be out of their ranges and fields out of order; the refusal is then\n"
-               "a warning.\n",
+               "The first ten errors are printed as TEXT:LINE:COLUMN: and a sentence. A sheet that is read but\n"
+               "refused whatever the memory is written with a warning. Behind a first line 'allow refused'\n"
+               "numbers may be out of their ranges and fields out of order, with a warning too.\n",
     .perform = do_asm,
 };

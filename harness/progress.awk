@@ -23,12 +23,21 @@ function reach(name,    list, count, i) {
     }
 }
 
-/^rt: [a-z_]+ (proved|NOT PROVED)/ {
+# Numbers the line of the next crate.
+function numbered(line) {
     if (crates == 0) {
         reach("moonbleat")
     }
-    done++
-    sub(/^rt: /, "crate " done " of " crates ": ")
+    return "crate " (++done) " of " crates ": " line
+}
+
+/^rt: [a-z_]+ (proved|NOT PROVED)/ {
+    $0 = numbered(substr($0, 5))
+}
+
+# The last crate, the library itself, has no line of its own.
+/^rt: target\/staticlib\// {
+    $0 = numbered("moonbleat proved")
 }
 
 !/^(fn .*: proved|logic[ =]|library )/ {

@@ -24,7 +24,12 @@ while [ "$i" -lt 256 ]; do
     printf "\\$(printf %03o "$i")"
     i=$((i + 1))
 done > memory
-: > nothing
+
+# fail NAME WHAT
+fail() {
+    failed=$((failed + 1))
+    echo "FAILED: docs/SHEETS.md, block $1: $2"
+}
 
 # gives NAME COMMAND..: the command must print the block.
 gives() {
@@ -34,19 +39,27 @@ gives() {
     if cmp -s printed "$name"; then
         passed=$((passed + 1))
     else
-        failed=$((failed + 1))
-        echo "FAILED: docs/SHEETS.md, block $name: $(diff printed "$name" | head -n 5)"
+        fail "$name" "$(diff printed "$name" | head -n 5)"
+    fi
+}
+
+# assembles NAME: the block must be a text without errors; a warning may come.
+assembles() {
+    if "$bin/moonbleat" asm "$1" -o sheet > printed 2>&1; then
+        passed=$((passed + 1))
+    else
+        fail "$1" "$(head -n 5 printed)"
     fi
 }
 
 for block in [0-9]*; do
     case $block in
-        *.sheet) gives nothing "$bin/moonbleat" asm "$block" -o sheet ;;
+        *.sheet) assembles "$block" ;;
         *.run) gives "$block" "$bin/moonbleat" run sheet memory ;;
         *.tape) gives "$block" "$bin/moonbleat" tape sheet ;;
         *.hex) "$bin/unhex" < "$block" > bytes && gives bytes cat sheet ;;
         *.refusal) sed 's/^/moonbleat: /' "$block" > line && gives line "$bin/moonbleat" check sheet --memory 256 ;;
-        *) failed=$((failed + 1)) && echo "FAILED: docs/SHEETS.md, block $block: of no known kind" ;;
+        *) fail "$block" 'of no known kind' ;;
     esac
 done
 

@@ -94,11 +94,12 @@ expect 'the header in the sources' sh -c "tar tzf '$root/target/moonbleat-$versi
 
 # How far a proof has come.
 printf '%s\n' 'fn one::f: proved' 'logic=proved functions=1' 'rt: one proved (3 s)' 'error: no' \
-    'rt: two NOT PROVED (exit 1, 2 s)' > "$work/rt"
+    'rt: two NOT PROVED (exit 1, 2 s)' 'rt: target/staticlib/libmoonbleat.a has' > "$work/rt"
 printf '%s\n' '# NAME: NEEDS' 'one:   # first' 'two: one' 'three: one io' 'moonbleat: two' > "$work/crates"
 expect 'progress' prints 'crate 1 of 3: one proved (3 s)
 error: no
-crate 2 of 3: two NOT PROVED (exit 1, 2 s)' awk -f "$root/harness/progress.awk" "$work/crates" "$work/rt"
+crate 2 of 3: two NOT PROVED (exit 1, 2 s)
+crate 3 of 3: moonbleat proved' awk -f "$root/harness/progress.awk" "$work/crates" "$work/rt"
 
 echo "tests of the installation: $passed passed, $failed failed"
 [ "$failed" -eq 0 ]

@@ -162,6 +162,11 @@ for folder in "$strips"/*/; do
     same "$strip: show" stdout "$folder/show.txt"
     call 0 asm "$folder/sheet.txt" -o assembled
     same "$strip: asm" assembled sheet
+    : > expected
+    if [ -e "$folder/refusal.txt" ]; then
+        sed "s|^|$folder/sheet.txt: warning: |" "$folder/refusal.txt" > expected
+    fi
+    same "$strip: the warnings of asm" stderr expected
     call 0 show --asm sheet
     grep -v '^#' "$folder/sheet.txt" > expected
     same "$strip: show --asm" stdout expected
@@ -436,10 +441,10 @@ call 0 run sheet memory
 # 17: each record out of range behind two good ones.
 tape_refused() {
     wanted_place=$1
-    shift
+    wanted_cause=$2
+    shift 2
     printf '%s\n' '4 0 0 0 0 0' '1 0 0 8 0 1' "$@" > tape
-    for record do :; done
-    refused "$wanted_place" "the record $record is out of range" run-tape sheet tape memory -o out
+    refused "$wanted_place" "$wanted_cause" run-tape sheet tape memory -o out
     absent out
 }
 # tape_accepted RECORD..
@@ -448,36 +453,36 @@ tape_accepted() {
     call 0 run-tape sheet tape memory
 }
 bytes sheet "$edition $layout $fill $load $reduce" 24 0200 02 03 "$multiply $store"
-tape_refused '17 2 0' '5 0 0 0 0 0'
-tape_refused '17 2 0' '-1 0 0 0 0 0'
-tape_refused '17 2 0' '0 4 0 0 0 0'
-tape_refused '17 2 0' '0 1 -1 0 0 0'
-tape_refused '17 2 0' '0 1 1 0 0 0'
-tape_refused '17 2 0' '0 1 0 1 0 0'
-tape_refused '17 2 0' '0 1 0 0 0 1'
-tape_refused '17 3 0' '0 1 0 0 0 0' '0 1 2 0 0 0'
-tape_refused '17 2 0' '1 1 0 1 0 0'
-tape_refused '17 2 0' '1 0 0 0 0 0'
-tape_refused '17 2 0' '1 0 -1 1 0 0'
-tape_refused '17 2 0' '1 0 8 1 0 0'
-tape_refused '17 2 0' '1 0 2147483647 2147483647 0 0'
-tape_refused '17 2 0' '1 0 0 1 0 65536'
-tape_refused '17 2 0' '2 0 0 1 0 -65536'
-tape_refused '17 2 0' '2 0 0 1 -1 0'
-tape_refused '17 2 0' '2 0 0 1 64 0'
-tape_refused '17 2 0' '2 0 0 2 63 1'
-tape_refused '17 2 0' '2 0 0 2 0 -1'
-tape_refused '17 2 0' '3 3 0 1 0 0'
-tape_refused '17 2 0' '3 0 0 1 256 0'
-tape_refused '17 2 0' '3 0 0 1 -1 0'
-tape_refused '17 2 0' '3 0 0 1 0 1'
-tape_refused '17 2 0' '4 1 0 0 0 0'
-tape_refused '17 2 0' '4 5 0 0 0 0'
-tape_refused '17 2 0' '4 6 0 0 0 0'
-tape_refused '17 2 0' '4 -1 0 0 0 0'
-tape_refused '17 2 0' '4 3 0 0 0 0'
-tape_refused '17 3 0' '4 2 0 0 0 0' '4 4 0 0 0 0'
-tape_refused '17 2 0' '4 0 0 0 0 1'
+tape_refused '17 2 0' 'op 5 is not within 0 to 4' '5 0 0 0 0 0'
+tape_refused '17 2 0' 'op -1 is not within 0 to 4' '-1 0 0 0 0 0'
+tape_refused '17 2 0' 'copy: register 4 is not within 0 to 3' '0 4 0 0 0 0'
+tape_refused '17 2 0' 'copy: object -1 is not within 0 to 3' '0 1 -1 0 0 0'
+tape_refused '17 2 0' 'copy: register 1 is empty' '0 1 1 0 0 0'
+tape_refused '17 2 0' 'copy: the unused number 1 is not 0' '0 1 0 1 0 0'
+tape_refused '17 2 0' 'copy: the unused number 1 is not 0' '0 1 0 0 0 1'
+tape_refused '17 3 0' 'copy: register 2 is empty' '0 1 0 0 0 0' '0 1 2 0 0 0'
+tape_refused '17 2 0' 'take: register 1 is empty' '1 1 0 1 0 0'
+tape_refused '17 2 0' 'take: count 0 is not within 1 to 8' '1 0 0 0 0 0'
+tape_refused '17 2 0' 'take: first element -1 is not within 0 to 7' '1 0 -1 1 0 0'
+tape_refused '17 2 0' 'take: first element 8 is not within 0 to 7' '1 0 8 1 0 0'
+tape_refused '17 2 0' 'take: first element 2147483647 is not within 0 to 7' '1 0 2147483647 2147483647 0 0'
+tape_refused '17 2 0' 'take: step 65536 is not within -65535 to 65535' '1 0 0 1 0 65536'
+tape_refused '17 2 0' 'put: step -65536 is not within -65535 to 65535' '2 0 0 1 0 -65536'
+tape_refused '17 2 0' 'put: element 0 has byte -1, and the memory 64 bytes' '2 0 0 1 -1 0'
+tape_refused '17 2 0' 'put: element 0 has byte 64, and the memory 64 bytes' '2 0 0 1 64 0'
+tape_refused '17 2 0' 'put: element 1 has byte 64, and the memory 64 bytes' '2 0 0 2 63 1'
+tape_refused '17 2 0' 'put: element 1 has byte -1, and the memory 64 bytes' '2 0 0 2 0 -1'
+tape_refused '17 2 0' 'fill: register 3 is empty' '3 3 0 1 0 0'
+tape_refused '17 2 0' 'fill: value 256 is not within 0 to 255' '3 0 0 1 256 0'
+tape_refused '17 2 0' 'fill: value -1 is not within 0 to 255' '3 0 0 1 -1 0'
+tape_refused '17 2 0' 'fill: the unused number 1 is not 0' '3 0 0 1 0 1'
+tape_refused '17 2 0' 'whole step: step 1 (load) is none' '4 1 0 0 0 0'
+tape_refused '17 2 0' 'whole step: step 5 (store) is none' '4 5 0 0 0 0'
+tape_refused '17 2 0' 'whole step: the sheet has no step 6' '4 6 0 0 0 0'
+tape_refused '17 2 0' 'whole step: the sheet has no step -1' '4 -1 0 0 0 0'
+tape_refused '17 2 0' 'whole step: step 3 (transpose) cannot be done: register 3 is empty' '4 3 0 0 0 0'
+tape_refused '17 3 0' 'whole step: step 4 (multiply-add) cannot be done: register 2 is empty' '4 2 0 0 0 0' '4 4 0 0 0 0'
+tape_refused '17 2 0' 'whole step: the unused number 1 is not 0' '4 0 0 0 0 1'
 tape_accepted '1 0 7 1 63 65535'
 tape_accepted '2 0 7 1 63 -65535' '2 0 0 8 7 -1' '2 0 0 8 0 0'
 tape_accepted '3 0 0 8 255 0' '0 3 0 0 0 0' '4 3 0 0 0 0'
@@ -727,7 +732,7 @@ cp old out
 refused '7 0 0' 'load: register 0 is empty, and without an object the load starts from it' run refused_sheet memory -o out
 same 'an output file after a refusal' out old
 echo '4 1 0 0 0 0' > refused_tape
-refused '17 0 0' 'the record 4 1 0 0 0 0 is out of range' run-tape sheet refused_tape memory -o out
+refused '17 0 0' 'whole step: step 1 (store) is none' run-tape sheet refused_tape memory -o out
 same 'an output file after a refused tape' out old
 zeros long_memory 65537
 refused '18 0 0' 'the memory is longer than 65536 bytes' run sheet long_memory -o out
@@ -1020,6 +1025,8 @@ printf 'edition 1\n' > text
 call 0 asm - -o - < text
 bytes expected "$edition"
 same 'asm - -o -' stdout expected
+broken "nowhere: $gone" asm nowhere -o out
+broken "nowhere/out: $gone" asm text -o nowhere/out
 yes '# comment' | head -c 1048577 > text
 broken 'text: longer than 1048576 bytes' asm text -o out
 wrong 'asm needs -o OUT' asm text
