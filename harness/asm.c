@@ -5,52 +5,32 @@
  */
 #include "asm.h"
 
-#include <inttypes.h>
 #include <stdio.h>
 #include <stdlib.h>
 #include <string.h>
 
+#include "asm_line.h"
+#include "asm_numbers.h"
 #include "fields.h"
 #include "judge.h"
-#include "kinds.h"
 #include "moonbleat.h"
 #include "numbers.h"
-
-/* A word of a line. */
-struct token {
-    const char *at;
-    size_t len;
-    size_t column;
-};
 
 /* Which line wrote the bytes from `at` on. */
 struct origin {
     size_t at;
     size_t line;
     size_t column;
-    bool faulty;
-};
-
-enum { PART_BYTES = 10 * DIMENSIONS_MAX }; /* of the longest part, a layout's dimensions */
-
-/* The numbers of a part so far. */
-struct part {
-    uint8_t bytes[PART_BYTES];
-    size_t len;
-    unsigned times;
+    bool faulty; /* an error was reported for this field */
 };
 
 struct assembler {
     struct assembly *assembly;
-    struct reading reading;  /* the fields that the text has named so far */
-    bool has_bytes;          /* a `bytes` line came, whose fields are not counted */
-    bool full;               /* the sheet is as long as any may be */
-    bool unknown;            /* the last field's word is none: its further lines are passed over */
-    const char *rest;        /* of the line */
-    const char *line_start;
-    const char *line_end;
-    bool line_ended; /* that the line ends too soon was reported */
-    size_t line;
+    struct line line;
+    struct reading reading;        /* the fields that the text has named so far */
+    bool has_bytes;                /* a `bytes` line came, whose fields are not counted */
+    bool full;                     /* the sheet is as long as any may be */
+    bool unknown;                  /* the last field's word is none: its further lines are passed over */
     const struct field_form *form; /* the field that is open; NULL: none */
     struct part parts[PARTS_MAX];
     struct origin *origins;
@@ -58,135 +38,20 @@ struct assembler {
     size_t origin_room;
 };
 
-/* -- Errors ----------------------------------------------------------------------------------- */
-
-/* Whether an error stands before another one in the text. */
-static bool is_before(const struct asm_error *one, const struct asm_error *other)
-{
-    return one->line != other->line ? one->line < other->line : one->column < other->column;
-}
-
-/* Counts an error and puts it in its place among the first ones. */
-static void add_error(struct assembly *assembly, const struct asm_error *error)
-{
-    struct asm_error *errors = assembly->errors;
-    size_t at = assembly->error_count < ASM_ERRORS_KEPT ? assembly->error_count : ASM_ERRORS_KEPT;
-    for (; at > 0 && is_before(error, &errors[at - 1]); at--) {
-        errors[at] = errors[at - 1];
-    }
-    errors[at] = *error;
-    assembly->error_count++;
-}
-
-/* An error at a column of the line, without its sentence. */
-static struct asm_error error_at(const struct assembler *assembler, size_t column)
-{
-    return (struct asm_error){assembler->line, column, {.len = 0}};
-}
-
-/* Reports an error of the open field's line. */
-static void report(struct assembler *assembler, const struct asm_error *error)
-{
-    add_error(assembler->assembly, error);
-    if (assembler->origin_count > 0) {
-        assembler->origins[assembler->origin_count - 1].faulty = true;
-    }
-}
-
-/* Reports what is wrong with the field of a line, unless an error of that line was reported. */
-static void report_at(struct assembler *assembler, const struct origin *origin, const struct text *sentence)
-{
-    if (!origin->faulty) {
-        struct asm_error error = {origin->line, origin->column, *sentence};
-        add_error(assembler->assembly, &error);
-    }
-}
-
-/* Adds a word as it stands in the text, cut and without what cannot be printed. */
-static void add_token(struct text *text, struct token token)
-{
-    enum { SHOWN = 40 };
-    for (size_t i = 0; i < token.len && i < SHOWN; i++) {
-        bool printable = token.at[i] >= ' ' && token.at[i] <= '~';
-        add_text(text, "%c", printable ? token.at[i] : '?');
-    }
-    add_text(text, "%s", token.len > SHOWN ? ".." : "");
-}
-
-/* Reports "SENTENCE, not 'WORD'" at a word; at the line's end "SENTENCE", and there only once. */
-static void report_expected(struct assembler *assembler, const char *sentence, struct token found)
-{
-    if (found.len == 0 && assembler->line_ended) {
-        return;
-    }
-    assembler->line_ended = found.len == 0;
-    struct asm_error error = error_at(assembler, found.column);
-    add_text(&error.sentence, "%s", sentence);
-    if (found.len > 0) {
-        add_text(&error.sentence, ", not '");
-        add_token(&error.sentence, found);
-        add_text(&error.sentence, "'");
-    }
-    report(assembler, &error);
-}
-
-/* -- Words ------------------------------------------------------------------------------------ */
-
-static bool is_blank(char c)
-{
-    return c == ' ' || c == '\t' || c == '\r';
-}
-
-/* The next word of the line, which stays there; an empty one at its end. */
-static struct token peek(struct assembler *assembler)
-{
-    while (assembler->rest < assembler->line_end && is_blank(*assembler->rest)) {
-        assembler->rest++;
-    }
-    const char *end = assembler->rest;
-    while (end < assembler->line_end && !is_blank(*end)) {
-        end++;
-    }
-    size_t column = (size_t)(assembler->rest - assembler->line_start) + 1;
-    return (struct token){assembler->rest, (size_t)(end - assembler->rest), column};
-}
-
-static struct token take(struct assembler *assembler)
-{
-    struct token token = peek(assembler);
-    assembler->rest = token.at + token.len;
-    return token;
-}
-
-static bool is_word(struct token token, const char *word)
-{
-    return token.len == strlen(word) && memcmp(token.at, word, token.len) == 0;
-}
-
-static void expect_line_end(struct assembler *assembler)
-{
-    struct token token = peek(assembler);
-    if (token.len > 0) {
-        report_expected(assembler, "expected the end of the line", token);
-    }
-}
-
 /* -- Bytes ------------------------------------------------------------------------------------ */
 
 static void put_bytes(struct assembler *assembler, const uint8_t *bytes, size_t len)
 {
     struct bytes *sheet = &assembler->assembly->sheet;
-    if (len > SHEET_LIMIT - sheet->len) {
-        if (!assembler->full) {
-            struct asm_error error = error_at(assembler, 1);
-            add_text(&error.sentence, "the sheet is longer than %zu bytes", SHEET_LIMIT);
-            report(assembler, &error);
-        }
+    if (len <= SHEET_LIMIT - sheet->len) {
+        memcpy(sheet->at + sheet->len, bytes, len);
+        sheet->len += len;
+    } else if (!assembler->full) {
+        struct text sentence = {.len = 0};
+        add_text(&sentence, "the sheet is longer than %zu bytes", SHEET_LIMIT);
+        report(&assembler->line, 1, &sentence);
         assembler->full = true;
-        return;
     }
-    memcpy(sheet->at + sheet->len, bytes, len);
-    sheet->len += len;
 }
 
 /* Says that the line writes the bytes that follow. */
@@ -201,288 +66,50 @@ static bool add_origin(struct assembler *assembler, size_t column)
         assembler->origins = origins;
         assembler->origin_room = room;
     }
-    struct origin origin = {assembler->assembly->sheet.len, assembler->line, column, false};
+    struct origin origin = {assembler->assembly->sheet.len, assembler->line.number, column, false};
     assembler->origins[assembler->origin_count++] = origin;
     return true;
 }
 
-/* Adds a little-endian number to a part. */
-static void put_number(struct part *part, uint32_t number, size_t width)
+/* The line that opened the last field. */
+static struct origin *last_origin(const struct assembler *assembler)
 {
-    for (size_t i = 0; i < width; i++) {
-        part->bytes[part->len++] = (uint8_t)(number >> 8 * i);
-    }
+    return &assembler->origins[assembler->origin_count - 1];
 }
 
-/* -- Numbers ---------------------------------------------------------------------------------- */
-
-/* The letter before a number of a sort, 0 if there is none. */
-static char prefix_of(enum sort sort)
+/* Reports what is wrong with the field of a line, unless an error of it was reported. */
+static void report_field(struct assembler *assembler, const struct origin *origin, const struct text *sentence)
 {
-    switch (sort) {
-    case RESULT:
-    case REGISTER:
-    case OBJECT:
-        return 'r';
-    case LAYOUT:
-        return 'L';
-    case VIEW:
-        return 'V';
-    default:
-        return '\0';
+    if (!origin->faulty) {
+        add_error(assembler->assembly, origin->line, origin->column, sentence);
     }
-}
-
-static bool parse_integer(struct token token, int64_t *number)
-{
-    bool negative = token.len > 0 && token.at[0] == '-';
-    uint64_t size;
-    if (!parse_number(token.at + negative, token.len - negative, &size) || size > INT64_MAX) {
-        return false;
-    }
-    *number = negative ? -(int64_t)size : (int64_t)size;
-    return true;
-}
-
-static bool parse_name(const struct number_form *form, struct token token, int64_t *number)
-{
-    for (int64_t i = form->low; i <= form->high; i++) {
-        if (is_word(token, form->name_of((uint32_t)i))) {
-            *number = i;
-            return true;
-        }
-    }
-    return false;
-}
-
-/* Whether a word is written as a number of this form. */
-static bool parse_word(const struct number_form *form, struct token token, int64_t *number)
-{
-    if ((form->sort == OBJECT || form->sort == VIEW) && is_word(token, "none")) {
-        *number = MOONBLEAT_NONE;
-        return true;
-    }
-    if (form->name_of != NULL && parse_name(form, token, number)) {
-        return true;
-    }
-    char prefix = prefix_of(form->sort);
-    if (prefix == '\0') {
-        return parse_integer(token, number);
-    }
-    if (token.len == 0 || token.at[0] != prefix) {
-        return false;
-    }
-    return parse_integer((struct token){token.at + 1, token.len - 1, token.column + 1}, number);
-}
-
-/* What may stand in a number's place, in words. */
-static void add_expected(struct text *text, const struct number_form *form)
-{
-    add_text(text, "expected the %s", form->name);
-    if (form->name_of != NULL) {
-        for (int64_t i = form->low; i <= form->high; i++) {
-            add_text(text, "%s %s", i == form->low ? ":" : " or", form->name_of((uint32_t)i));
-        }
-    } else if (prefix_of(form->sort) != '\0') {
-        add_text(text, " as %c0", prefix_of(form->sort));
-    } else {
-        add_text(text, ", a number");
-    }
-}
-
-/* The numbers that a width has. */
-static struct range width_range(const struct number_form *form)
-{
-    int64_t size = INT64_C(1) << 8 * form->width;
-    return form->sort == SIGNED ? (struct range){-size / 2, size / 2 - 1} : (struct range){0, size - 1};
-}
-
-/* The range of a number where it stands in the text. */
-static struct range text_range(const struct assembler *assembler, const struct number_form *form, uint32_t kind)
-{
-    struct range range = {form->low, form->high};
-    if (assembler->assembly->allows_refused) {
-        range = width_range(form);
-    } else if (!assembler->has_bytes || form->sort == VALUE) {
-        range = range_of(form, &assembler->reading, kind);
-    }
-    if (form->sort == VALUE) {
-        range.low = element_low(kind);
-    }
-    return range;
-}
-
-/* The bits that a number is written with. */
-static uint32_t bits_of(const struct number_form *form, int64_t number, uint32_t kind)
-{
-    unsigned bits = form->sort == VALUE && number < 0 ? kind_bits(kind) : 8u * form->width;
-    return (uint32_t)((uint64_t)number & ((UINT64_C(1) << bits) - 1));
-}
-
-/* Judges a number that was read at a column; gives its bits. */
-static uint32_t judged(struct assembler *assembler, const struct number_form *form, int64_t number, uint32_t kind,
-                       size_t column)
-{
-    bool is_none = (form->sort == OBJECT || form->sort == VIEW) && number == MOONBLEAT_NONE;
-    struct range range = text_range(assembler, form, kind);
-    if (!is_none && (number < range.low || number > range.high)) {
-        struct asm_error error = error_at(assembler, column);
-        add_out_of_range(&error.sentence, form->name, number, range);
-        report(assembler, &error);
-    }
-    return bits_of(form, number, kind);
-}
-
-/* Whether a word stands before a later number of a part. */
-static bool is_later_keyword(const struct part_form *part, const struct number_form *form, struct token token)
-{
-    for (const struct number_form *later = form + 1; later < part->numbers + part->count; later++) {
-        if (later->keyword != NULL && is_word(token, later->keyword)) {
-            return true;
-        }
-    }
-    return false;
-}
-
-/* Takes the next word as a number; 0 where it is none. */
-static uint32_t take_number(struct assembler *assembler, const struct part_form *part, const struct number_form *form,
-                            uint32_t kind)
-{
-    struct token token = peek(assembler);
-    int64_t number = 0;
-    if (!is_later_keyword(part, form, token)) {
-        take(assembler);
-    }
-    if (!parse_word(form, token, &number)) {
-        struct text expected = {.len = 0};
-        add_expected(&expected, form);
-        report_expected(assembler, expected.at, token);
-        return 0;
-    }
-    return judged(assembler, form, number, kind, token.column);
-}
-
-/* Takes rows and columns, written as 1x8 in decimal. */
-static void take_shape(struct assembler *assembler, const struct number_form *rows, const struct number_form *columns,
-                       struct part *part)
-{
-    struct token token = take(assembler);
-    struct token first = token, second = {token.at, 0, token.column};
-    const char *cross = memchr(token.at, 'x', token.len);
-    if (cross != NULL) {
-        first.len = (size_t)(cross - token.at);
-        second = (struct token){cross + 1, token.len - first.len - 1, token.column + first.len + 1};
-    }
-    int64_t row_count = 0, column_count = 0;
-    if (!parse_integer(first, &row_count) || !parse_integer(second, &column_count)) {
-        report_expected(assembler, "expected rows and columns as 1x8", token);
-        row_count = column_count = 1;
-    }
-    put_number(part, judged(assembler, rows, row_count, 0, first.column), rows->width);
-    put_number(part, judged(assembler, columns, column_count, 0, second.column), columns->width);
-}
-
-/* Goes to a word further on in the line and takes it; false if there is none. */
-static bool skip_to(struct assembler *assembler, const char *word)
-{
-    const char *start = assembler->rest;
-    for (struct token token = take(assembler); token.len > 0; token = take(assembler)) {
-        if (is_word(token, word)) {
-            return true;
-        }
-    }
-    assembler->rest = start;
-    return false;
-}
-
-/* Takes the word before a number; whether there is one. Where it is not, the line goes on at the
- * word further on, or else behind the word in its place, which may be misspelt. */
-static bool take_keyword(struct assembler *assembler, const struct number_form *form)
-{
-    struct token token = peek(assembler);
-    if (is_word(token, form->keyword)) {
-        take(assembler);
-        return true;
-    }
-    if (form->may_lack) {
-        return false;
-    }
-    struct text expected = {.len = 0};
-    add_text(&expected, "expected '%s' and a number", form->keyword);
-    report_expected(assembler, expected.at, token);
-    if (!skip_to(assembler, form->keyword)) {
-        take(assembler);
-    }
-    return true;
-}
-
-/* Whether the next number is given; one without a word of its own may lack where its neighbour
- * does, and a view where no view stands. */
-static bool is_given(struct assembler *assembler, const struct number_form *form, bool neighbour)
-{
-    if (form->keyword != NULL) {
-        return take_keyword(assembler, form);
-    }
-    if (form->sort == VIEW) {
-        struct token token = peek(assembler);
-        return token.len > 0 && (token.at[0] == prefix_of(VIEW) || is_word(token, "none"));
-    }
-    return !form->may_lack || neighbour;
 }
 
 /* -- Fields ----------------------------------------------------------------------------------- */
 
-/* Takes the numbers of a part, once. */
-static void take_part(struct assembler *assembler, const struct part_form *form, struct part *part)
+/* What was read before the open field, if the text alone tells. */
+static const struct reading *known_reading(const struct assembler *assembler)
 {
-    uint32_t kind = 0;
-    bool given = true;
-    for (size_t i = 0; i < form->count; i++) {
-        const struct number_form *number = &form->numbers[i];
-        uint32_t bits = number->lacking;
-        if (number->sort == ROWS) {
-            take_shape(assembler, number, number + 1, part);
-            i++;
-            continue;
-        }
-        bool computed = number->sort == COUNT || number->sort == SIZED;
-        if (!computed) {
-            given = is_given(assembler, number, given);
-            bits = given ? take_number(assembler, form, number, kind) : bits;
-        }
-        kind = number->sort == KIND ? bits : kind;
-        put_number(part, bits, number->width);
-    }
-    part->times++;
-}
-
-/* Takes the numbers of a part that is repeated on one line. */
-static void take_list(struct assembler *assembler, const struct part_form *form, struct part *part)
-{
-    take_keyword(assembler, &form->numbers[0]);
-    do {
-        put_number(part, take_number(assembler, form, &form->numbers[0], 0), form->numbers[0].width);
-        part->times++;
-    } while (peek(assembler).len > 0 && part->times < DIMENSIONS_MAX);
+    return assembler->has_bytes ? NULL : &assembler->reading;
 }
 
 /* Layouts and views are called by their number, which the text must have right. */
 static void take_label(struct assembler *assembler, const struct field_form *form)
 {
     const struct rank_form *rank = &rank_forms[form->rank];
-    if (rank->label == NULL) {
+    if (rank->label == '\0') {
         return;
     }
-    struct text expected = {.len = 0}, sentence = {.len = 0};
-    add_text(&expected, "%s%u", rank->label, assembler->reading.counts[form->rank]);
-    add_text(&sentence, "expected '%s', this %s's name", expected.at, rank->name);
-    struct token token = peek(assembler);
-    bool is_label = token.len > 1 && token.at[0] == rank->label[0] && token.at[1] >= '0' && token.at[1] <= '9';
-    if (!is_label || (!assembler->has_bytes && !is_word(token, expected.at))) {
-        report_expected(assembler, sentence.at, token);
+    struct text name = {.len = 0}, sentence = {.len = 0};
+    add_text(&name, "%c%u", rank->label, assembler->reading.counts[form->rank]);
+    add_text(&sentence, "expected '%s', this %s's name", name.at, rank->name);
+    struct token token = peek(&assembler->line);
+    bool is_label = token.len > 1 && token.at[0] == rank->label && token.at[1] >= '0' && token.at[1] <= '9';
+    if (!is_label || (!assembler->has_bytes && !is_word(token, name.at))) {
+        report_expected(&assembler->line, sentence.at, token);
     }
     if (is_label) {
-        take(assembler);
+        take(&assembler->line);
     }
 }
 
@@ -538,10 +165,9 @@ static void complete_part(struct assembler *assembler, size_t index)
         }
     }
     struct text sentence = judge_times(assembler, index);
-    struct origin *origin = &assembler->origins[assembler->origin_count - 1];
     if (sentence.len > 0) {
-        report_at(assembler, origin, &sentence);
-        origin->faulty = true;
+        report_field(assembler, last_origin(assembler), &sentence);
+        last_origin(assembler)->faulty = true;
     }
 }
 
@@ -585,9 +211,9 @@ static void take_field(struct assembler *assembler, const struct field_form *for
     take_label(assembler, form);
     for (size_t i = 0; i < form->part_count && form->parts[i].word == NULL; i++) {
         if (form->parts[i].repeat == ONCE) {
-            take_part(assembler, &form->parts[i], &assembler->parts[i]);
+            take_part(&assembler->line, known_reading(assembler), &form->parts[i], &assembler->parts[i]);
         } else {
-            take_list(assembler, &form->parts[i], &assembler->parts[i]);
+            take_list(&assembler->line, &form->parts[i], &assembler->parts[i]);
         }
     }
 }
@@ -599,26 +225,34 @@ static void take_further_line(struct assembler *assembler, size_t index, struct 
     struct part *part = &assembler->parts[index];
     unsigned most = form->repeat == ONCE ? 1 : DIMENSIONS_MAX;
     if (part->times == most) {
-        struct asm_error error = error_at(assembler, word.column);
-        add_text(&error.sentence, "a %s has at most %u '%s'", assembler->form->name, most, form->word);
-        report(assembler, &error);
-        assembler->rest = assembler->line_end;
+        struct text sentence = {.len = 0};
+        add_text(&sentence, "a %s has at most %u '%s'", assembler->form->name, most, form->word);
+        report(&assembler->line, word.column, &sentence);
+        assembler->line.rest = assembler->line.end;
         return;
     }
-    take_part(assembler, form, part);
+    take_part(&assembler->line, known_reading(assembler), form, part);
 }
 
 /* -- Lines ------------------------------------------------------------------------------------ */
 
+static void expect_line_end(struct line *line)
+{
+    struct token token = peek(line);
+    if (token.len > 0) {
+        report_expected(line, "expected the end of the line", token);
+    }
+}
+
 static void take_allow(struct assembler *assembler)
 {
-    struct token token = take(assembler);
+    struct token token = take(&assembler->line);
     if (!is_word(token, "refused")) {
-        report_expected(assembler, "expected 'refused'", token);
+        report_expected(&assembler->line, "expected 'refused'", token);
     } else if (assembler->origin_count > 0) {
-        struct asm_error error = error_at(assembler, token.column);
-        add_text(&error.sentence, "'allow refused' must stand before the first field");
-        add_error(assembler->assembly, &error);
+        struct text sentence = {.len = 0};
+        add_text(&sentence, "'allow refused' must stand before the first field");
+        report(&assembler->line, token.column, &sentence);
     } else {
         assembler->assembly->allows_refused = true;
     }
@@ -628,11 +262,12 @@ static void take_allow(struct assembler *assembler)
 static void take_bytes(struct assembler *assembler)
 {
     assembler->has_bytes = true;
-    for (struct token token = take(assembler); token.len > 0; token = take(assembler)) {
+    struct line *line = &assembler->line;
+    for (struct token token = take(line); token.len > 0; token = take(line)) {
         for (size_t i = 0; i < token.len; i += 2) {
             uint8_t byte;
             if (i + 2 > token.len || !parse_hex_byte(token.at + i, &byte)) {
-                report_expected(assembler, "expected pairs of hex digits", token);
+                report_expected(line, "expected pairs of hex digits", token);
                 break;
             }
             put_bytes(assembler, &byte, 1);
@@ -677,16 +312,16 @@ static void take_other_line(struct assembler *assembler, struct token word)
     size_t index = assembler->form == NULL ? 0 : find_part(assembler->form, word);
     if (assembler->form != NULL && index < assembler->form->part_count) {
         take_further_line(assembler, index, word);
-        expect_line_end(assembler);
+        expect_line_end(&assembler->line);
         return;
     }
     bool is_part = is_part_word(word);
     if (!is_part || !assembler->unknown) {
-        struct asm_error error = error_at(assembler, word.column);
-        add_text(&error.sentence, "'");
-        add_token(&error.sentence, word);
-        add_text(&error.sentence, is_part ? "' does not belong to the field before it" : "' begins no field");
-        add_error(assembler->assembly, &error);
+        struct text sentence = {.len = 0};
+        add_text(&sentence, "'");
+        add_token(&sentence, word);
+        add_text(&sentence, is_part ? "' does not belong to the field before it" : "' begins no field");
+        add_error(assembler->assembly, assembler->line.number, word.column, &sentence);
     }
     if (!is_part) {
         close_field(assembler);
@@ -697,7 +332,7 @@ static void take_other_line(struct assembler *assembler, struct token word)
 /* Takes a line; false if there is not enough room to work in. */
 static bool take_line(struct assembler *assembler)
 {
-    struct token word = take(assembler);
+    struct token word = take(&assembler->line);
     if (word.len == 0) {
         return true;
     }
@@ -706,7 +341,7 @@ static bool take_line(struct assembler *assembler)
     if (is_word(word, "allow")) {
         close_field(assembler);
         take_allow(assembler);
-        expect_line_end(assembler);
+        expect_line_end(&assembler->line);
     } else if (form == NULL && !is_bytes) {
         take_other_line(assembler, word);
     } else {
@@ -720,7 +355,7 @@ static bool take_line(struct assembler *assembler)
         } else {
             take_field(assembler, form);
         }
-        expect_line_end(assembler);
+        expect_line_end(&assembler->line);
     }
     return true;
 }
@@ -733,11 +368,12 @@ static bool take_lines(struct assembler *assembler, const char *text, size_t len
         const char *newline = memchr(text, '\n', (size_t)(end - text));
         const char *line_end = newline == NULL ? end : newline;
         const char *comment = memchr(text, '#', (size_t)(line_end - text));
-        assembler->line++;
-        assembler->line_ended = false;
-        assembler->line_start = assembler->rest = text;
-        assembler->line_end = comment == NULL ? line_end : comment;
+        assembler->line = (struct line){assembler->assembly, text, text, comment == NULL ? line_end : comment,
+                                        assembler->line.number + 1, false, false};
         done = take_line(assembler);
+        if (assembler->line.faulty && assembler->origin_count > 0) {
+            last_origin(assembler)->faulty = true;
+        }
         text = newline == NULL ? end : newline + 1;
     }
     return done;
@@ -758,7 +394,7 @@ static void judge_sheet(struct assembler *assembler)
             origin++;
         }
         if (judge_field(&reading, &field, &sentence) != 0) {
-            report_at(assembler, &assembler->origins[origin], &sentence);
+            report_field(assembler, &assembler->origins[origin], &sentence);
         }
         if (field.form != NULL) {
             note_field(&reading, field.form);
@@ -767,11 +403,11 @@ static void judge_sheet(struct assembler *assembler)
     struct text sentence = {.len = 0};
     if (at < sheet->len) {
         add_text(&sentence, HEAD_CUT_SENTENCE, sheet->len - at);
-        report_at(assembler, &assembler->origins[assembler->origin_count - 1], &sentence);
+        report_field(assembler, last_origin(assembler), &sentence);
     } else if (reading.counts[EDITION_RANK] == 0) {
-        const struct origin end = {at, assembler->line == 0 ? 1 : assembler->line, 1, false};
+        const struct origin end = {at, assembler->line.number == 0 ? 1 : assembler->line.number, 1, false};
         add_text(&sentence, NO_EDITION_SENTENCE);
-        report_at(assembler, &end, &sentence);
+        report_field(assembler, &end, &sentence);
     }
 }
 
@@ -787,9 +423,9 @@ bool assemble(const char *text, size_t len, struct assembly *assembly)
             judge_sheet(&assembler);
         }
     } else {
-        struct asm_error error = error_at(&assembler, 1);
-        add_text(&error.sentence, "there is not enough room to work in");
-        add_error(assembly, &error);
+        struct text sentence = {.len = 0};
+        add_text(&sentence, "there is not enough room to work in");
+        add_error(assembly, assembler.line.number, 1, &sentence);
     }
     free(assembler.origins);
     return assembly->error_count == 0;

@@ -122,10 +122,10 @@ static const struct number_form multiply_add_numbers[] = {
 #define STEP(tag, name, words, numbers) {tag, STEP_RANK, name, {PART(ONCE, NULL, NULL, words, numbers)}, 1}
 
 const struct rank_form rank_forms[RANKS] = {
-    [EDITION_RANK] = {"edition", NULL, 1},
-    [LAYOUT_RANK] = {"layout", "L", MOONBLEAT_LAYOUTS_MAX},
-    [VIEW_RANK] = {"view", "V", MOONBLEAT_VIEWS_MAX},
-    [STEP_RANK] = {"step", NULL, MOONBLEAT_STEPS_MAX},
+    [EDITION_RANK] = {"edition", '\0', 1},
+    [LAYOUT_RANK] = {"layout", 'L', MOONBLEAT_LAYOUTS_MAX},
+    [VIEW_RANK] = {"view", 'V', MOONBLEAT_VIEWS_MAX},
+    [STEP_RANK] = {"step", '\0', MOONBLEAT_STEPS_MAX},
 };
 
 const struct field_form field_forms[] = {
@@ -175,6 +175,32 @@ const struct field_form *field_of_tag(uint8_t tag)
         }
     }
     return NULL;
+}
+
+char prefix_of(enum sort sort)
+{
+    switch (sort) {
+    case RESULT:
+    case REGISTER:
+    case OBJECT:
+        return 'r';
+    case LAYOUT:
+        return rank_forms[LAYOUT_RANK].label;
+    case VIEW:
+        return rank_forms[VIEW_RANK].label;
+    default:
+        return '\0';
+    }
+}
+
+bool may_be_none(const struct number_form *form)
+{
+    return form->sort == OBJECT || form->sort == VIEW;
+}
+
+bool is_none(const struct number_form *form, int64_t number)
+{
+    return may_be_none(form) && number == MOONBLEAT_NONE;
 }
 
 /* -- Walking ---------------------------------------------------------------------------------- */

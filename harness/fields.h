@@ -76,7 +76,7 @@ struct field_form {
 
 struct rank_form {
     const char *name;  /* of a field of this rank */
-    const char *label; /* before its number in the text form; NULL: it has none */
+    char label;        /* before its number in the text form; 0: it has none */
     unsigned limit;    /* how many of them a sheet may have */
 };
 
@@ -123,6 +123,16 @@ void field_values(const struct field *field, struct values *values);
 
 /* The first number of a sort; 0 if there is none. */
 uint32_t value_of_sort(const struct values *values, enum sort sort);
+
+/* The letter before a number of a sort in the text form; 0: none. */
+char prefix_of(enum sort sort);
+
+/* What stands in place of an object or a view that there is none of. */
+#define NONE_WORD "none"
+
+/* Whether a number may say that there is none, and whether it does. */
+bool may_be_none(const struct number_form *form);
+bool is_none(const struct number_form *form, int64_t number);
 
 /* The number that raw bits of a form stand for. */
 int64_t number_of(const struct number_form *form, uint32_t raw);

@@ -124,18 +124,12 @@ static uint32_t judge_length(const struct reading *reading, const struct field *
 
 /* -- Refusals 5 and 6 ------------------------------------------------------------------------- */
 
-/* Whether a number may be 255 for none, and is. */
-static bool is_none(const struct value *value)
-{
-    return (value->form->sort == OBJECT || value->form->sort == VIEW) && value->raw == MOONBLEAT_NONE;
-}
-
 static bool judge_value(const struct reading *reading, const struct field *field, const struct values *values,
                         size_t at, struct text *sentence)
 {
     const struct value *value = &values->at[at];
     const struct part_form *part = &field->form->parts[value->part];
-    if (is_none(value) || value->form->sort == PERMUTED) {
+    if (is_none(value->form, value->raw) || value->form->sort == PERMUTED) {
         return true;
     }
     struct range range = range_of(value->form, reading, value_of_sort(values, KIND));

@@ -12,46 +12,31 @@
 static void print_number(FILE *file, const struct value *value, uint32_t kind)
 {
     const struct number_form *form = value->form;
-    switch (form->sort) {
-    case RESULT:
-    case REGISTER:
-    case OBJECT:
-        fprintf(file, " r%" PRIu32, value->raw);
-        break;
-    case LAYOUT:
-    case VIEW:
-        fprintf(file, " %s%" PRIu32, rank_forms[form->sort == LAYOUT ? LAYOUT_RANK : VIEW_RANK].label, value->raw);
-        break;
-    case COLUMNS:
-        fprintf(file, "x%" PRIu32, value->raw);
-        break;
-    case MODE:
-    case KIND:
+    if (form->name_of != NULL) {
         fprintf(file, " %s", form->name_of(value->raw));
-        break;
-    case VALUE:
+    } else if (form->sort == COLUMNS) {
+        fprintf(file, "x%" PRIu32, value->raw);
+    } else if (form->sort == VALUE) {
         fprintf(file, " %" PRId64, element_value(kind, value->raw));
-        break;
-    default:
+    } else if (prefix_of(form->sort) != '\0') {
+        fprintf(file, " %c%" PRIu32, prefix_of(form->sort), value->raw);
+    } else {
         fprintf(file, " %" PRId64, number_of(form, value->raw));
-        break;
     }
 }
 
 /* Whether a number is left out: asm computes it, or it says none. */
 static bool is_left_out(const struct value *value)
 {
-    enum sort sort = value->form->sort;
-    return sort == COUNT || sort == SIZED || (value->form->may_lack && value->raw == MOONBLEAT_NONE &&
-                                              value->form->lacking == MOONBLEAT_NONE);
+    return value->form->sort == COUNT || value->form->sort == SIZED || is_none(value->form, value->raw);
 }
 
 static void print_field(FILE *file, const struct field *field, unsigned number)
 {
     const struct rank_form *rank = &rank_forms[field->form->rank];
     fputs(field->form->name, file);
-    if (rank->label != NULL) {
-        fprintf(file, " %s%u", rank->label, number);
+    if (rank->label != '\0') {
+        fprintf(file, " %c%u", rank->label, number);
     }
     struct values values;
     field_values(field, &values);

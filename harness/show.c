@@ -14,7 +14,7 @@ static void show_number(const struct value *value, uint32_t kind)
 {
     const struct number_form *form = value->form;
     const char *name = form->name_of == NULL ? NULL : form->name_of(value->raw);
-    bool none = value->raw == MOONBLEAT_NONE;
+    bool none = is_none(form, value->raw);
     if (name != NULL) {
         fputs(name, stdout);
     } else if (form->sort == COUNT) {
