@@ -41,74 +41,88 @@ static const char *combine_name(uint32_t combine)
 
 /* -- Numbers ---------------------------------------------------------------------------------- */
 
+#define EDITION_MIN 1
+#define EDITION_MAX 1
 #define REGISTER_MAX (MOONBLEAT_REGISTERS - 1)
 #define EXTENT_MAX 4096
 #define OFFSET_MIN (-4096)
 #define OFFSET_MAX 4095
 
-#define WORD_2(name, low, high) {name, name, PLAIN, 2, low, high, NULL, false, 0}
+/* A number of some bytes; one that the text form may leave out; one that is written by a name. */
+#define NUMBER(name, keyword, sort, width, low, high) {name, keyword, sort, width, low, high, NULL, false, 0}
+#define OPTIONAL(name, keyword, sort, width, low, high, lacking) \
+    {name, keyword, sort, width, low, high, NULL, true, lacking}
 #define NAMES(name, sort, low, high, namer) {name, NULL, sort, 1, low, high, namer, false, 0}
-#define WRITTEN(name) {name, NULL, RESULT, 1, 0, REGISTER_MAX, NULL, false, 0}
-#define READ(name, keyword) {name, keyword, REGISTER, 1, 0, REGISTER_MAX, NULL, false, 0}
-#define SIDE(name, sort) {name, NULL, sort, 1, 1, MOONBLEAT_SIDE_MAX, NULL, false, 0}
-#define DIMENSION_COUNT {"dimension count", NULL, COUNT, 1, 1, DIMENSIONS_MAX, NULL, false, 0}
-#define ADDRESSING                                                                                                     \
-    {"layout", NULL, LAYOUT, 1, 0, MOONBLEAT_LAYOUTS_MAX - 1, NULL, false, 0},                                         \
-        {"view", NULL, VIEW, 1, 0, MOONBLEAT_VIEWS_MAX - 1, NULL, true, MOONBLEAT_NONE},                               \
-        {"base", "base", PLAIN, 4, 0, UINT32_MAX, NULL, false, 0}
 
-static const struct number_form edition_numbers[] = {{"edition", NULL, PLAIN, 1, 1, 1, NULL, false, 0}};
+#define WRITTEN(name) NUMBER(name, NULL, RESULT, 1, 0, REGISTER_MAX)
+#define READ(name, keyword) NUMBER(name, keyword, REGISTER, 1, 0, REGISTER_MAX)
+#define SIDES \
+    NUMBER("rows", NULL, ROWS, 1, 1, MOONBLEAT_SIDE_MAX), \
+    NUMBER("columns", NULL, COLUMNS, 1, 1, MOONBLEAT_SIDE_MAX)
+#define DIMENSION_COUNT NUMBER("dimension count", NULL, COUNT, 1, 1, DIMENSIONS_MAX)
+#define ADDRESSING \
+    NUMBER("layout", NULL, LAYOUT, 1, 0, MOONBLEAT_LAYOUTS_MAX - 1), \
+    OPTIONAL("view", NULL, VIEW, 1, 0, MOONBLEAT_VIEWS_MAX - 1, MOONBLEAT_NONE), \
+    NUMBER("base", "base", PLAIN, 4, 0, UINT32_MAX)
+
+static const struct number_form edition_numbers[] = {
+    NUMBER("edition", NULL, PLAIN, 1, EDITION_MIN, EDITION_MAX),
+};
 static const struct number_form layout_numbers[] = {
     DIMENSION_COUNT,
     NAMES("clamp mode", MODE, MOONBLEAT_CLAMP_UNDEFINED, MOONBLEAT_CLAMP_MIRROR_REPEAT, clamp_mode_name),
-    {"clamp value", "value", PLAIN, 4, 0, UINT32_MAX, NULL, true, 0},
+    OPTIONAL("clamp value", "value", PLAIN, 4, 0, UINT32_MAX, 0),
 };
 static const struct number_form dimension_numbers[] = {
-    {"block", "block", PLAIN, 2, 1, EXTENT_MAX, NULL, true, 1},
-    WORD_2("size", 1, EXTENT_MAX),
-    WORD_2("stride", 0, UINT16_MAX),
-    {"offset", "offset", SIGNED, 2, OFFSET_MIN, OFFSET_MAX, NULL, true, 0},
-    WORD_2("span", 1, EXTENT_MAX),
+    OPTIONAL("block", "block", PLAIN, 2, 1, EXTENT_MAX, 1),
+    NUMBER("size", "size", PLAIN, 2, 1, EXTENT_MAX),
+    NUMBER("stride", "stride", PLAIN, 2, 0, UINT16_MAX),
+    OPTIONAL("offset", "offset", SIGNED, 2, OFFSET_MIN, OFFSET_MAX, 0),
+    NUMBER("span", "span", PLAIN, 2, 1, EXTENT_MAX),
 };
 static const struct number_form view_numbers[] = {
     DIMENSION_COUNT,
-    {"has-dimensions", NULL, SIZED, 1, 0, 1, NULL, false, 0},
+    NUMBER("has-dimensions", NULL, SIZED, 1, 0, 1),
 };
 static const struct number_form permutation_numbers[] = {
-    {"permutation", "permutation", PERMUTED, 1, 0, DIMENSIONS_MAX - 1, NULL, false, 0},
+    NUMBER("permutation", "permutation", PERMUTED, 1, 0, DIMENSIONS_MAX - 1),
 };
 static const struct number_form view_dimension_numbers[] = {
-    WORD_2("size", 1, EXTENT_MAX),
-    WORD_2("stride", 0, UINT16_MAX),
+    NUMBER("size", "size", PLAIN, 2, 1, EXTENT_MAX),
+    NUMBER("stride", "stride", PLAIN, 2, 0, UINT16_MAX),
 };
 static const struct number_form clip_numbers[] = {
-    {"row offset", "rows", PLAIN, 2, 0, UINT16_MAX, NULL, true, 0},
-    {"row span", NULL, PLAIN, 2, 0, UINT16_MAX, NULL, true, UINT16_MAX},
-    {"column offset", "columns", PLAIN, 2, 0, UINT16_MAX, NULL, true, 0},
-    {"column span", NULL, PLAIN, 2, 0, UINT16_MAX, NULL, true, UINT16_MAX},
+    OPTIONAL("row offset", "rows", PLAIN, 2, 0, UINT16_MAX, 0),
+    OPTIONAL("row span", NULL, PLAIN, 2, 0, UINT16_MAX, UINT16_MAX),
+    OPTIONAL("column offset", "columns", PLAIN, 2, 0, UINT16_MAX, 0),
+    OPTIONAL("column span", NULL, PLAIN, 2, 0, UINT16_MAX, UINT16_MAX),
 };
 static const struct number_form fill_numbers[] = {
     WRITTEN("register"),
-    SIDE("rows", ROWS),
-    SIDE("columns", COLUMNS),
+    SIDES,
     NAMES("kind", KIND, MOONBLEAT_U8, MOONBLEAT_S32, kind_name),
-    {"value", NULL, VALUE, 4, 0, UINT32_MAX, NULL, false, 0},
+    NUMBER("value", NULL, VALUE, 4, 0, UINT32_MAX),
 };
 static const struct number_form load_numbers[] = {
     WRITTEN("register"),
-    {"object", "object", OBJECT, 1, 0, REGISTER_MAX, NULL, true, MOONBLEAT_NONE},
+    OPTIONAL("object", "object", OBJECT, 1, 0, REGISTER_MAX, MOONBLEAT_NONE),
     ADDRESSING,
 };
-static const struct number_form store_numbers[] = {READ("register", NULL), ADDRESSING};
+static const struct number_form store_numbers[] = {
+    READ("register", NULL),
+    ADDRESSING,
+};
 static const struct number_form reduce_numbers[] = {
     WRITTEN("result"),
     READ("source", "of"),
-    SIDE("rows", ROWS),
-    SIDE("columns", COLUMNS),
+    SIDES,
     NAMES("mode", MODE, MOONBLEAT_REDUCE_ROW, MOONBLEAT_REDUCE_2X2, reduce_mode_name),
     NAMES("combine", MODE, MOONBLEAT_COMBINE_ADD, MOONBLEAT_COMBINE_XOR, combine_name),
 };
-static const struct number_form transpose_numbers[] = {WRITTEN("result"), READ("source", "of")};
+static const struct number_form transpose_numbers[] = {
+    WRITTEN("result"),
+    READ("source", "of"),
+};
 static const struct number_form multiply_add_numbers[] = {
     WRITTEN("result"),
     READ("A", "A"),

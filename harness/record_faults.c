@@ -105,7 +105,8 @@ static bool find_elements_fault(const struct refused *refused, const struct reco
     }
     if (numbers[RECORD_OP] == MOONBLEAT_OP_FILL) {
         int64_t high = (INT64_C(1) << bits) - 1;
-        return is_out(cause, "value", bits == 32 ? (int64_t)(uint32_t)numbers[RECORD_BITS] : numbers[RECORD_BITS], 0, high);
+        int64_t value = bits == 32 ? (int64_t)(uint32_t)numbers[RECORD_BITS] : numbers[RECORD_BITS];
+        return is_out(cause, "value", value, 0, high);
     }
     return is_out(cause, "step", numbers[RECORD_STEP], -BYTE_STEP_MAX, BYTE_STEP_MAX) ||
            find_byte_fault(refused, record, bits / 8, cause);

@@ -138,6 +138,16 @@ bool find_shape_fault(const struct step *step, struct text *cause)
     }
 }
 
+/* The register whose type a load or a store goes by. */
+static uint32_t matrix_of(const struct step *step)
+{
+    uint32_t object = value_of_sort(&step->values, OBJECT);
+    if (step->field.tag == MOONBLEAT_TAG_STORE) {
+        return value_of_sort(&step->values, REGISTER);
+    }
+    return object == MOONBLEAT_NONE ? value_of_sort(&step->values, RESULT) : object;
+}
+
 /* What a load or a store addresses with. */
 static bool find_access(const struct refused *refused, const struct step *step, struct access *access)
 {
@@ -156,9 +166,7 @@ static bool find_access(const struct refused *refused, const struct step *step, 
         field_values(&view, &values);
         access->view = view_of(&values);
     }
-    uint32_t object = value_of_sort(&step->values, OBJECT), own = value_of_sort(&step->values, RESULT);
-    uint32_t source = access->is_store ? value_of_sort(&step->values, REGISTER) : object == MOONBLEAT_NONE ? own : object;
-    const uint8_t *type = type_of(step, source);
+    const uint8_t *type = type_of(step, matrix_of(step));
     access->base = step->values.at[step->values.count - 1].raw;
     access->columns = type[MOONBLEAT_TYPE_COLUMNS];
     access->size = kind_bits(type[MOONBLEAT_TYPE_KIND]) / 8;

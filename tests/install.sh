@@ -87,10 +87,12 @@ expect 'make install DESTDIR' make_it install DESTDIR="$work/stage" PREFIX=/usr
 expect 'the staged paths' grep -q -x 'prefix=/usr' "$work/stage/usr/lib/pkgconfig/moonbleat.pc"
 expect 'the staged tool' test -x "$work/stage/usr/bin/moonbleat"
 
-# The sources of a commit.
-expect 'make dist' make_it dist
-expect 'the header in the sources' sh -c "tar tzf '$root/target/moonbleat-$version.tar.gz' |
-    grep -q -x 'moonbleat-$version/include/moonbleat.h'"
+# The sources of a commit, where there is one.
+if git -C "$root" rev-parse -q --verify HEAD > /dev/null 2>&1; then
+    expect 'make dist' make_it dist
+    expect 'the header in the sources' sh -c "tar tzf '$root/target/moonbleat-$version.tar.gz' |
+        grep -q -x 'moonbleat-$version/include/moonbleat.h'"
+fi
 
 # How far a proof has come.
 printf '%s\n' 'fn one::f: proved' 'logic=proved functions=1' 'rt: one proved (3 s)' 'error: no' \
