@@ -40,7 +40,7 @@ function numbered(line) {
     $0 = numbered("moonbleat proved")
 }
 
-!/^(fn .*: proved|logic[ =]|library )/ {
+!/^[a-z]+ [^ ]+: proved$/ && !/^(logic[ =]|library )/ {
     print
     fflush()
 }
