@@ -72,10 +72,10 @@ static void show_words(const struct refused *read, const uint32_t counts[MOONBLE
     if (read->answer[MOONBLEAT_NUMBER] == 0) {
         printf("sheet: %zu bytes, layouts %" PRIu32 ", views %" PRIu32 ", steps %" PRIu32 "\n", read->sheet_len,
                counts[0], counts[1], counts[2]);
-        show_sheet(read->sheet, read->sheet_len);
+        show_sheet(stdout, read->sheet, read->sheet_len);
     } else {
         printf("sheet: %zu bytes, refused\n", read->sheet_len);
-        show_refused_sheet(read->sheet, read->sheet_len, readable_bytes(read), refusal_line(read).at);
+        show_refused_sheet(stdout, read->sheet, read->sheet_len, readable_bytes(read), refusal_line(read).at);
     }
 }
 

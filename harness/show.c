@@ -10,23 +10,23 @@
 #include "kinds.h"
 #include "moonbleat.h"
 
-static void show_number(const struct value *value, uint32_t kind)
+static void show_number(FILE *file, const struct value *value, uint32_t kind)
 {
     const struct number_form *form = value->form;
     const char *name = form->name_of == NULL ? NULL : form->name_of(value->raw);
     bool none = is_none(form, value->raw);
     if (name != NULL) {
-        fputs(name, stdout);
+        fputs(name, file);
     } else if (form->sort == COUNT) {
-        printf("%" PRIu32 " dimension%s", value->raw, value->raw == 1 ? "" : "s");
+        fprintf(file, "%" PRIu32 " dimension%s", value->raw, value->raw == 1 ? "" : "s");
     } else if (form->sort == SIZED && value->raw <= 1) {
-        fputs(value->raw == 1 ? "of its own" : "of the layout's spans", stdout);
+        fputs(value->raw == 1 ? "of its own" : "of the layout's spans", file);
     } else if (form->sort == OBJECT) {
-        none ? fputs("its own object", stdout) : printf("object register %" PRIu32, value->raw);
+        none ? fputs("its own object", file) : fprintf(file, "object register %" PRIu32, value->raw);
     } else if (form->sort == VIEW) {
-        none ? fputs("no view", stdout) : printf("view %" PRIu32, value->raw);
+        none ? fputs("no view", file) : fprintf(file, "view %" PRIu32, value->raw);
     } else {
-        printf("%" PRId64, form->sort == VALUE ? element_value(kind, value->raw) : number_of(form, value->raw));
+        fprintf(file, "%" PRId64, form->sort == VALUE ? element_value(kind, value->raw) : number_of(form, value->raw));
     }
 }
 
@@ -44,98 +44,98 @@ static const struct value *find_value(const struct values *values, size_t first,
 }
 
 /* Prints the words of a part whose numbers begin at values->at[first]. */
-static void show_part(const struct part_form *part, const struct values *values, size_t first)
+static void show_part(FILE *file, const struct part_form *part, const struct values *values, size_t first)
 {
     for (const char *at = part->words; *at != '\0'; at++) {
         if (*at != '{') {
-            putchar(*at);
+            fputc(*at, file);
             continue;
         }
         size_t len = strcspn(at + 1, "}");
         const struct value *value = find_value(values, first, part->count, at + 1, len);
         if (value == NULL) {
-            putchar('?');
+            fputc('?', file);
         } else {
-            show_number(value, value_of_sort(values, KIND));
+            show_number(file, value, value_of_sort(values, KIND));
         }
         at += len + 1;
     }
 }
 
-static void show_bytes(const uint8_t *bytes, size_t len)
+static void show_bytes(FILE *file, const uint8_t *bytes, size_t len)
 {
     enum { SHOWN = 16 };
     for (size_t i = 0; i < len && i < SHOWN; i++) {
-        printf(" %02X", (unsigned)bytes[i]);
+        fprintf(file, " %02X", (unsigned)bytes[i]);
     }
-    puts(len > SHOWN ? " .." : "");
+    fputs(len > SHOWN ? " ..\n" : "\n", file);
 }
 
-static void show_field(const struct field *field, const struct reading *reading)
+static void show_field(FILE *file, const struct field *field, const struct reading *reading)
 {
     struct values values;
     if (field->form == NULL) {
-        printf("field 0x%02X, %zu bytes:", (unsigned)field->tag, field->length);
-        show_bytes(field->content, field->content_len);
+        fprintf(file, "field 0x%02X, %zu bytes:", (unsigned)field->tag, field->length);
+        show_bytes(file, field->content, field->content_len);
         return;
     }
     field_values(field, &values);
     if (field->form->rank != EDITION_RANK) {
-        printf("%s %u: ", rank_forms[field->form->rank].name, reading->counts[field->form->rank]);
+        fprintf(file, "%s %u: ", rank_forms[field->form->rank].name, reading->counts[field->form->rank]);
     }
-    show_part(&field->form->parts[0], &values, 0);
+    show_part(file, &field->form->parts[0], &values, 0);
     for (size_t i = field->form->parts[0].count; i < values.count; i++) {
         const struct part_form *part = &field->form->parts[values.at[i].part];
         if (values.at[i].form != part->numbers) {
             continue;
         }
         if (part->word != NULL && part->repeat != ONCE) {
-            printf("\n  dimension %u: ", values.at[i].dimension);
+            fprintf(file, "\n  dimension %u: ", values.at[i].dimension);
         } else if (part->word != NULL) {
-            fputs("\n  ", stdout);
+            fputs("\n  ", file);
         }
-        show_part(part, &values, i);
+        show_part(file, part, &values, i);
     }
-    putchar('\n');
+    fputc('\n', file);
 }
 
 /* Prints fields from a byte on to one that is at `end` or makes no sense; gives its byte. */
-static size_t show_fields(const uint8_t *sheet, size_t sheet_len, size_t at, size_t end, struct reading *reading)
+static size_t show_fields(FILE *file, const uint8_t *sheet, size_t sheet_len, size_t at, size_t end, struct reading *reading)
 {
     struct field field;
     while (at < end && field_at(sheet, sheet_len, at, &field) && field.form != NULL) {
-        show_field(&field, reading);
+        show_field(file, &field, reading);
         note_field(reading, field.form);
         at = field_end(&field);
     }
     return at;
 }
 
-void show_sheet(const uint8_t *sheet, size_t sheet_len)
+void show_sheet(FILE *file, const uint8_t *sheet, size_t sheet_len)
 {
     struct reading reading = {{0}, EDITION_RANK};
-    show_fields(sheet, sheet_len, 0, sheet_len, &reading);
+    show_fields(file, sheet, sheet_len, 0, sheet_len, &reading);
 }
 
-void show_refused_sheet(const uint8_t *sheet, size_t sheet_len, size_t refused, const char *sentence)
+void show_refused_sheet(FILE *file, const uint8_t *sheet, size_t sheet_len, size_t refused, const char *sentence)
 {
     struct reading reading = {{0}, EDITION_RANK};
     struct field field;
-    size_t at = show_fields(sheet, sheet_len, 0, refused, &reading);
+    size_t at = show_fields(file, sheet, sheet_len, 0, refused, &reading);
     if (field_at(sheet, sheet_len, at, &field)) {
-        show_field(&field, &reading);
+        show_field(file, &field, &reading);
         if (field.form != NULL) {
             note_field(&reading, field.form);
         }
         at = field_end(&field);
     } else if (at < sheet_len) {
-        printf("%zu bytes:", sheet_len - at);
-        show_bytes(sheet + at, sheet_len - at);
+        fprintf(file, "%zu bytes:", sheet_len - at);
+        show_bytes(file, sheet + at, sheet_len - at);
         at = sheet_len;
     }
-    printf("^ %s\n", sentence);
-    at = show_fields(sheet, sheet_len, at, sheet_len, &reading);
+    fprintf(file, "^ %s\n", sentence);
+    at = show_fields(file, sheet, sheet_len, at, sheet_len, &reading);
     if (at < sheet_len) {
-        printf("%zu more bytes\n", sheet_len - at);
+        fprintf(file, "%zu more bytes\n", sheet_len - at);
     }
 }
