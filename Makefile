@@ -4,11 +4,17 @@
 #   make            the tool, the examples and unhex, in target/tool/
 #   make demo       print the tape of strip 4 and carry it out
 #   make archive    the library, target/staticlib/libmoonbleat.a
-#   make test       run the tool's tests
+#   make install    the tool, the library, its header, manual page and completion, below PREFIX
+#   make uninstall  take them away again
+#   make dist       the sources of the last commit, target/moonbleat-VERSION.tar.gz
+#   make tool-test  run the tool's tests and the examples of docs/SHEETS.md
+#   make test       these, those of the header's promises, and those of an installed library
+#   make text-test  try the text form and the diagnoses, with sanitizers: on all sheets of the
+#                   comparison, and on TEXTS damaged texts
 #   make compare    hold the archive to the second implementation; SHEETS=n SEED=n for other sheets
 #   make bench      time the archive beside it
 #   make lint       cppcheck, warnings as errors, and the header as C++
-#   make check      lint, test and compare: all but the proofs
+#   make check      lint, test, text-test and compare: all but the proofs
 #   make memcheck   the tool's tests with sanitizers, then with each third call under valgrind (all
 #                   of them would take six minutes), then 1,000 sheets of the comparison under it:
 #                   some two minutes
@@ -20,63 +26,128 @@ TOOL = target/tool
 ARCHIVE = target/staticlib/libmoonbleat.a
 SHEETS = 20000
 SEED = 1
+TEXTS = 30000
+
+PREFIX = /usr/local
+BINDIR = $(PREFIX)/bin
+LIBDIR = $(PREFIX)/lib
+INCLUDEDIR = $(PREFIX)/include
+MANDIR = $(PREFIX)/share/man/man1
+COMPLETIONDIR = $(PREFIX)/share/bash-completion/completions
 
 CFLAGS = -O2 -g
 WARNINGS = -std=c11 -Wall -Wextra -Wpedantic -Werror
-SANITIZE = -fsanitize=address,undefined -fno-sanitize-recover=all
+SANITIZED = TOOL=target/sanitized CFLAGS='$(CFLAGS) -fsanitize=address,undefined -fno-sanitize-recover=all'
 VALGRIND = valgrind -q --vgdb=no --error-exitcode=99
 LEAKS = --leak-check=full --show-leak-kinds=all --errors-for-leak-kinds=all
+COMPILE = $(CC) $(WARNINGS) $(CFLAGS) -Iinclude -Iharness
+
 HEADERS = include/moonbleat.h $(wildcard harness/*.h)
-TOOL_SOURCES = harness/moonbleat.c harness/files.c harness/kinds.c harness/refusals.c harness/show.c harness/tape_text.c
+PROGRAMS = harness/example.c harness/unhex.c harness/moonbleat.c
+OBJECTS = $(patsubst harness/%.c,$(TOOL)/%.o,$(filter-out $(PROGRAMS),$(wildcard harness/*.c)))
+SHEET_FILES = target/sheets/$(SEED)-$(SHEETS)
+VERSION = $(shell sed -n 's/^.define MOONBLEAT_VERSION_[A-Z]* //p' include/moonbleat.h | paste -s -d. -)
 
 # Cargo needs no network, writes to target/ alone, and links the archive by its absolute path.
 CARGO = CARGO_HOME='$(abspath target/cargo)' CARGO_TARGET_DIR='$(abspath target/compare)' \
 	MOONBLEAT_ARCHIVE='$(abspath $(ARCHIVE))' cargo
 CARGO_WORDS = --quiet --release --locked --offline --manifest-path compare/Cargo.toml
 
-all: $(TOOL)/moonbleat $(TOOL)/example $(TOOL)/readme $(TOOL)/unhex
+all: $(addprefix $(TOOL)/,moonbleat example readme unhex)
 
 # rt keeps what it has proved; the time stamp tells make that it looked.
 target/staticlib/libmoonbleat.a: crates.txt $(shell find crates -name '*.rt' -o -name '*.antt')
-	rt staticlib moonbleat
-	touch $@
+	@echo 'proving the library, some minutes the first time'
+	@bash -o pipefail -c 'rt staticlib moonbleat 2>&1 | awk -f harness/progress.awk crates.txt -'
+	@touch $@
 
 archive: target/staticlib/libmoonbleat.a
 
 $(TOOL):
 	mkdir -p $@
 
-$(TOOL)/moonbleat: $(TOOL_SOURCES) $(HEADERS) $(ARCHIVE) | $(TOOL)
-	$(CC) $(WARNINGS) $(CFLAGS) -Iinclude $(TOOL_SOURCES) $(ARCHIVE) $(LDLIBS) -o $@
+$(TOOL)/%.o: harness/%.c $(HEADERS) | $(TOOL)
+	$(COMPILE) -c $< -o $@
+
+$(TOOL)/moonbleat: harness/moonbleat.c $(OBJECTS) $(ARCHIVE)
+	$(COMPILE) $^ $(LDLIBS) -o $@
 
 $(TOOL)/example: harness/example.c include/moonbleat.h $(ARCHIVE) | $(TOOL)
-	$(CC) $(WARNINGS) $(CFLAGS) -Iinclude harness/example.c $(ARCHIVE) $(LDLIBS) -o $@
+	$(COMPILE) harness/example.c $(ARCHIVE) $(LDLIBS) -o $@
 
 # The lines of C that README.md shows.
 $(TOOL)/readme: README.md include/moonbleat.h $(ARCHIVE) | $(TOOL)
 	sed -n '/^```c$$/,/^```$$/{/^```/!p;}' README.md > $@.c
-	$(CC) $(WARNINGS) $(CFLAGS) -Iinclude $@.c $(ARCHIVE) $(LDLIBS) -o $@
+	$(COMPILE) $@.c $(ARCHIVE) $(LDLIBS) -o $@
 
 $(TOOL)/unhex: harness/unhex.c | $(TOOL)
-	$(CC) $(WARNINGS) $(CFLAGS) harness/unhex.c -o $@
+	$(COMPILE) harness/unhex.c -o $@
+
+$(TOOL)/test-%: tests/%.c tests/round_trip.h $(OBJECTS) $(ARCHIVE)
+	$(COMPILE) $(filter-out %.h,$^) $(LDLIBS) -o $@
+
+# Help and manual page have one source, the tool itself.
+$(TOOL)/moonbleat.1: $(TOOL)/moonbleat
+	$< help --man > $@
+
+$(TOOL)/moonbleat.pc: harness/moonbleat.pc.in include/moonbleat.h FORCE | $(TOOL)
+	sed -e 's|@PREFIX@|$(PREFIX)|' -e 's|@INCLUDEDIR@|$(INCLUDEDIR)|' -e 's|@LIBDIR@|$(LIBDIR)|' \
+		-e 's|@VERSION@|$(VERSION)|' $< > $@
+
+# What install puts there and uninstall takes away.
+INSTALLED = $(BINDIR)/moonbleat $(LIBDIR)/libmoonbleat.a $(LIBDIR)/pkgconfig/moonbleat.pc \
+	$(INCLUDEDIR)/moonbleat.h $(MANDIR)/moonbleat.1 $(COMPLETIONDIR)/moonbleat
+
+install: all $(TOOL)/moonbleat.1 $(TOOL)/moonbleat.pc
+	install -D -m 755 $(TOOL)/moonbleat '$(DESTDIR)$(BINDIR)/moonbleat'
+	install -D -m 644 $(ARCHIVE) '$(DESTDIR)$(LIBDIR)/libmoonbleat.a'
+	install -D -m 644 $(TOOL)/moonbleat.pc '$(DESTDIR)$(LIBDIR)/pkgconfig/moonbleat.pc'
+	install -D -m 644 include/moonbleat.h '$(DESTDIR)$(INCLUDEDIR)/moonbleat.h'
+	install -D -m 644 $(TOOL)/moonbleat.1 '$(DESTDIR)$(MANDIR)/moonbleat.1'
+	install -D -m 644 harness/completion.bash '$(DESTDIR)$(COMPLETIONDIR)/moonbleat'
+
+uninstall:
+	for file in $(INSTALLED); do rm -f '$(DESTDIR)'"$$file"; done
+
+dist:
+	git archive --format=tar.gz --prefix=moonbleat-$(VERSION)/ -o target/moonbleat-$(VERSION).tar.gz HEAD
 
 demo: all
-	@$(TOOL)/unhex < strips/04-mirror-repeat/sheet.hex > $(TOOL)/strip4.sheet
-	@$(TOOL)/unhex < strips/04-mirror-repeat/memory.hex > $(TOOL)/strip4.memory
 	@echo '-- the sheet'
-	@$(TOOL)/moonbleat show $(TOOL)/strip4.sheet
+	@grep -v '^#' strips/04-mirror-repeat/sheet.txt
+	@$(TOOL)/moonbleat asm strips/04-mirror-repeat/sheet.txt -o $(TOOL)/strip4.sheet
+	@$(TOOL)/unhex < strips/04-mirror-repeat/memory.hex > $(TOOL)/strip4.memory
 	@echo '-- its tape'
 	@$(TOOL)/moonbleat tape $(TOOL)/strip4.sheet
 	@echo '-- carried out on a memory whose byte i holds i'
 	@$(TOOL)/moonbleat run $(TOOL)/strip4.sheet $(TOOL)/strip4.memory
 
-test: all
+tool-test: all
 	tests/tool.sh $(TOOL)
+	tests/examples.sh $(TOOL)
+
+test: tool-test $(TOOL)/test-null $(TOOL)/test-stack $(SHEET_FILES)
+	$(TOOL)/test-null
+	$(TOOL)/test-stack $(SHEET_FILES)/00???-*.sheet
+	tests/install.sh
 
 memcheck: all
-	$(MAKE) TOOL=target/sanitized CFLAGS='$(CFLAGS) $(SANITIZE)' test
+	$(MAKE) $(SANITIZED) tool-test
 	RUNNER='$(VALGRIND) $(LEAKS)' EVERY=3 tests/tool.sh $(TOOL)
 	CARGO_TARGET_X86_64_UNKNOWN_LINUX_GNU_RUNNER='$(VALGRIND)' $(CARGO) run $(CARGO_WORDS) -- --sheets 1000
+
+# The sheets of the comparison as files.
+$(SHEET_FILES): $(ARCHIVE) $(wildcard compare/src/*.rs compare/src/reference/*.rs)
+	rm -rf $@ $@.part
+	mkdir -p $@.part
+	$(CARGO) run $(CARGO_WORDS) -- dump $@.part --sheets $(SHEETS) --seed $(SEED)
+	mv $@.part $@
+
+text-test: $(SHEET_FILES)
+	$(MAKE) $(SANITIZED) $(addprefix target/sanitized/test-,sheets fuzz_text null)
+	target/sanitized/test-null
+	target/sanitized/test-sheets $(SHEET_FILES)
+	target/sanitized/test-fuzz_text $(TEXTS) strips/*/sheet.txt
 
 compare: $(ARCHIVE)
 	$(CARGO) test $(CARGO_WORDS) --lib
@@ -87,13 +158,15 @@ bench: $(ARCHIVE)
 
 lint:
 	cppcheck --quiet --std=c11 --enable=warning,style,performance,portability --inconclusive \
-		--error-exitcode=1 --suppress=missingIncludeSystem -Iinclude harness
-	$(CC) $(WARNINGS) -Wshadow -Wconversion -Wstrict-prototypes -Iinclude -fsyntax-only harness/*.c
+		--error-exitcode=1 --suppress=missingIncludeSystem -Iinclude -Iharness harness tests
+	$(CC) $(WARNINGS) -Wshadow -Wconversion -Wstrict-prototypes -Iinclude -Iharness -fsyntax-only harness/*.c tests/*.c
 	$(CC) -x c++ -std=c++11 -Wall -Wextra -Wpedantic -Werror -fsyntax-only include/moonbleat.h
 
-check: lint test compare
+check: lint test text-test compare
 
 clean:
-	rm -rf $(TOOL) target/sanitized target/cargo target/compare
+	rm -rf $(TOOL) target/sanitized target/cargo target/compare target/sheets
 
-.PHONY: all archive demo test memcheck compare bench lint check clean
+FORCE:
+
+.PHONY: all archive install uninstall dist demo tool-test test text-test memcheck compare bench lint check clean FORCE

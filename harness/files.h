@@ -1,4 +1,4 @@
-/* Files, read and written whole. Each function says on standard error what went wrong. */
+/* Files to read. Each function says on standard error what went wrong. */
 #ifndef FILES_H
 #define FILES_H
 
@@ -7,14 +7,16 @@
 #include <stdint.h>
 #include <stdio.h>
 
+#include "moonbleat.h"
+
 /* Bytes of a file; `at` is to be freed and never NULL after a successful read. */
 struct bytes {
     uint8_t *at;
     size_t len;
 };
 
-/* The name that stands for standard input. */
-#define STANDARD_INPUT "-"
+/* The name that stands for standard input or standard output. */
+#define STANDARD_STREAM "-"
 
 /* Opens a file to read, or standard input; NULL if that fails. */
 FILE *open_input(const char *name);
@@ -28,8 +30,16 @@ void complain(const char *name);
 /* Reads the first `limit` bytes of a file, or all of it if it is shorter. */
 bool read_file(const char *name, size_t limit, struct bytes *bytes);
 
-/* Writes a file whole: under another name first, so that a file that exists is replaced by all of
- * the new one or not at all. */
-bool write_file(const char *name, const uint8_t *bytes, size_t len);
+/*
+ * How much of a file is read. A longer memory is refused whatever it holds. A longer sheet is
+ * refused at a field whose head lies no further than the longest accepted sheet reaches, and
+ * whose content is at most 65,535 bytes; what follows cannot change the answer.
+ */
+#define MEMORY_LIMIT ((size_t)MOONBLEAT_MEMORY_MAX + 1)
+#define SHEET_LIMIT ((size_t)MOONBLEAT_SHEET_MAX + 3 + UINT16_MAX)
+
+/* Read a sheet or a memory: as much of it as can change the answer. */
+bool read_sheet(const char *name, struct bytes *sheet);
+bool read_memory(const char *name, struct bytes *memory);
 
 #endif

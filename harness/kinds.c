@@ -1,33 +1,51 @@
 #include "kinds.h"
 
+#include <stdbool.h>
 #include <stddef.h>
 
 #include "moonbleat.h"
 
-const char *kind_name(uint8_t kind)
+static const struct kind {
+    const char *name;
+    unsigned bits;
+    bool has_sign;
+} kinds[] = {
+    [MOONBLEAT_U8] = {"u8", 8, false},    [MOONBLEAT_S8] = {"s8", 8, true},    [MOONBLEAT_U16] = {"u16", 16, false},
+    [MOONBLEAT_S16] = {"s16", 16, true},  [MOONBLEAT_U32] = {"u32", 32, false}, [MOONBLEAT_S32] = {"s32", 32, true},
+};
+
+static const struct kind *find_kind(uint32_t kind)
 {
-    static const char *const names[] = {"u8", "s8", "u16", "s16", "u32", "s32"};
-    return kind < sizeof names / sizeof names[0] ? names[kind] : "?";
+    return kind < sizeof kinds / sizeof kinds[0] ? &kinds[kind] : NULL;
 }
 
-/* A number of some bits with its sign. */
-static int64_t with_sign(uint32_t bits, unsigned width)
+const char *kind_name(uint32_t kind)
+{
+    const struct kind *found = find_kind(kind);
+    return found == NULL ? NULL : found->name;
+}
+
+unsigned kind_bits(uint32_t kind)
+{
+    const struct kind *found = find_kind(kind);
+    return found == NULL ? 32 : found->bits;
+}
+
+int64_t with_sign(uint32_t bits, unsigned width)
 {
     int64_t limit = INT64_C(1) << (width - 1);
     int64_t value = bits;
     return value < limit ? value : value - 2 * limit;
 }
 
-int64_t element_value(uint8_t kind, uint32_t bits)
+int64_t element_value(uint32_t kind, uint32_t bits)
 {
-    switch (kind) {
-    case MOONBLEAT_S8:
-        return with_sign(bits, 8);
-    case MOONBLEAT_S16:
-        return with_sign(bits, 16);
-    case MOONBLEAT_S32:
-        return with_sign(bits, 32);
-    default:
-        return bits;
-    }
+    const struct kind *found = find_kind(kind);
+    return found != NULL && found->has_sign ? with_sign(bits, found->bits) : (int64_t)bits;
+}
+
+int64_t element_low(uint32_t kind)
+{
+    const struct kind *found = find_kind(kind);
+    return found != NULL && found->has_sign ? -(INT64_C(1) << (found->bits - 1)) : 0;
 }

@@ -4,10 +4,19 @@
 
 #include <stdint.h>
 
-/* The name of a kind, as "u8". */
-const char *kind_name(uint8_t kind);
+/* The name of a kind, as "u8"; NULL if there is none. */
+const char *kind_name(uint32_t kind);
+
+/* Bits of an element; 32 for an unknown kind. */
+unsigned kind_bits(uint32_t kind);
 
 /* What an element's raw bits stand for. */
-int64_t element_value(uint8_t kind, uint32_t bits);
+int64_t element_value(uint32_t kind, uint32_t bits);
+
+/* The lowest number that an element can stand for. */
+int64_t element_low(uint32_t kind);
+
+/* A number of some bits, the highest of which is its sign. */
+int64_t with_sign(uint32_t bits, unsigned width);
 
 #endif

@@ -2,9 +2,17 @@
 #ifndef REFUSALS_H
 #define REFUSALS_H
 
-#include <stdint.h>
+#include "diagnose.h"
 
-/* Prints an answer's number, place and sentence on standard error. */
-void print_refusal(const uint32_t answer[4]);
+/* A refusal as "refusal 5 at byte 4: .." with its cause, or a general sentence where none is
+ * found. */
+struct text refusal_line(const struct refused *refused);
+
+/* Prints the above on standard error. */
+void print_refusal(const struct refused *refused);
+
+/* The two parts of the line: where, as "byte 4" (empty for nowhere), and why. */
+struct text refusal_place(const uint32_t answer[4]);
+struct text refusal_sentence(const struct refused *refused);
 
 #endif

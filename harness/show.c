@@ -3,226 +3,139 @@
 #include <inttypes.h>
 #include <stdbool.h>
 #include <stdio.h>
+#include <string.h>
 
+#include "fields.h"
+#include "judge.h"
 #include "kinds.h"
 #include "moonbleat.h"
 
-/* In an object's or a view's place: none. */
-enum { NONE = 255 };
-
-/* The bytes that are left; past their end there are zeros. */
-struct cursor {
-    const uint8_t *at;
-    size_t left;
-};
-
-/* Numbers of the parts shown so far. */
-struct shown {
-    unsigned layouts;
-    unsigned views;
-    unsigned steps;
-};
-
-static uint8_t take1(struct cursor *cursor)
+static void show_number(FILE *file, const struct value *value, uint32_t kind)
 {
-    if (cursor->left == 0) {
-        return 0;
-    }
-    cursor->left--;
-    return *cursor->at++;
-}
-
-static uint16_t take2(struct cursor *cursor)
-{
-    unsigned low = take1(cursor);
-    unsigned high = take1(cursor);
-    return (uint16_t)(low | high << 8);
-}
-
-static uint32_t take4(struct cursor *cursor)
-{
-    uint32_t low = take2(cursor);
-    uint32_t high = take2(cursor);
-    return low | high << 16;
-}
-
-static const char *plural(unsigned count)
-{
-    return count == 1 ? "" : "s";
-}
-
-/* A name of a table, or "?" past its end. */
-#define NAME(names, number) ((number) < sizeof(names) / sizeof((names)[0]) ? (names)[number] : "?")
-
-static void show_layout(struct cursor *cursor, unsigned number)
-{
-    static const char *const modes[] = {"Undefined", "Constant", "ClampToEdge", "Repeat", "MirrorRepeat"};
-    unsigned count = take1(cursor);
-    uint8_t mode = take1(cursor);
-    uint32_t value = take4(cursor);
-    printf("layout %u: %u dimension%s, clamp mode %s, clamp value %" PRIu32 "\n", number, count, plural(count),
-           NAME(modes, mode), value);
-    for (unsigned i = 0; i < count; i++) {
-        unsigned block = take2(cursor);
-        unsigned size = take2(cursor);
-        unsigned stride = take2(cursor);
-        int64_t offset = element_value(MOONBLEAT_S16, take2(cursor));
-        unsigned span = take2(cursor);
-        printf("  dimension %u: block %u, size %u, stride %u, offset %" PRId64 ", span %u\n", i, block, size, stride,
-               offset, span);
-    }
-}
-
-static void show_view(struct cursor *cursor, unsigned number)
-{
-    unsigned count = take1(cursor);
-    bool has_dimensions = take1(cursor) == 1;
-    printf("view %u: %u dimension%s, %s, permutation", number, count, plural(count),
-           has_dimensions ? "of its own" : "of the layout's spans");
-    for (unsigned i = 0; i < count; i++) {
-        printf(" %u", (unsigned)take1(cursor));
-    }
-    printf("\n");
-    for (unsigned i = 0; has_dimensions && i < count; i++) {
-        unsigned size = take2(cursor);
-        unsigned stride = take2(cursor);
-        printf("  dimension %u: size %u, stride %u\n", i, size, stride);
-    }
-    unsigned row_offset = take2(cursor);
-    unsigned row_span = take2(cursor);
-    unsigned column_offset = take2(cursor);
-    unsigned column_span = take2(cursor);
-    printf("  clip: rows from %u, span %u; columns from %u, span %u\n", row_offset, row_span, column_offset,
-           column_span);
-}
-
-static void show_fill(struct cursor *cursor)
-{
-    unsigned result = take1(cursor);
-    unsigned rows = take1(cursor);
-    unsigned columns = take1(cursor);
-    uint8_t kind = take1(cursor);
-    int64_t value = element_value(kind, take4(cursor));
-    printf("fill register %u, %u by %u of %s, with %" PRId64 "\n", result, rows, columns, kind_name(kind), value);
-}
-
-/* The end of a load and of a store: layout, view and base. */
-static void show_addressing(struct cursor *cursor)
-{
-    unsigned layout = take1(cursor);
-    unsigned view = take1(cursor);
-    uint32_t base = take4(cursor);
-    printf(", layout %u, ", layout);
-    if (view == NONE) {
-        printf("no view");
+    const struct number_form *form = value->form;
+    const char *name = form->name_of == NULL ? NULL : form->name_of(value->raw);
+    bool none = is_none(form, value->raw);
+    if (name != NULL) {
+        fputs(name, file);
+    } else if (form->sort == COUNT) {
+        fprintf(file, "%" PRIu32 " dimension%s", value->raw, value->raw == 1 ? "" : "s");
+    } else if (form->sort == SIZED && value->raw <= 1) {
+        fputs(value->raw == 1 ? "of its own" : "of the layout's spans", file);
+    } else if (form->sort == OBJECT) {
+        none ? fputs("its own object", file) : fprintf(file, "object register %" PRIu32, value->raw);
+    } else if (form->sort == VIEW) {
+        none ? fputs("no view", file) : fprintf(file, "view %" PRIu32, value->raw);
     } else {
-        printf("view %u", view);
-    }
-    printf(", base %" PRIu32 "\n", base);
-}
-
-static void show_load(struct cursor *cursor)
-{
-    unsigned result = take1(cursor);
-    unsigned object = take1(cursor);
-    printf("load register %u, ", result);
-    if (object == NONE) {
-        printf("its own object");
-    } else {
-        printf("object register %u", object);
-    }
-    show_addressing(cursor);
-}
-
-static void show_store(struct cursor *cursor)
-{
-    printf("store register %u", (unsigned)take1(cursor));
-    show_addressing(cursor);
-}
-
-static void show_reduce(struct cursor *cursor)
-{
-    static const char *const modes[] = {"?", "each row", "each column", "all elements", "2x2 squares"};
-    static const char *const combines[] = {"add", "min", "max", "and", "or", "xor"};
-    unsigned result = take1(cursor);
-    unsigned source = take1(cursor);
-    unsigned rows = take1(cursor);
-    unsigned columns = take1(cursor);
-    uint8_t mode = take1(cursor);
-    uint8_t combine = take1(cursor);
-    printf("reduce register %u to register %u, %u by %u: %s by %s\n", source, result, rows, columns,
-           NAME(modes, mode), NAME(combines, combine));
-}
-
-static void show_transpose(struct cursor *cursor)
-{
-    unsigned result = take1(cursor);
-    unsigned source = take1(cursor);
-    printf("transpose register %u to register %u\n", source, result);
-}
-
-static void show_multiply_add(struct cursor *cursor)
-{
-    unsigned result = take1(cursor);
-    unsigned a = take1(cursor);
-    unsigned b = take1(cursor);
-    unsigned c = take1(cursor);
-    printf("multiply registers %u and %u, add register %u, to register %u\n", a, b, c, result);
-}
-
-static void show_step(uint8_t tag, struct cursor *content, unsigned number)
-{
-    printf("step %u: ", number);
-    switch (tag) {
-    case MOONBLEAT_TAG_FILL:
-        show_fill(content);
-        break;
-    case MOONBLEAT_TAG_LOAD:
-        show_load(content);
-        break;
-    case MOONBLEAT_TAG_STORE:
-        show_store(content);
-        break;
-    case MOONBLEAT_TAG_REDUCE:
-        show_reduce(content);
-        break;
-    case MOONBLEAT_TAG_TRANSPOSE:
-        show_transpose(content);
-        break;
-    default:
-        show_multiply_add(content);
-        break;
+        fprintf(file, "%" PRId64, form->sort == VALUE ? element_value(kind, value->raw) : number_of(form, value->raw));
     }
 }
 
-static void show_field(uint8_t tag, struct cursor *content, struct shown *shown)
+/* The number of a name among those of one part; NULL if the field ends before it. */
+static const struct value *find_value(const struct values *values, size_t first, size_t count, const char *name,
+                                      size_t len)
 {
-    switch (tag) {
-    case MOONBLEAT_TAG_EDITION:
-        printf("edition %u\n", (unsigned)take1(content));
-        break;
-    case MOONBLEAT_TAG_LAYOUT:
-        show_layout(content, shown->layouts++);
-        break;
-    case MOONBLEAT_TAG_VIEW:
-        show_view(content, shown->views++);
-        break;
-    default:
-        show_step(tag, content, shown->steps++);
-        break;
+    for (size_t i = first; i < values->count && i < first + count; i++) {
+        const char *other = values->at[i].form->name;
+        if (strlen(other) == len && strncmp(other, name, len) == 0) {
+            return &values->at[i];
+        }
+    }
+    return NULL;
+}
+
+/* Prints the words of a part whose numbers begin at values->at[first]. */
+static void show_part(FILE *file, const struct part_form *part, const struct values *values, size_t first)
+{
+    for (const char *at = part->words; *at != '\0'; at++) {
+        if (*at != '{') {
+            fputc(*at, file);
+            continue;
+        }
+        size_t len = strcspn(at + 1, "}");
+        const struct value *value = find_value(values, first, part->count, at + 1, len);
+        if (value == NULL) {
+            fputc('?', file);
+        } else {
+            show_number(file, value, value_of_sort(values, KIND));
+        }
+        at += len + 1;
     }
 }
 
-void show_sheet(const uint8_t *sheet, size_t sheet_len)
+static void show_bytes(FILE *file, const uint8_t *bytes, size_t len)
 {
-    struct cursor rest = {sheet, sheet_len};
-    struct shown shown = {0, 0, 0};
-    while (rest.left > 0) {
-        uint8_t tag = take1(&rest);
-        size_t length = take2(&rest);
-        struct cursor content = {rest.at, length < rest.left ? length : rest.left};
-        rest.at += content.left;
-        rest.left -= content.left;
-        show_field(tag, &content, &shown);
+    enum { SHOWN = 16 };
+    for (size_t i = 0; i < len && i < SHOWN; i++) {
+        fprintf(file, " %02X", (unsigned)bytes[i]);
+    }
+    fputs(len > SHOWN ? " ..\n" : "\n", file);
+}
+
+static void show_field(FILE *file, const struct field *field, const struct reading *reading)
+{
+    struct values values;
+    if (field->form == NULL) {
+        fprintf(file, "field 0x%02X, %zu bytes:", (unsigned)field->tag, field->length);
+        show_bytes(file, field->content, field->content_len);
+        return;
+    }
+    field_values(field, &values);
+    if (field->form->rank != EDITION_RANK) {
+        fprintf(file, "%s %u: ", rank_forms[field->form->rank].name, reading->counts[field->form->rank]);
+    }
+    show_part(file, &field->form->parts[0], &values, 0);
+    for (size_t i = field->form->parts[0].count; i < values.count; i++) {
+        const struct part_form *part = &field->form->parts[values.at[i].part];
+        if (values.at[i].form != part->numbers) {
+            continue;
+        }
+        if (part->word != NULL && part->repeat != ONCE) {
+            fprintf(file, "\n  dimension %u: ", values.at[i].dimension);
+        } else if (part->word != NULL) {
+            fputs("\n  ", file);
+        }
+        show_part(file, part, &values, i);
+    }
+    fputc('\n', file);
+}
+
+/* Prints fields from a byte on to one that is at `end` or makes no sense; gives its byte. */
+static size_t show_fields(FILE *file, const uint8_t *sheet, size_t sheet_len, size_t at, size_t end, struct reading *reading)
+{
+    struct field field;
+    while (at < end && field_at(sheet, sheet_len, at, &field) && field.form != NULL) {
+        show_field(file, &field, reading);
+        note_field(reading, field.form);
+        at = field_end(&field);
+    }
+    return at;
+}
+
+void show_sheet(FILE *file, const uint8_t *sheet, size_t sheet_len)
+{
+    struct reading reading = {{0}, EDITION_RANK};
+    show_fields(file, sheet, sheet_len, 0, sheet_len, &reading);
+}
+
+void show_refused_sheet(FILE *file, const uint8_t *sheet, size_t sheet_len, size_t refused, const char *sentence)
+{
+    struct reading reading = {{0}, EDITION_RANK};
+    struct field field;
+    size_t at = show_fields(file, sheet, sheet_len, 0, refused, &reading);
+    if (field_at(sheet, sheet_len, at, &field)) {
+        show_field(file, &field, &reading);
+        if (field.form != NULL) {
+            note_field(&reading, field.form);
+        }
+        at = field_end(&field);
+    } else if (at < sheet_len) {
+        fprintf(file, "%zu bytes:", sheet_len - at);
+        show_bytes(file, sheet + at, sheet_len - at);
+        at = sheet_len;
+    }
+    fprintf(file, "^ %s\n", sentence);
+    at = show_fields(file, sheet, sheet_len, at, sheet_len, &reading);
+    if (at < sheet_len) {
+        fprintf(file, "%zu more bytes\n", sheet_len - at);
     }
 }

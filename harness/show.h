@@ -4,8 +4,13 @@
 
 #include <stddef.h>
 #include <stdint.h>
+#include <stdio.h>
 
-/* Prints the layouts, views and steps of a sheet that moonbleat_read accepted. */
-void show_sheet(const uint8_t *sheet, size_t sheet_len);
+/* Prints the fields of a sheet that the library reads. */
+void show_sheet(FILE *file, const uint8_t *sheet, size_t sheet_len);
+
+/* Prints a refused sheet as far as it makes sense; behind the field at byte `refused` stands a mark
+ * with a sentence. */
+void show_refused_sheet(FILE *file, const uint8_t *sheet, size_t sheet_len, size_t refused, const char *sentence);
 
 #endif

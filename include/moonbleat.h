@@ -59,8 +59,16 @@
  *
  * Pointers
  * --------
- * No pointer may be NULL, not even with length 0, and arrays that are passed to one call must
- * not overlap.
+ * Arrays that are passed to one call must not overlap. A sheet, a memory, a tape and a room may be
+ * NULL where their length is 0; answer, counts, records, types and elements may never be.
+ *
+ * Stack
+ * -----
+ * MOONBLEAT_STACK bytes of stack are enough for a call. This is measured, on 20,000 sheets and their
+ * tapes, and tested, not proved: moonbleat_carry_out took 22,344 bytes, every other function less.
+ * What a thread needs for itself comes on top.
+ *
+ * docs/SHEETS.md describes sheets and tapes field by field.
  */
 #ifndef MOONBLEAT_H
 #define MOONBLEAT_H
@@ -71,6 +79,11 @@
 #ifdef __cplusplus
 extern "C" {
 #endif
+
+/* The version of this interface: a major one may break callers, a minor one adds to it. */
+#define MOONBLEAT_VERSION_MAJOR 1
+#define MOONBLEAT_VERSION_MINOR 1
+#define MOONBLEAT_VERSION_PATCH 0
 
 /* Sizes. */
 #define MOONBLEAT_MEMORY_MAX 65536        /* bytes of memory */
@@ -89,6 +102,7 @@ extern "C" {
 #define MOONBLEAT_TAPE_NUMBERS 6144       /* numbers of the longest tape */
 #define MOONBLEAT_COUNTS 3                /* layouts, views, steps */
 #define MOONBLEAT_ANSWER 4                /* number, place, second place, byte-elements */
+#define MOONBLEAT_STACK 32768             /* bytes of stack that are enough for a call */
 
 /* Places in an answer. */
 enum {
@@ -96,6 +110,13 @@ enum {
     MOONBLEAT_PLACE = 1,
     MOONBLEAT_SECOND_PLACE = 2,
     MOONBLEAT_BYTE_ELEMENTS = 3
+};
+
+/* Places in a register's type; the fourth byte is 0. An empty register has four zeros. */
+enum {
+    MOONBLEAT_TYPE_KIND = 0,
+    MOONBLEAT_TYPE_ROWS = 1,
+    MOONBLEAT_TYPE_COLUMNS = 2
 };
 
 /* Element kinds. An element is its raw bits, in memory little-endian. */
@@ -119,6 +140,59 @@ enum {
     MOONBLEAT_TAG_REDUCE = 0x23,
     MOONBLEAT_TAG_TRANSPOSE = 0x24,
     MOONBLEAT_TAG_MULTIPLY_ADD = 0x25
+};
+
+/* In place of a load's object or of a view: none. */
+#define MOONBLEAT_NONE 255
+
+/* Clamp modes of a layout: what becomes of an element outside the tensor. */
+enum {
+    MOONBLEAT_CLAMP_UNDEFINED = 0, /* refused */
+    MOONBLEAT_CLAMP_CONSTANT = 1,  /* a load gets the clamp value; in this and the others, a store does nothing */
+    MOONBLEAT_CLAMP_TO_EDGE = 2,
+    MOONBLEAT_CLAMP_REPEAT = 3,
+    MOONBLEAT_CLAMP_MIRROR_REPEAT = 4
+};
+
+/* Modes of a reduce: which elements are combined. */
+enum {
+    MOONBLEAT_REDUCE_ROW = 1,
+    MOONBLEAT_REDUCE_COLUMN = 2,
+    MOONBLEAT_REDUCE_BOTH = 3,
+    MOONBLEAT_REDUCE_2X2 = 4
+};
+
+/* Combines of a reduce. */
+enum {
+    MOONBLEAT_COMBINE_ADD = 0, /* wraps at the kind's width */
+    MOONBLEAT_COMBINE_MIN = 1, /* by sign, as max */
+    MOONBLEAT_COMBINE_MAX = 2,
+    MOONBLEAT_COMBINE_AND = 3,
+    MOONBLEAT_COMBINE_OR = 4,
+    MOONBLEAT_COMBINE_XOR = 5
+};
+
+/* Refusals; 0 is none. */
+enum {
+    MOONBLEAT_REFUSED_CUT_SHORT = 1,
+    MOONBLEAT_REFUSED_TAG = 2,
+    MOONBLEAT_REFUSED_ORDER = 3,
+    MOONBLEAT_REFUSED_LENGTH = 4,
+    MOONBLEAT_REFUSED_NUMBER = 5,
+    MOONBLEAT_REFUSED_EDITION = 6,
+    MOONBLEAT_REFUSED_EMPTY_REGISTER = 7,
+    MOONBLEAT_REFUSED_SHAPE = 8,
+    MOONBLEAT_REFUSED_BASE = 9,
+    MOONBLEAT_REFUSED_VIEW = 10,
+    MOONBLEAT_REFUSED_BLOCK = 11,
+    MOONBLEAT_REFUSED_INDEX = 12,
+    MOONBLEAT_REFUSED_OUTSIDE = 13,
+    MOONBLEAT_REFUSED_ADDRESS = 14,
+    MOONBLEAT_REFUSED_SHARED_BYTE = 15,
+    MOONBLEAT_REFUSED_TAPE_LENGTH = 16,
+    MOONBLEAT_REFUSED_RECORD = 17,
+    MOONBLEAT_REFUSED_MEMORY = 18,
+    MOONBLEAT_REFUSED_ROOM = 19
 };
 
 /* Ops of a tape's records: the first of six numbers. */

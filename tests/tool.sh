@@ -83,41 +83,19 @@ says() {
 # where NUMBER FIRST SECOND: the words for a refusal's place.
 where() {
     case $1 in
-        1 | 2 | 3 | 4 | 5 | 6) echo " (byte $2 of the sheet)" ;;
-        7 | 8 | 9 | 10 | 11) echo " (step $2)" ;;
-        12 | 13 | 14 | 15) echo " (step $2, element $3)" ;;
-        17) echo " (record $2)" ;;
+        1 | 2 | 3 | 4 | 5 | 6) echo " at byte $2" ;;
+        7 | 8 | 9 | 10 | 11) echo " at step $2" ;;
+        12 | 13 | 14 | 15) echo " at step $2, element $3" ;;
+        17) echo " at record $2" ;;
     esac
 }
 
-# sentence NUMBER: what is said of a refusal.
-sentence() {
-    case $1 in
-        1) echo "a field's head or content runs past the end of the sheet" ;;
-        2) echo "the field's tag is not a known one" ;;
-        3) echo "the field is out of order, repeated or one too many, or the edition is missing" ;;
-        4) echo "the field's length is not one that its tag has" ;;
-        5) echo "a number of the field is out of its range" ;;
-        6) echo "the edition is not 1" ;;
-        7) echo "a register that the step reads is empty" ;;
-        8) echo "shapes or kinds of the step's matrices do not fit" ;;
-        9) echo "the base is not a multiple of 16" ;;
-        10) echo "the view has no dimensions and another dimension count than the layout" ;;
-        11) echo "a store goes through a layout with a block size above 1" ;;
-        12) echo "the index after the view is 2^32 or more" ;;
-        13) echo "the element lies outside the tensor and the clamp mode is Undefined" ;;
-        14) echo "the element's bytes do not all lie in memory" ;;
-        15) echo "the store has put an earlier element at the same byte" ;;
-        16) echo "the tape has more records than 1024 or than the room holds" ;;
-        17) echo "the record is out of range, or there are more than 1024 records" ;;
-        18) echo "the memory is longer than 65536 bytes" ;;
-    esac
-}
-
-# refuses NUMBER FIRST SECOND: standard error must be the line of that refusal, and nothing else.
+# refuses 'NUMBER FIRST SECOND' CAUSE: standard error must be the line of that refusal, and nothing
+# else.
 refuses() {
-    echo "moonbleat: refusal $1 at $2 $3$(where "$1" "$2" "$3"): $(sentence "$1")" > line
-    same "the line of refusal $1" stderr line
+    # shellcheck disable=SC2086
+    echo "moonbleat: refusal ${1%% *}$(where $1): $2" > line
+    same "the line of refusal ${1%% *}" stderr line
 }
 
 # silent: standard output must be empty.
@@ -159,16 +137,16 @@ accepted_strip() {
 }
 
 refused_strip() {
-    read -r number first second < "$strips/$1/tape.txt"
+    sed 's/^/moonbleat: /' "$strips/$1/refusal.txt" > line
     call 1 tape sheet
     same "$1: tape" stdout "$strips/$1/tape.txt"
-    refuses "$number" "$first" "$second"
+    same "$1: the refusal of tape" stderr line
     call 1 check sheet --memory "$(wc -c < memory)"
     silent
-    refuses "$number" "$first" "$second"
+    same "$1: the refusal of check" stderr line
     call 1 run sheet memory -o out
     silent
-    refuses "$number" "$first" "$second"
+    same "$1: the refusal of run" stderr line
     absent out
 }
 
@@ -182,6 +160,16 @@ for folder in "$strips"/*/; do
     fi
     call 0 show sheet
     same "$strip: show" stdout "$folder/show.txt"
+    call 0 asm "$folder/sheet.txt" -o assembled
+    same "$strip: asm" assembled sheet
+    : > expected
+    if [ -e "$folder/refusal.txt" ]; then
+        sed "s|^|$folder/sheet.txt: warning: |" "$folder/refusal.txt" > expected
+    fi
+    same "$strip: the warnings of asm" stderr expected
+    call 0 show --asm sheet
+    grep -v '^#' "$folder/sheet.txt" > expected
+    same "$strip: show --asm" stdout expected
     if [ -e "$folder/run.txt" ]; then
         accepted_strip "$strip"
     else
@@ -191,49 +179,60 @@ done
 
 # -- Refusals ------------------------------------------------------------------------------------
 
-# refused 'NUMBER FIRST SECOND' WORD..: the call must be refused so, and print nothing.
+# refused 'NUMBER FIRST SECOND' CAUSE WORD..: the call must be refused so, and print nothing.
 refused() {
     three=$1
-    shift
+    cause=$2
+    shift 2
     call 1 "$@"
     silent
-    # shellcheck disable=SC2086
-    refuses $three
+    refuses "$three" "$cause"
 }
 
-# refused_tape 'NUMBER FIRST SECOND' WORD..: the same, and the three numbers on standard output.
+# refused_tape 'NUMBER FIRST SECOND' CAUSE WORD..: the same, and the three numbers on standard output.
 refused_tape() {
     three=$1
-    shift
+    cause=$2
+    shift 2
     call 1 "$@"
-    # shellcheck disable=SC2086
-    refuses $three
+    refuses "$three" "$cause"
     echo "$three" > numbers
     same "$*" stdout numbers
 }
 
-# unreadable 'NUMBER FIRST SECOND' HEX..: every subcommand refuses the sheet when it reads it.
+# shows_refused 'NUMBER FIRST SECOND' CAUSE: show prints a mark with the refusal.
+shows_refused() {
+    call 1 show sheet
+    refuses "$1" "$2"
+    sed 's/^moonbleat: /^ /' line > mark
+    grep '^\^' stdout > marks
+    same "the mark of refusal $1" marks mark
+}
+
+# unreadable 'NUMBER FIRST SECOND' CAUSE HEX..: every subcommand refuses the sheet when it reads it.
 unreadable() {
     wanted_place=$1
-    shift
+    wanted_cause=$2
+    shift 2
     bytes sheet "$@"
-    refused "$wanted_place" show sheet
-    refused "$wanted_place" check sheet --memory 64
-    refused "$wanted_place" run sheet memory -o out
-    refused "$wanted_place" run-tape sheet tape memory -o out
-    refused_tape "$wanted_place" tape sheet
+    shows_refused "$wanted_place" "$wanted_cause"
+    refused "$wanted_place" "$wanted_cause" check sheet --memory 64
+    refused "$wanted_place" "$wanted_cause" run sheet memory -o out
+    refused "$wanted_place" "$wanted_cause" run-tape sheet tape memory -o out
+    refused_tape "$wanted_place" "$wanted_cause" tape sheet
     absent out
 }
 
-# misstepped 'NUMBER FIRST SECOND' HEX..: the sheet is read, and refused for 64 bytes of memory.
+# misstepped 'NUMBER FIRST SECOND' CAUSE HEX..: the sheet is read, and refused for 64 bytes of memory.
 misstepped() {
     wanted_place=$1
-    shift
+    wanted_cause=$2
+    shift 2
     bytes sheet "$@"
     call 0 show sheet
-    refused "$wanted_place" check sheet --memory 64
-    refused "$wanted_place" run sheet memory -o out
-    refused_tape "$wanted_place" tape sheet --memory 64
+    refused "$wanted_place" "$wanted_cause" check sheet --memory 64
+    refused "$wanted_place" "$wanted_cause" run sheet memory -o out
+    refused_tape "$wanted_place" "$wanted_cause" tape sheet --memory 64
     absent out
 }
 
@@ -250,99 +249,177 @@ reduce='23 0600 01 00 01 01 03 00'
 transpose='24 0200 01 00'
 multiply='25 0400 03 00 01 02'
 
-unreadable '1 0 0' 01
-unreadable '1 0 0' 01 01
-unreadable '1 0 0' 01 0100
-unreadable '1 0 0' 01 0200 01
-unreadable '1 4 0' "$edition" 10 10
-unreadable '1 23 0' "$edition $layout" 20 0800 00 01 08 00
-unreadable '1 4 0' "$edition" FF FFFF
-unreadable '2 0 0' 00 0000
-unreadable '2 4 0' "$edition" 12 0000
-unreadable '2 23 0' "$edition $layout" 26 0000
-unreadable '3 0 0' ''
-unreadable '3 0 0' "$layout"
-unreadable '3 4 0' "$edition $edition"
-unreadable '3 18 0' "$edition $view $layout"
-unreadable '3 15 0' "$edition $fill $view"
-unreadable '3 15 0' "$edition $fill $edition"
-unreadable '3 80 0' "$edition $layout $layout $layout $layout $layout"
-unreadable '3 60 0' "$edition $view $view $view $view $view"
+unreadable '1 0 0' "a field's head has 3 bytes, the sheet ends after 1" \
+    01
+unreadable '1 0 0' "a field's head has 3 bytes, the sheet ends after 2" \
+    01 01
+unreadable '1 0 0' 'edition: length 1 runs past the end of the sheet by 1' \
+    01 0100
+unreadable '1 0 0' 'edition: length 2 runs past the end of the sheet by 1' \
+    01 0200 01
+unreadable '1 4 0' "a field's head has 3 bytes, the sheet ends after 2" \
+    "$edition" 10 10
+unreadable '1 23 0' 'step 0 (fill): length 8 runs past the end of the sheet by 4' \
+    "$edition $layout" 20 0800 00 01 08 00
+unreadable '1 4 0' 'a field with tag 0xFF: length 65535 runs past the end of the sheet by 65535' \
+    "$edition" FF FFFF
+unreadable '2 0 0' 'tag 0x00 is none of 0x01, 0x10, 0x11, 0x20, 0x21, 0x22, 0x23, 0x24, 0x25' \
+    00 0000
+unreadable '2 4 0' 'tag 0x12 is none of 0x01, 0x10, 0x11, 0x20, 0x21, 0x22, 0x23, 0x24, 0x25' \
+    "$edition" 12 0000
+unreadable '2 23 0' 'tag 0x26 is none of 0x01, 0x10, 0x11, 0x20, 0x21, 0x22, 0x23, 0x24, 0x25' \
+    "$edition $layout" 26 0000
+unreadable '3 0 0' 'the sheet has no edition' \
+    ''
+unreadable '3 0 0' 'layout 0 comes before the edition' \
+    "$layout"
+unreadable '3 4 0' 'edition is repeated' \
+    "$edition $edition"
+unreadable '3 18 0' 'layout 0 comes after a view' \
+    "$edition $view $layout"
+unreadable '3 15 0' 'view 0 comes after a step' \
+    "$edition $fill $view"
+unreadable '3 15 0' 'edition is repeated' \
+    "$edition $fill $edition"
+unreadable '3 80 0' 'layout 4 is one too many: a sheet has at most 4' \
+    "$edition $layout $layout $layout $layout $layout"
+unreadable '3 60 0' 'view 4 is one too many: a sheet has at most 4' \
+    "$edition $view $view $view $view $view"
 eight="$fill $fill $fill $fill $fill $fill $fill $fill"
 bytes sheet "$edition $eight $eight $eight $eight"
 call 0 show sheet
-unreadable '3 356 0' "$edition $eight $eight $eight $eight $fill"
-unreadable '4 0 0' 01 0000
-unreadable '4 0 0' 01 0200 01 01
-unreadable '4 4 0' "$edition" 10 0600 01 00 00000000
-unreadable '4 4 0' "$edition" 11 0A00 01 00 0000 FFFF 0000 FFFF
-unreadable '4 23 0' "$edition $layout" 24 0300 01 00 00
-unreadable '6 0 0' 01 0100 00
-unreadable '6 0 0' 01 0100 02
+unreadable '3 356 0' 'step 32 (fill) is one too many: a sheet has at most 32' \
+    "$edition $eight $eight $eight $eight $fill"
+unreadable '4 0 0' 'edition: length 0 is not 1' \
+    01 0000
+unreadable '4 0 0' 'edition: length 2 is not 1' \
+    01 0200 01 01
+unreadable '4 4 0' 'layout 0: length 6 is not 16 or 26 or 36 or 46 or 56' \
+    "$edition" 10 0600 01 00 00000000
+unreadable '4 4 0' 'view 0: length 10 is not 11 or 12 or 13 or 14 or 15 or 20 or 25 or 30 or 35' \
+    "$edition" 11 0A00 01 00 0000 FFFF 0000 FFFF
+unreadable '4 23 0' 'step 0 (transpose): length 3 is not 2' \
+    "$edition $layout" 24 0300 01 00 00
+unreadable '6 0 0' 'edition 0 is not 1' \
+    01 0100 00
+unreadable '6 0 0' 'edition 2 is not 1' \
+    01 0100 02
 # 5: dimension count, clamp mode, block size, dimension, offset, span.
-unreadable '5 4 0' "$edition" 10 1000 00 00 00000000 0100 0800 0100 0000 0800
-unreadable '5 4 0' "$edition" 10 1000 02 00 00000000 0100 0800 0100 0000 0800
-unreadable '5 4 0' "$edition" 10 1000 01 05 00000000 0100 0800 0100 0000 0800
-unreadable '5 4 0' "$edition" 10 1000 01 00 00000000 0000 0800 0100 0000 0800
-unreadable '5 4 0' "$edition" 10 1000 01 00 00000000 0110 0800 0100 0000 0800
-unreadable '5 4 0' "$edition" 10 1000 01 00 00000000 0100 0000 0100 0000 0800
-unreadable '5 4 0' "$edition" 10 1000 01 00 00000000 0100 0110 0100 0000 0800
-unreadable '5 4 0' "$edition" 10 1000 01 00 00000000 0100 0800 0100 0010 0800
-unreadable '5 4 0' "$edition" 10 1000 01 00 00000000 0100 0800 0100 FFEF 0800
-unreadable '5 4 0' "$edition" 10 1000 01 00 00000000 0100 0800 0100 0000 0000
-unreadable '5 23 0' "$edition $layout" 10 1000 01 00 00000000 0100 0800 0100 0000 0110
+unreadable '5 4 0' 'layout 0: dimension count 0 is not within 1 to 5' \
+    "$edition" 10 1000 00 00 00000000 0100 0800 0100 0000 0800
+unreadable '5 4 0' 'layout 0: dimension count 2 gives a length of 26, not 16' \
+    "$edition" 10 1000 02 00 00000000 0100 0800 0100 0000 0800
+unreadable '5 4 0' 'layout 0: clamp mode 5 is not within 0 to 4' \
+    "$edition" 10 1000 01 05 00000000 0100 0800 0100 0000 0800
+unreadable '5 4 0' 'layout 0, dimension 0: block 0 is not within 1 to 4096' \
+    "$edition" 10 1000 01 00 00000000 0000 0800 0100 0000 0800
+unreadable '5 4 0' 'layout 0, dimension 0: block 4097 is not within 1 to 4096' \
+    "$edition" 10 1000 01 00 00000000 0110 0800 0100 0000 0800
+unreadable '5 4 0' 'layout 0, dimension 0: size 0 is not within 1 to 4096' \
+    "$edition" 10 1000 01 00 00000000 0100 0000 0100 0000 0800
+unreadable '5 4 0' 'layout 0, dimension 0: size 4097 is not within 1 to 4096' \
+    "$edition" 10 1000 01 00 00000000 0100 0110 0100 0000 0800
+unreadable '5 4 0' 'layout 0, dimension 0: offset 4096 is not within -4096 to 4095' \
+    "$edition" 10 1000 01 00 00000000 0100 0800 0100 0010 0800
+unreadable '5 4 0' 'layout 0, dimension 0: offset -4097 is not within -4096 to 4095' \
+    "$edition" 10 1000 01 00 00000000 0100 0800 0100 FFEF 0800
+unreadable '5 4 0' 'layout 0, dimension 0: span 0 is not within 1 to 4096' \
+    "$edition" 10 1000 01 00 00000000 0100 0800 0100 0000 0000
+unreadable '5 23 0' 'layout 1, dimension 0: span 4097 is not within 1 to 4096' \
+    "$edition $layout" 10 1000 01 00 00000000 0100 0800 0100 0000 0110
 # 5: a view's dimension count, has-dimensions, permutation and view dimension.
-unreadable '5 4 0' "$edition" 11 0B00 02 00 00 0000 FFFF 0000 FFFF
-unreadable '5 4 0' "$edition" 11 0B00 01 02 00 0000 FFFF 0000 FFFF
-unreadable '5 4 0' "$edition" 11 0B00 01 00 01 0000 FFFF 0000 FFFF
-unreadable '5 4 0' "$edition" 11 0C00 02 00 00 00 0000 FFFF 0000 FFFF
-unreadable '5 4 0' "$edition" 11 0F00 01 01 00 0110 0100 0000 FFFF 0000 FFFF
+unreadable '5 4 0' 'view 0: dimension count 2 gives a length of 12, not 11' \
+    "$edition" 11 0B00 02 00 00 0000 FFFF 0000 FFFF
+unreadable '5 4 0' 'view 0: has-dimensions 2 is not within 0 to 1' \
+    "$edition" 11 0B00 01 02 00 0000 FFFF 0000 FFFF
+unreadable '5 4 0' 'view 0: permutation 1 does not name each of 0 to 0 once' \
+    "$edition" 11 0B00 01 00 01 0000 FFFF 0000 FFFF
+unreadable '5 4 0' 'view 0: permutation 0 0 does not name each of 0 to 1 once' \
+    "$edition" 11 0C00 02 00 00 00 0000 FFFF 0000 FFFF
+unreadable '5 4 0' 'view 0, dimension 0: size 4097 is not within 1 to 4096' \
+    "$edition" 11 0F00 01 01 00 0110 0100 0000 FFFF 0000 FFFF
 # 5: steps.
-unreadable '5 4 0' "$edition" 20 0800 04 01 08 00 00000000
-unreadable '5 4 0' "$edition" 20 0800 00 00 08 00 00000000
-unreadable '5 4 0' "$edition" 20 0800 00 01 11 00 00000000
-unreadable '5 4 0' "$edition" 20 0800 00 01 08 06 00000000
-unreadable '5 4 0' "$edition" 20 0800 00 01 08 00 00010000
-unreadable '5 15 0' "$edition $fill $load"
-unreadable '5 34 0' "$edition $layout $fill" 21 0800 00 04 00 FF 00000000
-unreadable '5 34 0' "$edition $layout $fill" 21 0800 00 FF 00 00 00000000
-unreadable '5 34 0' "$edition $layout $fill" 22 0700 00 01 FF 00000000
-unreadable '5 4 0' "$edition" 23 0600 01 00 01 01 00 00
-unreadable '5 4 0' "$edition" 23 0600 01 00 01 01 05 00
-unreadable '5 4 0' "$edition" 23 0600 01 00 01 01 03 06
-unreadable '5 4 0' "$edition" 24 0200 01 04
-unreadable '5 4 0' "$edition" 25 0400 03 00 01 04
+unreadable '5 4 0' 'step 0 (fill): register 4 is not within 0 to 3' \
+    "$edition" 20 0800 04 01 08 00 00000000
+unreadable '5 4 0' 'step 0 (fill): rows 0 is not within 1 to 16' \
+    "$edition" 20 0800 00 00 08 00 00000000
+unreadable '5 4 0' 'step 0 (fill): columns 17 is not within 1 to 16' \
+    "$edition" 20 0800 00 01 11 00 00000000
+unreadable '5 4 0' 'step 0 (fill): kind 6 is not within 0 to 5' \
+    "$edition" 20 0800 00 01 08 06 00000000
+unreadable '5 4 0' 'step 0 (fill): value 256 is not within 0 to 255' \
+    "$edition" 20 0800 00 01 08 00 00010000
+unreadable '5 15 0' 'step 1 (load): layout 0 is not given: the sheet has no layout' \
+    "$edition $fill $load"
+unreadable '5 34 0' 'step 1 (load): object 4 is not within 0 to 3' \
+    "$edition $layout $fill" 21 0800 00 04 00 FF 00000000
+unreadable '5 34 0' 'step 1 (load): view 0 is not given: the sheet has no view' \
+    "$edition $layout $fill" 21 0800 00 FF 00 00 00000000
+unreadable '5 34 0' 'step 1 (store): layout 1 is not 0' \
+    "$edition $layout $fill" 22 0700 00 01 FF 00000000
+unreadable '5 4 0' 'step 0 (reduce): mode 0 is not within 1 to 4' \
+    "$edition" 23 0600 01 00 01 01 00 00
+unreadable '5 4 0' 'step 0 (reduce): mode 5 is not within 1 to 4' \
+    "$edition" 23 0600 01 00 01 01 05 00
+unreadable '5 4 0' 'step 0 (reduce): combine 6 is not within 0 to 5' \
+    "$edition" 23 0600 01 00 01 01 03 06
+unreadable '5 4 0' 'step 0 (transpose): source 4 is not within 0 to 3' \
+    "$edition" 24 0200 01 04
+unreadable '5 4 0' 'step 0 (multiply-add): C 4 is not within 0 to 3' \
+    "$edition" 25 0400 03 00 01 04
 
-misstepped '7 0 0' "$edition $layout $load"
-misstepped '7 0 0' "$edition $layout $store"
-misstepped '7 1 0' "$edition $layout $fill" 21 0800 00 01 00 FF 00000000
-misstepped '7 1 0' "$edition $fill" 23 0600 00 01 01 01 03 00
-misstepped '7 1 0' "$edition $fill" 24 0200 00 03
-misstepped '7 1 0' "$edition $fill $multiply"
-misstepped '8 1 0' "$edition $fill" 23 0600 01 00 02 01 01 00
-misstepped '8 1 0' "$edition $fill" 23 0600 01 00 01 07 02 00
-misstepped '8 1 0' "$edition $fill" 23 0600 01 00 01 04 04 00
-misstepped '8 3 0' "$edition $fill $reduce $transpose" 25 0400 03 00 01 00
-misstepped '8 1 0' "$edition" 20 0800 00 01 01 03 00000000 25 0400 03 00 00 00
-misstepped '9 1 0' "$edition $layout $fill" 21 0800 00 FF 00 FF 08000000
-misstepped '9 1 0' "$edition $layout $fill" 22 0700 00 00 FF 01000000
+misstepped '7 0 0' 'load: register 0 is empty, and without an object the load starts from it' \
+    "$edition $layout $load"
+misstepped '7 0 0' 'store: register 0 is empty' \
+    "$edition $layout $store"
+misstepped '7 1 0' 'load: register 1 is empty' \
+    "$edition $layout $fill" 21 0800 00 01 00 FF 00000000
+misstepped '7 1 0' 'reduce: register 1 is empty' \
+    "$edition $fill" 23 0600 00 01 01 01 03 00
+misstepped '7 1 0' 'transpose: register 3 is empty' \
+    "$edition $fill" 24 0200 00 03
+misstepped '7 1 0' 'multiply-add: register 1 is empty' \
+    "$edition $fill $multiply"
+misstepped '8 1 0' "reduce: a result of 2x1 of register 0 (1x8 u8): the rows must be the source's" \
+    "$edition $fill" 23 0600 01 00 02 01 01 00
+misstepped '8 1 0' "reduce: a result of 1x7 of register 0 (1x8 u8): the columns must be the source's" \
+    "$edition $fill" 23 0600 01 00 01 07 02 00
+misstepped '8 1 0' "reduce: a result of 1x4 of register 0 (1x8 u8): rows and columns must be half the source's" \
+    "$edition $fill" 23 0600 01 00 01 04 04 00
+misstepped '8 3 0' 'multiply-add: A register 0 (1x8 u8), B register 1 (8x1 u8), C register 0 (1x8 u8): the sides must be MxK, KxN and MxN' \
+    "$edition $fill $reduce $transpose" 25 0400 03 00 01 00
+misstepped '8 1 0' 'multiply-add: A register 0 (1x1 s16), B register 0 (1x1 s16), C register 0 (1x1 s16): C must be u32 or s32' \
+    "$edition" 20 0800 00 01 01 03 00000000 25 0400 03 00 00 00
+misstepped '9 1 0' 'load: base 8 is not a multiple of 16' \
+    "$edition $layout $fill" 21 0800 00 FF 00 FF 08000000
+misstepped '9 1 0' 'store: base 1 is not a multiple of 16' \
+    "$edition $layout $fill" 22 0700 00 00 FF 01000000
 two='11 0C00 02 00 00 01 0000 FFFF 0000 FFFF'
-misstepped '10 1 0' "$edition $layout $two $fill" 21 0800 00 FF 00 00 00000000
+misstepped '10 1 0' 'load: view 0 has no dimensions of its own and permutes 2, layout 0 has 1' \
+    "$edition $layout $two $fill" 21 0800 00 FF 00 00 00000000
 blocks='10 1000 01 00 00000000 0200 0800 0100 0000 0800'
-misstepped '11 1 0' "$edition $blocks $fill $store"
+misstepped '11 1 0' 'store: layout 0, dimension 0: block 2 is above 1' \
+    "$edition $blocks $fill $store"
 wide='10 2E00 04 02 00000000 0100 0010 0000 0000 0010 0100 0010 0000 0000 0010
       0100 0010 0000 0000 0010 0100 0010 0000 0000 0010'
 outer_first='11 0E00 04 00 01 02 03 00 0000 FFFF 0000 FFFF'
-misstepped '12 1 1' "$edition $wide $outer_first $fill" 21 0800 00 FF 00 00 00000000
+misstepped '12 1 1' 'load: row 0, column 1: the index after the view is 68719476736, not below 4294967296' \
+    "$edition $wide $outer_first $fill" 21 0800 00 FF 00 00 00000000
 past='10 1000 01 00 00000000 0100 0400 0100 0000 0800'
-misstepped '13 1 4' "$edition $past $fill $load"
-misstepped '13 1 4' "$edition $past $fill $store"
-misstepped '14 1 0' "$edition $layout $fill" 21 0800 00 FF 00 FF 40000000
+misstepped '13 1 4' 'load: row 0, column 4: coordinate 4 of dimension 0 is not within 0 to 3, and the clamp mode is Undefined' \
+    "$edition $past $fill $load"
+misstepped '13 1 4' 'store: row 0, column 4: coordinate 4 of dimension 0 is not within 0 to 3, and the clamp mode is Undefined' \
+    "$edition $past $fill $store"
+misstepped '14 1 0' 'load: row 0, column 0: byte 64 does not lie in the memory of 64 bytes' \
+    "$edition $layout $fill" 21 0800 00 FF 00 FF 40000000
 far='10 1000 01 00 00000000 0100 0800 1500 0000 0800'
-misstepped '14 1 4' "$edition $far $fill $load"
-misstepped '14 2 4' "$edition $far $fill $fill $store"
+misstepped '14 1 4' 'load: row 0, column 4: byte 84 does not lie in the memory of 64 bytes' \
+    "$edition $far $fill $load"
+misstepped '14 2 4' 'store: row 0, column 4: byte 84 does not lie in the memory of 64 bytes' \
+    "$edition $far $fill $fill $store"
 round='10 1000 01 00 00000000 0100 0800 0100 0000 0400'
-misstepped '15 1 4' "$edition $round $fill $store"
+misstepped '15 1 4' 'store: row 0, column 4: byte 0 has element 0 already, row 0, column 0' \
+    "$edition $round $fill $store"
 
 # 16: as many records as a tape may have, then one more.
 zigzag='10 1000 01 04 00000000 0100 0200 0100 0000 0010'
@@ -358,15 +435,16 @@ cp stdout ran
 call 0 run sheet memory
 same 'the longest tape' stdout ran
 bytes sheet "$edition $zigzag $sixteen $seven $rest" 21 0800 02 00 00 FF 00000000
-refused_tape '16 0 0' tape sheet
+refused_tape '16 0 0' 'the tape has more than 1024 records' tape sheet
 call 0 run sheet memory
 
 # 17: each record out of range behind two good ones.
 tape_refused() {
     wanted_place=$1
-    shift
+    wanted_cause=$2
+    shift 2
     printf '%s\n' '4 0 0 0 0 0' '1 0 0 8 0 1' "$@" > tape
-    refused "$wanted_place" run-tape sheet tape memory -o out
+    refused "$wanted_place" "$wanted_cause" run-tape sheet tape memory -o out
     absent out
 }
 # tape_accepted RECORD..
@@ -375,41 +453,41 @@ tape_accepted() {
     call 0 run-tape sheet tape memory
 }
 bytes sheet "$edition $layout $fill $load $reduce" 24 0200 02 03 "$multiply $store"
-tape_refused '17 2 0' '5 0 0 0 0 0'
-tape_refused '17 2 0' '-1 0 0 0 0 0'
-tape_refused '17 2 0' '0 4 0 0 0 0'
-tape_refused '17 2 0' '0 1 -1 0 0 0'
-tape_refused '17 2 0' '0 1 1 0 0 0'
-tape_refused '17 2 0' '0 1 0 1 0 0'
-tape_refused '17 2 0' '0 1 0 0 0 1'
-tape_refused '17 3 0' '0 1 0 0 0 0' '0 1 2 0 0 0'
-tape_refused '17 2 0' '1 1 0 1 0 0'
-tape_refused '17 2 0' '1 0 0 0 0 0'
-tape_refused '17 2 0' '1 0 -1 1 0 0'
-tape_refused '17 2 0' '1 0 8 1 0 0'
-tape_refused '17 2 0' '1 0 2147483647 2147483647 0 0'
-tape_refused '17 2 0' '1 0 0 1 0 65536'
-tape_refused '17 2 0' '2 0 0 1 0 -65536'
-tape_refused '17 2 0' '2 0 0 1 -1 0'
-tape_refused '17 2 0' '2 0 0 1 64 0'
-tape_refused '17 2 0' '2 0 0 2 63 1'
-tape_refused '17 2 0' '2 0 0 2 0 -1'
-tape_refused '17 2 0' '3 3 0 1 0 0'
-tape_refused '17 2 0' '3 0 0 1 256 0'
-tape_refused '17 2 0' '3 0 0 1 -1 0'
-tape_refused '17 2 0' '3 0 0 1 0 1'
-tape_refused '17 2 0' '4 1 0 0 0 0'
-tape_refused '17 2 0' '4 5 0 0 0 0'
-tape_refused '17 2 0' '4 6 0 0 0 0'
-tape_refused '17 2 0' '4 -1 0 0 0 0'
-tape_refused '17 2 0' '4 3 0 0 0 0'
-tape_refused '17 3 0' '4 2 0 0 0 0' '4 4 0 0 0 0'
-tape_refused '17 2 0' '4 0 0 0 0 1'
+tape_refused '17 2 0' 'op 5 is not within 0 to 4' '5 0 0 0 0 0'
+tape_refused '17 2 0' 'op -1 is not within 0 to 4' '-1 0 0 0 0 0'
+tape_refused '17 2 0' 'copy: register 4 is not within 0 to 3' '0 4 0 0 0 0'
+tape_refused '17 2 0' 'copy: object -1 is not within 0 to 3' '0 1 -1 0 0 0'
+tape_refused '17 2 0' 'copy: register 1 is empty' '0 1 1 0 0 0'
+tape_refused '17 2 0' 'copy: the unused number 1 is not 0' '0 1 0 1 0 0'
+tape_refused '17 2 0' 'copy: the unused number 1 is not 0' '0 1 0 0 0 1'
+tape_refused '17 3 0' 'copy: register 2 is empty' '0 1 0 0 0 0' '0 1 2 0 0 0'
+tape_refused '17 2 0' 'take: register 1 is empty' '1 1 0 1 0 0'
+tape_refused '17 2 0' 'take: count 0 is not within 1 to 8' '1 0 0 0 0 0'
+tape_refused '17 2 0' 'take: first element -1 is not within 0 to 7' '1 0 -1 1 0 0'
+tape_refused '17 2 0' 'take: first element 8 is not within 0 to 7' '1 0 8 1 0 0'
+tape_refused '17 2 0' 'take: first element 2147483647 is not within 0 to 7' '1 0 2147483647 2147483647 0 0'
+tape_refused '17 2 0' 'take: step 65536 is not within -65535 to 65535' '1 0 0 1 0 65536'
+tape_refused '17 2 0' 'put: step -65536 is not within -65535 to 65535' '2 0 0 1 0 -65536'
+tape_refused '17 2 0' 'put: element 0 has byte -1, and the memory 64 bytes' '2 0 0 1 -1 0'
+tape_refused '17 2 0' 'put: element 0 has byte 64, and the memory 64 bytes' '2 0 0 1 64 0'
+tape_refused '17 2 0' 'put: element 1 has byte 64, and the memory 64 bytes' '2 0 0 2 63 1'
+tape_refused '17 2 0' 'put: element 1 has byte -1, and the memory 64 bytes' '2 0 0 2 0 -1'
+tape_refused '17 2 0' 'fill: register 3 is empty' '3 3 0 1 0 0'
+tape_refused '17 2 0' 'fill: value 256 is not within 0 to 255' '3 0 0 1 256 0'
+tape_refused '17 2 0' 'fill: value -1 is not within 0 to 255' '3 0 0 1 -1 0'
+tape_refused '17 2 0' 'fill: the unused number 1 is not 0' '3 0 0 1 0 1'
+tape_refused '17 2 0' 'whole step: step 1 (load) is none' '4 1 0 0 0 0'
+tape_refused '17 2 0' 'whole step: step 5 (store) is none' '4 5 0 0 0 0'
+tape_refused '17 2 0' 'whole step: the sheet has no step 6' '4 6 0 0 0 0'
+tape_refused '17 2 0' 'whole step: the sheet has no step -1' '4 -1 0 0 0 0'
+tape_refused '17 2 0' 'whole step: step 3 (transpose) cannot be done: register 3 is empty' '4 3 0 0 0 0'
+tape_refused '17 3 0' 'whole step: step 4 (multiply-add) cannot be done: register 2 is empty' '4 2 0 0 0 0' '4 4 0 0 0 0'
+tape_refused '17 2 0' 'whole step: the unused number 1 is not 0' '4 0 0 0 0 1'
 tape_accepted '1 0 7 1 63 65535'
 tape_accepted '2 0 7 1 63 -65535' '2 0 0 8 7 -1' '2 0 0 8 0 0'
 tape_accepted '3 0 0 8 255 0' '0 3 0 0 0 0' '4 3 0 0 0 0'
 { cat longest; echo '4 0 0 0 0 0'; } > tape
-refused '17 0 0' run-tape sheet tape memory
+refused '17 0 0' 'the tape has more than 1024 records' run-tape sheet tape memory
 
 # 18 comes before everything else.
 zeros memory 65536
@@ -420,11 +498,11 @@ zeros memory 65537
 : > tape
 for hex in "$edition $fill" 01; do
     bytes sheet "$hex"
-    refused '18 0 0' check sheet --memory 65537
-    refused '18 0 0' check sheet --memory 18446744073709551615
-    refused '18 0 0' run sheet memory -o out
-    refused '18 0 0' run-tape sheet tape memory -o out
-    refused_tape '18 0 0' tape sheet --memory 65537
+    refused '18 0 0' 'the memory is longer than 65536 bytes' check sheet --memory 65537
+    refused '18 0 0' 'the memory is longer than 65536 bytes' check sheet --memory 18446744073709551615
+    refused '18 0 0' 'the memory is longer than 65536 bytes' run sheet memory -o out
+    refused '18 0 0' 'the memory is longer than 65536 bytes' run-tape sheet tape memory -o out
+    refused_tape '18 0 0' 'the memory is longer than 65536 bytes' tape sheet --memory 65537
     absent out
 done
 
@@ -433,16 +511,41 @@ done
 call 0 --help
 cp stdout help
 if grep -q '^usage:$' help; then pass; else fail 'no help'; fi
-call 0 -h
-same '-h' stdout help
+for words in -h help 'help --'; do
+    # shellcheck disable=SC2086
+    call 0 $words
+    same "$words" stdout help
+done
+sed -n '/^usage:$/,/^ *moonbleat help/p' help > usage
+commands=$(sed -n 's/^  moonbleat \([a-z-]*\) .*/\1/p' usage)
+for command in $commands; do
+    call 0 help "$command"
+    cp stdout command_help
+    grep "^  moonbleat $command " usage | sed 's/^ */usage: /' > expected
+    head -n 1 command_help > stdout
+    same "help $command" stdout expected
+    for words in --help -h 'sheet --help'; do
+        # shellcheck disable=SC2086
+        call 0 "$command" $words
+        same "$command $words" stdout command_help
+    done
+done
+call 0 --version
+sed -n 's/^#define MOONBLEAT_VERSION_[A-Z]* //p' "$root/include/moonbleat.h" | paste -s -d. - |
+    sed 's/^/moonbleat /' > expected
+same '--version' stdout expected
 
-# wrong TEXT WORD..: exit status 2, nothing printed, the text and the help on standard error.
+# wrong TEXT WORD..: exit status 2, nothing printed, the text and the usage on standard error.
 wrong() {
     text=$1
     shift
     call 2 "$@"
     silent
-    { echo "moonbleat: $text"; cat help; } > expected
+    cp usage wanted_usage
+    if echo "$commands" | grep -q -x -e "${1:-none}" && [ "$1 $text" != "help unknown command ${2:-}" ]; then
+        tool help "$1" | head -n 1 > wanted_usage
+    fi
+    { echo "moonbleat: $text"; cat wanted_usage; } > expected
     same "wrong use: $*" stderr expected
     absent out
 }
@@ -454,33 +557,57 @@ rm -f out
 wrong 'what is to be done?'
 wrong 'unknown command nothing' nothing
 wrong 'unknown command ' ''
-wrong 'check takes 1 file(s)' check
-wrong 'check needs --memory N' check sheet
+wrong 'unknown command nothing' help nothing
+wrong 'help takes [COMMAND], and run is one more' help check run
+wrong 'check takes SHEET' check
 wrong '--memory needs a word after it' check sheet --memory
 wrong '--memory -1: not a length in bytes' check sheet --memory -1
 wrong '--memory 12x: not a length in bytes' check sheet --memory 12x
 wrong '--memory : not a length in bytes' check sheet --memory ''
+wrong '--memory 0x: not a length in bytes' check sheet --memory 0x
+wrong '--memory 0x1g: not a length in bytes' check sheet --memory=0x1g
+wrong '--memory 0x10000000000000000: not a length in bytes' check sheet --memory 0x10000000000000000
+wrong '--memory : not a length in bytes' check sheet --memory=
+wrong 'check does not take --memory-' check sheet --memory- 64
+wrong 'check does not take --mem' check sheet --mem 64
+wrong '--man takes no word after it' help --man=1
+wrong 'check takes SHEET, and --memory is one more' check sheet -- --memory
 wrong '--memory 18446744073709551616: not a length in bytes' check sheet --memory 18446744073709551616
 wrong '--memory 99999999999999999999999: not a length in bytes' check sheet --memory 99999999999999999999999
 wrong '--memory is given twice' check sheet --memory 64 --memory 64
-wrong 'check takes 1 file(s), and memory is one more' check sheet memory --memory 64
+wrong 'check takes SHEET, and memory is one more' check sheet memory --memory 64
 wrong 'check does not take -o' check sheet --memory 64 -o out
-wrong 'run takes 2 file(s)' run sheet
-wrong 'run takes 2 file(s), and tape is one more' run sheet memory tape
+wrong 'run takes SHEET MEMORY' run sheet
+wrong 'run takes SHEET MEMORY, and tape is one more' run sheet memory tape
 wrong '-o needs a word after it' run sheet memory -o
-wrong '-o needs the name of a file' run sheet memory -o -
+wrong '--registers needs a word after it' run sheet memory --registers
+wrong 'standard output can take only one of -o, --registers and --json' run sheet memory -o - --registers -
 wrong '-o is given twice' run sheet memory -o out -o out
 wrong 'run does not take --memory' run sheet memory -o out --memory 64
 wrong 'run does not take --output' run sheet memory --output out
 wrong 'standard input can be read only once' run - - -o out
-wrong 'run-tape takes 3 file(s)' run-tape sheet memory
-wrong 'run-tape takes 3 file(s), and out is one more' run-tape sheet tape memory out
+wrong 'run-tape takes SHEET TAPE MEMORY' run-tape sheet memory
+wrong 'run-tape takes SHEET TAPE MEMORY, and out is one more' run-tape sheet tape memory out
 wrong 'standard input can be read only once' run-tape - tape -
-wrong 'tape takes 1 file(s)' tape
+wrong 'tape takes SHEET' tape
 wrong 'tape does not take -x' tape sheet -x
 wrong 'tape does not take -o' tape sheet -o out
-wrong 'show takes 1 file(s)' show
+wrong 'show takes SHEET' show
 wrong 'show does not take --memory' show sheet --memory 64
+
+# Lengths in hex, behind =, and left out; files behind --.
+for words in '--memory 64' '--memory=64' '--memory 0x40' '--memory=0X40'; do
+    # shellcheck disable=SC2086
+    call 0 check sheet $words
+    # shellcheck disable=SC2086
+    call 0 check $words -- sheet
+done
+bytes far_sheet "$edition $layout $fill" 21 0800 00 FF 00 FF F0FF0000
+call 0 check far_sheet
+refused '14 1 7' 'load: row 0, column 7: byte 65527 does not lie in the memory of 65527 bytes' check far_sheet --memory 65527
+cp sheet ./--help
+call 0 check -- --help
+rm ./--help
 
 # -- Files that cannot be read -------------------------------------------------------------------
 
@@ -539,12 +666,15 @@ printf '4  0 0\t0 0 0 \r\n1 0 0 8 0 1' > tape
 call 0 run-tape sheet tape memory
 : > tape
 call 0 run-tape sheet tape memory
+says 'moonbleat: tape: warning: the tape is empty'
 
 # Endless files: the answer is known after a part of them.
-refused '2 0 0' show /dev/zero
-refused '18 0 0' run sheet /dev/zero
+call 1 show /dev/zero
+refuses '2 0 0' 'tag 0x00 is none of 0x01, 0x10, 0x11, 0x20, 0x21, 0x22, 0x23, 0x24, 0x25'
+if [ "$(wc -l < stdout)" -eq 4 ]; then pass; else fail 'an endless sheet in words'; fi
+refused '18 0 0' 'the memory is longer than 65536 bytes' run sheet /dev/zero
 yes '4 0 0 0 0 0' 2> /dev/null | tool run-tape sheet - memory > stdout 2> stderr
-refuses 17 0 0
+refuses '17 0 0' 'the tape has more than 1024 records'
 
 # -- Standard input ------------------------------------------------------------------------------
 
@@ -580,8 +710,8 @@ call 0 run-tape sheet tape - -o out < memory
 same 'run-tape -, a memory' stdout expected_run
 same 'run-tape -, a memory: memory' out expected_out
 rm out
-refused '3 0 0' check - --memory 64 < /dev/null
-refused '14 1 0' run sheet - -o out < /dev/null
+refused '3 0 0' 'the sheet has no edition' check - --memory 64 < /dev/null
+refused '14 1 0' 'store: row 0, column 0: byte 0 does not lie in the memory of 0 bytes' run sheet - -o out < /dev/null
 call 3 run-tape sheet - memory -o out < help
 silent
 says 'moonbleat: -: line 1 is no record of six 32-bit numbers'
@@ -599,13 +729,13 @@ same 'a file named -' stdout expected_show
 bytes refused_sheet "$edition $layout $load"
 zeros old 100
 cp old out
-refused '7 0 0' run refused_sheet memory -o out
+refused '7 0 0' 'load: register 0 is empty, and without an object the load starts from it' run refused_sheet memory -o out
 same 'an output file after a refusal' out old
 echo '4 1 0 0 0 0' > refused_tape
-refused '17 0 0' run-tape sheet refused_tape memory -o out
+refused '17 0 0' 'whole step: step 1 (store) is none' run-tape sheet refused_tape memory -o out
 same 'an output file after a refused tape' out old
 zeros long_memory 65537
-refused '18 0 0' run sheet long_memory -o out
+refused '18 0 0' 'the memory is longer than 65536 bytes' run sheet long_memory -o out
 same 'an output file after too long a memory' out old
 
 # Success replaces it by all of the memory, and leaves nothing else. The memory's own file stays.
@@ -628,6 +758,46 @@ cp old out
 call 0 run fill_sheet nothing -o out
 same 'an empty output file' out nothing
 rm out
+
+# Standard output as OUT gets the memory and nothing else; as FILE the registers.
+call 0 run sheet memory -o -
+same 'run -o -' stdout expected_out
+tool run sheet memory > expected_run
+call 0 run sheet memory --registers registers -o out
+same 'run --registers' stdout expected_run
+same 'run --registers -o' out expected_out
+bytes expected 00 01 08 00 00000000 00000000 00000000
+for _ in 1 2 3 4 5 6 7 8; do printf '\a\0\0\0'; done >> expected
+head -c 48 registers > stdout
+same 'the first registers' stdout expected
+zeros expected 4064
+tail -c +49 registers > stdout
+same 'the other elements' stdout expected
+call 0 run sheet memory --registers -
+same 'run --registers -' stdout registers
+rm out registers
+
+# A file that is replaced keeps its mode, a new one gets the usual one, and a symbolic link is
+# written through.
+(umask 022 && tool run sheet memory -o out > stdout)
+if [ "$(stat -c %a out)" = 644 ]; then pass; else fail "mode of a new file: $(stat -c %a out)"; fi
+cp old out
+chmod 600 out
+ln -s out link
+call 0 run sheet memory -o link
+same 'an output file behind a link' out expected_out
+if [ -h link ] && [ "$(stat -c %a out)" = 600 ]; then pass; else fail 'a link or a mode was lost'; fi
+rm out
+broken "link: $gone" run sheet memory -o link
+absent out
+broken 'out: two outputs go to this file' run sheet memory -o out --registers out
+absent out
+cp old out
+broken 'out: two outputs go to this file' run sheet memory -o link --registers out
+same 'an output file that was named twice' out old
+broken "nowhere/out: $gone" run sheet memory -o out --registers nowhere/out
+same 'an output file beside one that cannot be written' out old
+rm out link
 
 # An output that cannot be written leaves everything as it was.
 broken "nowhere/out: $gone" run sheet memory -o nowhere/out
@@ -700,11 +870,209 @@ view 0: 1 dimension, of its own, permutation 0
 step 0: fill register 0, 1 by 8 of u8, with 0
 step 1: load register 1, object register 0, layout 0, view 0, base 16
 step 2: store register 1, layout 0, view 0, base 32
-step 3: reduce register 0 to register 1, 1 by 1: all elements by add
+step 3: reduce register 0 to register 1, 1 by 1, mode both, combine add
 step 4: transpose register 0 to register 1
 step 5: multiply registers 0 and 1, add register 2, to register 3
 END
 same 'a sheet in words' stdout expected
+
+# A refused sheet, as far as it makes sense, with a mark behind the field; the fields behind it may be
+# right.
+bytes sheet "$edition" 10 1000 01 04 00000000 0100 0000 0100 0000 0800 "$fill" 12 0200 0102 0304
+call 1 show sheet
+cat > expected << 'END'
+sheet: 41 bytes, refused
+edition 1
+layout 0: 1 dimension, clamp mode MirrorRepeat, clamp value 0
+  dimension 0: block 1, size 0, stride 1, offset 0, span 8
+^ refusal 5 at byte 4: layout 0, dimension 0: size 0 is not within 1 to 4096
+step 0: fill register 0, 1 by 8 of u8, with 0
+7 more bytes
+END
+same 'a refused sheet in words' stdout expected
+bytes sheet "$edition" 12 0200 0102 20 0800 09 01 08 07 000000
+call 1 show sheet
+cat > expected << 'END'
+sheet: 19 bytes, refused
+edition 1
+field 0x12, 2 bytes: 01 02
+^ refusal 2 at byte 4: tag 0x12 is none of 0x01, 0x10, 0x11, 0x20, 0x21, 0x22, 0x23, 0x24, 0x25
+step 0: fill register 9, 1 by 8 of 7, with ?
+END
+same 'an unknown field in words' stdout expected
+bytes sheet "$edition" 20 08
+call 1 show sheet
+cat > expected << 'END'
+sheet: 6 bytes, refused
+edition 1
+2 bytes: 20 08
+^ refusal 1 at byte 4: a field's head has 3 bytes, the sheet ends after 2
+END
+same 'a cut head in words' stdout expected
+
+# -- The text form -------------------------------------------------------------------------------
+
+# assembles TEXT HEX..: the text must give these bytes, and these bytes come back from their text.
+assembles() {
+    printf '%b' "$1" > text
+    shift
+    call 0 asm text -o sheet
+    bytes expected "$@"
+    same 'a sheet of a text' sheet expected
+    call 0 show --asm sheet
+    cp stdout text
+    call 0 asm text -o again
+    same 'a sheet of its own text' again expected
+}
+
+# misspelt TEXT LINE..: the text has these errors, and nothing is written.
+misspelt() {
+    printf '%b' "$1" > text
+    shift
+    rm -f out
+    call 3 asm text -o out
+    silent
+    printf '%s\n' "$@" > expected
+    same 'the errors of a text' stderr expected
+    absent out
+}
+
+head='edition 1\nlayout L0 Repeat\n  dim size 8 stride 1 span 8\n'
+repeat='10 1000 01 03 00000000 0100 0800 0100 0000 0800'
+assembles 'edition 1' "$edition"
+assembles 'edition 0x1 # comment\n\n\t# another\r\n' "$edition"
+assembles "$head" "$edition $repeat"
+assembles 'edition 1\nlayout L0 Constant value 0x09\ndim block 2 size 4096 stride 65535 offset -4096 span 1\n' \
+    "$edition" 10 1000 01 01 09000000 0200 0010 FFFF 00F0 0100
+assembles "${head}view V0 permutation 0\n" "$edition $repeat $view"
+assembles "${head}view V0 permutation 0\n  dim size 8 stride 1\n  clip rows 0 65535 columns 0 65535\n" \
+    "$edition $repeat $own_view"
+assembles "${head}view V0 permutation 1 0\n  clip columns 2 3\n  dim size 8 stride 1\n  dim size 9 stride 2\n" \
+    "$edition $repeat" 11 1400 02 01 01 00 0800 0100 0900 0200 0000 FFFF 0200 0300
+assembles "${head}fill r3 16x1 s8 -1\nfill r0 1x1 s32 -2147483648\nfill r0 1x1 s16 65535\n" \
+    "$edition $repeat" 20 0800 03 10 01 01 FF000000 20 0800 00 01 01 05 00000080 20 0800 00 01 01 03 FFFF0000
+assembles "${head}load r1 object r0 L0 base 0x10\nload r1 L0 base 0\nload r1 object none L0 none base 0\n" \
+    "$edition $repeat" 21 0800 01 00 00 FF 10000000 21 0800 01 FF 00 FF 00000000 21 0800 01 FF 00 FF 00000000
+assembles "${head}view V0 permutation 0\nstore r0 L0 V0 base 4294967295\nreduce r1 of r2 3x4 2x2 xor\n" \
+    "$edition $repeat $view" 22 0700 00 00 00 FFFFFFFF 23 0600 01 02 03 04 04 05
+assembles 'edition 1\ntranspose r1 of r0\nmultiply-add r3 A r0 B r1 C r2\n' "$edition $transpose $multiply"
+assembles 'bytes 01 0100 01\nbytes 20\nbytes 080000010800 00000000' "$edition $fill"
+
+misspelt '' 'text:1:1: the sheet has no edition'
+misspelt 'fill r0 1x8 u8 0\n' 'text:1:1: step 0 (fill) comes before the edition' 'text:1:1: the sheet has no edition'
+misspelt 'edition 2\n' 'text:1:9: edition 2 is not 1'
+misspelt 'edition 1 1\nedition 1\n' "text:1:11: expected the end of the line, not '1'" \
+    'text:2:1: edition is repeated'
+misspelt 'edition\n' 'text:1:8: expected the edition, a number'
+misspelt 'edition 99999999999999999999\n' \
+    "text:1:9: expected the edition, a number, not '99999999999999999999'"
+misspelt 'edition 1\n\tlayout L0 Mirror value x\n\tdim block 0 size 4 stride 1 ofset 2 span 9999\n' \
+    "text:2:12: expected the clamp mode: Undefined or Constant or ClampToEdge or Repeat or MirrorRepeat, not 'Mirror'" \
+    "text:2:25: expected the clamp value, a number, not 'x'" \
+    'text:3:12: block 0 is not within 1 to 4096' \
+    "text:3:30: expected 'span' and a number, not 'ofset'" \
+    'text:3:43: span 9999 is not within 1 to 4096'
+misspelt 'edition 1\nlayout L1 Repeat\n' "text:2:8: expected 'L0', this layout's name, not 'L1'"
+misspelt 'edition 1\nlayout L0 Repeat\n' 'text:2:1: the layout has no dimensions'
+misspelt "$head  dim size 8\n" "text:4:13: expected 'stride' and a number"
+misspelt "${head}view V0 permutation 0 0\nview V1 permutation 2 0\n" \
+    'text:4:1: view 0: permutation 0 0 does not name each of 0 to 1 once' \
+    'text:5:1: view 1: permutation 2 0 does not name each of 0 to 1 once'
+misspelt "${head}view V0 permutation 0\ndim size 1 stride 1\ndim size 1 stride 1\n" \
+    'text:4:1: the view permutes 1 dimensions and has 2 of its own'
+misspelt "${head}view V0 permutation 0\nclip rows 0\nclip\n" 'text:5:12: expected the row span, a number' \
+    "text:6:1: a view has at most 1 'clip'"
+misspelt "${head}fill r9 0x99 u8 256\nfill r0 1x1 s8 -129\nfill r0 8 u8 1\n" \
+    'text:4:6: register 9 is not within 0 to 3' 'text:4:9: rows 0 is not within 1 to 16' \
+    'text:4:11: columns 99 is not within 1 to 16' 'text:4:17: value 256 is not within 0 to 255' \
+    'text:5:16: value -129 is not within -128 to 255' "text:6:9: expected rows and columns as 1x8, not '8'"
+misspelt "${head}load 1 object r7 L1 V0 base -1\nstore r1 base 0" \
+    "text:4:6: expected the register as r0, not '1'" 'text:4:15: object 7 is not within 0 to 3' \
+    'text:4:18: layout 1 is not 0' 'text:4:21: view 0 is not given: the sheet has no view' \
+    'text:4:29: base -1 is not within 0 to 4294967295' "text:5:10: expected the layout as L0, not 'base'"
+misspelt "${head}fill r0 1x1 u8 0\nlayout L1 Repeat\ndim size 1 stride 1 span 1\n" \
+    'text:5:1: layout 1 comes after a step'
+misspelt 'edition 1\nfrob r0\ndim size 1\nfill r0 1x1 u8 0\ndim size 1\n' "text:2:1: 'frob' begins no field" \
+    "text:5:1: 'dim' does not belong to the field before it"
+misspelt 'bytes 0g\nbytes 0\nbytes 01 0200 01\n' "text:1:7: expected pairs of hex digits, not '0g'" \
+    "text:2:7: expected pairs of hex digits, not '0'" \
+    'text:3:1: edition: length 2 runs past the end of the sheet by 1'
+misspelt 'edition 1\nallow refused\n' "text:2:7: 'allow refused' must stand before the first field"
+misspelt 'allow\n' 'text:1:1: the sheet has no edition' "text:1:6: expected 'refused'"
+# Many errors: all are counted, the first ten printed.
+{ echo 'edition 1'; yes 'fill r4 1x1 u8 0' | head -n 40; } > text
+call 3 asm text -o out
+{
+    for line in 2 3 4 5 6 7 8 9 10 11; do echo "text:$line:6: register 4 is not within 0 to 3"; done
+    echo 'text: 40 errors, the first 10 are printed'
+} > expected
+same 'many errors' stderr expected
+
+# What the library refuses is written where the text allows it, with a warning.
+printf 'allow refused\nlayout L0 7\n  dim size 0 stride 1 span 5000\nfill r9 0x200 9 1\nbytes 77\n' > text
+call 0 asm text -o sheet
+says 'text: warning: refusal 3 at byte 0: layout 0 comes before the edition'
+bytes expected 10 1000 01 07 00000000 0100 0000 0100 0000 8813 20 0800 09 00 C8 09 01000000 77
+same 'a refused sheet of a text' sheet expected
+call 1 show --asm sheet
+cp stdout text
+call 0 asm text -o again
+same 'a refused sheet of its own text' again expected
+misspelt 'allow refused\nfill r256 1x1 u8 0\n' 'text:2:6: register 256 is not within 0 to 255'
+
+# Standard input and output, and texts that are too long.
+printf 'edition 1\n' > text
+call 0 asm - -o - < text
+bytes expected "$edition"
+same 'asm - -o -' stdout expected
+broken "nowhere: $gone" asm nowhere -o out
+broken "nowhere/out: $gone" asm text -o nowhere/out
+yes '# comment' | head -c 1048577 > text
+broken 'text: longer than 1048576 bytes' asm text -o out
+wrong 'asm needs -o OUT' asm text
+wrong 'show prints one of --asm and --json' show --asm --json text
+
+# -- JSON ----------------------------------------------------------------------------------------
+
+# json TEXT WORD..: standard output must be one object on one line in which the filter is true, and
+# standard error empty.
+json() {
+    filter=$1
+    shift
+    "$@" --json
+    if [ "$(wc -l < stdout)" -eq 1 ] && [ ! -s stderr ] && jq -e "$filter" < stdout > answer 2>&1; then
+        pass
+    else
+        fail "$*: not so in JSON: $filter: $(head -c 300 stdout)"
+    fi
+}
+
+bytes sheet "$edition $layout $own_view $fill" 21 0800 00 FF 00 00 10000000 22 0700 00 00 FF 20000000
+json '.command == "check" and .accepted and .refusal == null and .memory == 64 and .byte_elements == 16' \
+    call 0 check sheet --memory 64
+json '.refusal == {number: 14, place: 1, second_place: 0, at: "step 1, element 0",
+    sentence: "load: row 0, column 0: byte 16 does not lie in the memory of 16 bytes"} and (.accepted | not)' \
+    call 1 check sheet --memory 16
+json '.command == "tape" and .memory == 65536 and .byte_elements == 16 and
+    .records == [[4,0,0,0,0,0],[1,0,0,8,16,1],[2,0,0,8,32,1]]' call 0 tape sheet
+call 0 tape sheet
+cp stdout tape
+for words in 'run sheet memory' 'run-tape sheet tape memory'; do
+    # shellcheck disable=SC2086
+    json '.registers == [{kind: "u8", rows: 1, columns: 8, elements: [[0,0,0,0,0,0,0,0]]},null,null,null] and
+        .byte_elements == 16' call 0 $words
+done
+json '.bytes == 73 and (.fields | map(.field)) == ["edition","layout","view","fill","load","store"] and
+    .fields[1].clamp_mode == "Undefined" and .fields[1].dimensions ==
+        [{block: 1, size: 8, stride: 1, offset: 0, span: 8}] and
+    .fields[2].permutation == [0] and .fields[2].dimensions == [{size: 8, stride: 1}] and
+    .fields[2].column_span == 65535 and .fields[4].object == null and .fields[4].view == 0' call 0 show sheet
+bytes sheet "$edition" 20 0800 00 02 01 03 00800000
+json '.registers[0].elements == [[-32768],[-32768]]' call 0 run sheet memory
+bytes sheet "$edition" 20 0800 00 02 01 06 00000000
+json '.fields == [{field: "edition", byte: 0, edition: 1}] and .refusal.at == "byte 4"' call 1 show sheet
+json '.refusal.number == 18 and .refusal.at == ""' call 1 run sheet /dev/zero
+json '.refusal.number == 5 and .command == "tape"' call 1 tape sheet
 
 # The examples, and what README.md says that they print.
 ${RUNNER:-} "$bin/example" > stdout 2> stderr
@@ -713,14 +1081,30 @@ same 'the example' stdout expected
 ${RUNNER:-} "$bin/readme" > stdout 2> stderr
 echo '1 by 4, first element 7' > expected
 same 'the lines of C in README.md' stdout expected
-sed -n '/^    -- its tape$/,/^    accepted/s/^    //p' "$root/README.md" > expected
+sed -n '/^    -- the sheet$/,/^    accepted/s/^    //p' "$root/README.md" > expected
 {
+    echo '-- the sheet'
+    grep -v '^#' "$strips/04-mirror-repeat/sheet.txt"
     echo '-- its tape'
     cat "$strips/04-mirror-repeat/tape.txt"
     echo '-- carried out on a memory whose byte i holds i'
     cat "$strips/04-mirror-repeat/run.txt"
 } > stdout
-same 'the tape in README.md' stdout expected
+same 'the demo in README.md' stdout expected
+
+# The commands of README.md, from the sheet above with a size of 0 on, and what it says that they print.
+sed -n 's/^    //;/^-- the sheet$/,/^-- its tape$/p' "$root/README.md" | grep -v '^--' | sed 's/size 4/size 0/' > my.txt
+sed -n '/^    \$ /,/^$/p' "$root/README.md" | sed 's/^    //' > console
+sed -n 's/^\$ //p' console | sed "s|target/tool/moonbleat|$bin/moonbleat|" > commands
+grep -v -e '^\$ ' -e '^$' console > expected
+sh commands > stdout 2>&1
+same 'the commands of README.md' stdout expected
+if [ -s expected ]; then pass; else fail 'no commands in README.md'; fi
+
+# The usage in the manual is the tool's.
+sed -n 's/^    \(moonbleat [a-z]\)/  \1/p' "$root/harness/README.md" > stdout
+sed 1d usage > expected
+same 'the usage in the manual' stdout expected
 
 # Hex that is none.
 for text in 0 0g 'x1' '01 # 23' ; do

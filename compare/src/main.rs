@@ -1,7 +1,9 @@
-//! `compare` holds the archive to the reference on many inputs; `compare bench` times both.
+//! `compare` holds the archive to the reference on many inputs; `compare bench` times both;
+//! `compare dump` writes the sheets to files.
 
 mod archive;
 
+use std::path::Path;
 use std::process::ExitCode;
 use std::time::Instant;
 
@@ -19,7 +21,10 @@ compare [--sheets N] [--seed S] [--case K] [--trace]
     The same seed gives the same sheets. --case K takes only sheet K of the seed, --trace
     prints the number of each sheet before it is tried.
 compare bench [--samples N]
-    Time both sides on named sheets, N samples each (51).";
+    Time both sides on named sheets, N samples each (51).
+compare dump FOLDER [--sheets N] [--seed S]
+    Write each of the sheets to a file of the folder, NUMBER-MEMORY.sheet, where MEMORY is the
+    length of the memory that it is compared on.";
 
 /// From this many sheets on, every refusal and every outcome must have been met.
 const SHEETS_FOR_COVERAGE: u64 = 20_000;
@@ -28,6 +33,7 @@ const SEED: u64 = 1;
 struct Options {
     help: bool,
     bench: bool,
+    dump: Option<String>,
     sheets: u64,
     samples: usize,
     seed: u64,
@@ -51,7 +57,11 @@ fn main() -> ExitCode {
         bench(&Archive, &Reference::default(), options.samples);
         return ExitCode::SUCCESS;
     }
-    match compare_all(&options) {
+    let done = match &options.dump {
+        Some(folder) => dump(&options, Path::new(folder)),
+        None => compare_all(&options),
+    };
+    match done {
         Ok(()) => ExitCode::SUCCESS,
         Err(what) => {
             println!("FAILED: {what}");
@@ -64,6 +74,7 @@ fn parse(arguments: impl Iterator<Item = String>) -> Result<Options, String> {
     let mut options = Options {
         help: false,
         bench: false,
+        dump: None,
         sheets: SHEETS_FOR_COVERAGE,
         samples: 51,
         seed: SEED,
@@ -79,6 +90,7 @@ fn parse(arguments: impl Iterator<Item = String>) -> Result<Options, String> {
         match argument.as_str() {
             "--help" => options.help = true,
             "bench" => options.bench = true,
+            "dump" => options.dump = Some(arguments.next().ok_or("dump needs a folder")?),
             "--sheets" => options.sheets = number()?,
             "--samples" => options.samples = number()?.max(1) as usize,
             "--seed" => options.seed = number()?,
@@ -88,6 +100,16 @@ fn parse(arguments: impl Iterator<Item = String>) -> Result<Options, String> {
         }
     }
     Ok(options)
+}
+
+/// Writes the sheets of the random cases.
+fn dump(options: &Options, folder: &Path) -> Result<(), String> {
+    for number in 0..options.sheets {
+        let case = Case::of_seed(options.seed, number);
+        let file = folder.join(format!("{number:05}-{}.sheet", case.memory.len()));
+        std::fs::write(&file, &case.sheet).map_err(|why| format!("{}: {why}", file.display()))?;
+    }
+    Ok(())
 }
 
 /// The strips, then the random cases, then what they met.

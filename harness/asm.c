@@ -1,0 +1,449 @@
+/*
+ * The assembler: line by line, over the tables of fields.h. A field's numbers are judged where they
+ * stand in the text; when all lines are taken, each field is judged in its place in the sheet. So
+ * every error of every line is found.
+ */
+#include "asm.h"
+
+#include <stdio.h>
+#include <stdlib.h>
+#include <string.h>
+
+#include "asm_line.h"
+#include "asm_numbers.h"
+#include "fields.h"
+#include "judge.h"
+#include "moonbleat.h"
+#include "numbers.h"
+
+/* Which line wrote the bytes from `at` on. */
+struct origin {
+    size_t at;
+    size_t line;
+    size_t column;
+    bool faulty; /* an error was reported for this field */
+};
+
+struct assembler {
+    struct assembly *assembly;
+    struct line line;
+    struct reading reading;        /* the fields that the text has named so far */
+    bool has_bytes;                /* a `bytes` line came, whose fields are not counted */
+    bool full;                     /* the sheet is as long as any may be */
+    bool unknown;                  /* the last field's word is none: its further lines are passed over */
+    const struct field_form *form; /* the field that is open; NULL: none */
+    struct part parts[PARTS_MAX];
+    struct origin *origins;
+    size_t origin_count;
+    size_t origin_room;
+};
+
+/* -- Bytes ------------------------------------------------------------------------------------ */
+
+static void put_bytes(struct assembler *assembler, const uint8_t *bytes, size_t len)
+{
+    struct bytes *sheet = &assembler->assembly->sheet;
+    if (len <= SHEET_LIMIT - sheet->len) {
+        memcpy(sheet->at + sheet->len, bytes, len);
+        sheet->len += len;
+    } else if (!assembler->full) {
+        struct text sentence = {.len = 0};
+        add_text(&sentence, "the sheet is longer than %zu bytes", SHEET_LIMIT);
+        report(&assembler->line, 1, &sentence);
+        assembler->full = true;
+    }
+}
+
+/* Says that the line writes the bytes that follow. */
+static bool add_origin(struct assembler *assembler, size_t column)
+{
+    if (assembler->origin_count == assembler->origin_room) {
+        size_t room = 2 * assembler->origin_room + 64;
+        struct origin *origins = realloc(assembler->origins, room * sizeof *origins);
+        if (origins == NULL) {
+            return false;
+        }
+        assembler->origins = origins;
+        assembler->origin_room = room;
+    }
+    struct origin origin = {assembler->assembly->sheet.len, assembler->line.number, column, false};
+    assembler->origins[assembler->origin_count++] = origin;
+    return true;
+}
+
+/* The line that opened the last field. */
+static struct origin *last_origin(const struct assembler *assembler)
+{
+    return &assembler->origins[assembler->origin_count - 1];
+}
+
+/* Reports what is wrong with the field of a line, unless an error of it was reported. */
+static void report_field(struct assembler *assembler, const struct origin *origin, const struct text *sentence)
+{
+    if (!origin->faulty) {
+        add_error(assembler->assembly, origin->line, origin->column, sentence);
+    }
+}
+
+/* -- Fields ----------------------------------------------------------------------------------- */
+
+/* What was read before the open field, if the text alone tells. */
+static const struct reading *known_reading(const struct assembler *assembler)
+{
+    return assembler->has_bytes ? NULL : &assembler->reading;
+}
+
+/* Layouts and views are called by their number, which the text must have right. */
+static void take_label(struct assembler *assembler, const struct field_form *form)
+{
+    const struct rank_form *rank = &rank_forms[form->rank];
+    if (rank->label == '\0') {
+        return;
+    }
+    struct text name = {.len = 0}, sentence = {.len = 0};
+    add_text(&name, "%c%u", rank->label, assembler->reading.counts[form->rank]);
+    add_text(&sentence, "expected '%s', this %s's name", name.at, rank->name);
+    struct token token = peek(&assembler->line);
+    bool is_label = token.len > 1 && token.at[0] == rank->label && token.at[1] >= '0' && token.at[1] <= '9';
+    if (!is_label || (!assembler->has_bytes && !is_word(token, name.at))) {
+        report_expected(&assembler->line, sentence.at, token);
+    }
+    if (is_label) {
+        take(&assembler->line);
+    }
+}
+
+/* Writes the open field's head and parts. */
+static void write_field(struct assembler *assembler)
+{
+    const struct field_form *form = assembler->form;
+    size_t length = 0;
+    for (size_t i = 0; i < form->part_count; i++) {
+        length += assembler->parts[i].len;
+    }
+    const uint8_t head[HEAD_BYTES] = {form->tag, (uint8_t)length, (uint8_t)(length >> 8)};
+    put_bytes(assembler, head, sizeof head);
+    for (size_t i = 0; i < form->part_count; i++) {
+        put_bytes(assembler, assembler->parts[i].bytes, assembler->parts[i].len);
+    }
+}
+
+/* How many dimensions the open field has, by its lines. */
+static unsigned dimension_count(const struct assembler *assembler)
+{
+    for (size_t i = 0; i < assembler->form->part_count; i++) {
+        if (assembler->form->parts[i].repeat == EACH_DIMENSION) {
+            return assembler->parts[i].times;
+        }
+    }
+    return 0;
+}
+
+/* What is wrong with how often a part of the open field came; an empty text if nothing is. */
+static struct text judge_times(const struct assembler *assembler, size_t index)
+{
+    struct text sentence = {.len = 0};
+    const struct field_form *form = assembler->form;
+    unsigned dimensions = dimension_count(assembler), times = assembler->parts[index].times;
+    enum repeat repeat = form->parts[index].repeat;
+    if (repeat == EACH_DIMENSION && times == 0 && !assembler->assembly->allows_refused) {
+        add_text(&sentence, "the %s has no dimensions", form->name);
+    } else if (repeat == EACH_SIZED_DIMENSION && times > 0 && times != dimensions) {
+        add_text(&sentence, "the %s permutes %u dimensions and has %u of its own", form->name, dimensions, times);
+    }
+    return sentence;
+}
+
+/* A part that may lack as a whole gets its numbers; dimensions must be as many as there are. */
+static void complete_part(struct assembler *assembler, size_t index)
+{
+    const struct part_form *form = &assembler->form->parts[index];
+    struct part *part = &assembler->parts[index];
+    if (form->repeat == ONCE && part->times == 0) {
+        for (size_t i = 0; i < form->count; i++) {
+            put_number(part, form->numbers[i].lacking, form->numbers[i].width);
+        }
+    }
+    struct text sentence = judge_times(assembler, index);
+    if (sentence.len > 0) {
+        report_field(assembler, last_origin(assembler), &sentence);
+        last_origin(assembler)->faulty = true;
+    }
+}
+
+/* The numbers that follow from the field's lines. */
+static void set_computed(struct assembler *assembler)
+{
+    const struct part_form *head = &assembler->form->parts[0];
+    bool sized = false;
+    for (size_t i = 0; i < assembler->form->part_count; i++) {
+        sized |= assembler->form->parts[i].repeat == EACH_SIZED_DIMENSION && assembler->parts[i].times > 0;
+    }
+    size_t at = 0;
+    for (size_t i = 0; i < head->count; i++) {
+        if (head->numbers[i].sort == COUNT) {
+            assembler->parts[0].bytes[at] = (uint8_t)dimension_count(assembler);
+        } else if (head->numbers[i].sort == SIZED) {
+            assembler->parts[0].bytes[at] = sized;
+        }
+        at += head->numbers[i].width;
+    }
+}
+
+static void close_field(struct assembler *assembler)
+{
+    if (assembler->form != NULL) {
+        for (size_t i = 0; i < assembler->form->part_count; i++) {
+            complete_part(assembler, i);
+        }
+        set_computed(assembler);
+        write_field(assembler);
+        note_field(&assembler->reading, assembler->form);
+        assembler->form = NULL;
+    }
+}
+
+/* Opens a field and takes what stands on its first line. */
+static void take_field(struct assembler *assembler, const struct field_form *form)
+{
+    assembler->form = form;
+    memset(assembler->parts, 0, sizeof assembler->parts);
+    take_label(assembler, form);
+    for (size_t i = 0; i < form->part_count && form->parts[i].word == NULL; i++) {
+        if (form->parts[i].repeat == ONCE) {
+            take_part(&assembler->line, known_reading(assembler), &form->parts[i], &assembler->parts[i]);
+        } else {
+            take_list(&assembler->line, &form->parts[i], &assembler->parts[i]);
+        }
+    }
+}
+
+/* Takes a further line of the open field. */
+static void take_further_line(struct assembler *assembler, size_t index, struct token word)
+{
+    const struct part_form *form = &assembler->form->parts[index];
+    struct part *part = &assembler->parts[index];
+    unsigned most = form->repeat == ONCE ? 1 : DIMENSIONS_MAX;
+    if (part->times == most) {
+        struct text sentence = {.len = 0};
+        add_text(&sentence, "a %s has at most %u '%s'", assembler->form->name, most, form->word);
+        report(&assembler->line, word.column, &sentence);
+        assembler->line.rest = assembler->line.end;
+        return;
+    }
+    take_part(&assembler->line, known_reading(assembler), form, part);
+}
+
+/* -- Lines ------------------------------------------------------------------------------------ */
+
+static void expect_line_end(struct line *line)
+{
+    struct token token = peek(line);
+    if (token.len > 0) {
+        report_expected(line, "expected the end of the line", token);
+    }
+}
+
+static void take_allow(struct assembler *assembler)
+{
+    struct token token = take(&assembler->line);
+    if (!is_word(token, "refused")) {
+        report_expected(&assembler->line, "expected 'refused'", token);
+    } else if (assembler->origin_count > 0) {
+        struct text sentence = {.len = 0};
+        add_text(&sentence, "'allow refused' must stand before the first field");
+        report(&assembler->line, token.column, &sentence);
+    } else {
+        assembler->assembly->allows_refused = true;
+    }
+}
+
+/* Takes hex digits, two a byte. */
+static void take_bytes(struct assembler *assembler)
+{
+    assembler->has_bytes = true;
+    struct line *line = &assembler->line;
+    for (struct token token = take(line); token.len > 0; token = take(line)) {
+        for (size_t i = 0; i < token.len; i += 2) {
+            uint8_t byte;
+            if (i + 2 > token.len || !parse_hex_byte(token.at + i, &byte)) {
+                report_expected(line, "expected pairs of hex digits", token);
+                break;
+            }
+            put_bytes(assembler, &byte, 1);
+        }
+    }
+}
+
+static const struct field_form *find_field(struct token word)
+{
+    for (size_t i = 0; i < field_form_count; i++) {
+        if (is_word(word, field_forms[i].name)) {
+            return &field_forms[i];
+        }
+    }
+    return NULL;
+}
+
+/* The part whose further lines of the form begin with a word; the part count if there is none. */
+static size_t find_part(const struct field_form *form, struct token word)
+{
+    size_t i = 0;
+    while (i < form->part_count && (form->parts[i].word == NULL || !is_word(word, form->parts[i].word))) {
+        i++;
+    }
+    return i;
+}
+
+/* Whether a word begins a further line of some field. */
+static bool is_part_word(struct token word)
+{
+    for (size_t i = 0; i < field_form_count; i++) {
+        if (find_part(&field_forms[i], word) < field_forms[i].part_count) {
+            return true;
+        }
+    }
+    return false;
+}
+
+/* A line that begins no field: a further one of the open field, or nothing known. */
+static void take_other_line(struct assembler *assembler, struct token word)
+{
+    size_t index = assembler->form == NULL ? 0 : find_part(assembler->form, word);
+    if (assembler->form != NULL && index < assembler->form->part_count) {
+        take_further_line(assembler, index, word);
+        expect_line_end(&assembler->line);
+        return;
+    }
+    bool is_part = is_part_word(word);
+    if (!is_part || !assembler->unknown) {
+        struct text sentence = {.len = 0};
+        add_text(&sentence, "'");
+        add_token(&sentence, word);
+        add_text(&sentence, is_part ? "' does not belong to the field before it" : "' begins no field");
+        add_error(assembler->assembly, assembler->line.number, word.column, &sentence);
+    }
+    if (!is_part) {
+        close_field(assembler);
+        assembler->unknown = true;
+    }
+}
+
+/* Takes a line; false if there is not enough room to work in. */
+static bool take_line(struct assembler *assembler)
+{
+    struct token word = take(&assembler->line);
+    if (word.len == 0) {
+        return true;
+    }
+    const struct field_form *form = find_field(word);
+    bool is_bytes = is_word(word, "bytes");
+    if (is_word(word, "allow")) {
+        close_field(assembler);
+        take_allow(assembler);
+        expect_line_end(&assembler->line);
+    } else if (form == NULL && !is_bytes) {
+        take_other_line(assembler, word);
+    } else {
+        close_field(assembler);
+        assembler->unknown = false;
+        if (!add_origin(assembler, word.column)) {
+            return false;
+        }
+        if (is_bytes) {
+            take_bytes(assembler);
+        } else {
+            take_field(assembler, form);
+        }
+        expect_line_end(&assembler->line);
+    }
+    return true;
+}
+
+static bool take_lines(struct assembler *assembler, const char *text, size_t len)
+{
+    const char *end = text + len;
+    bool done = true;
+    while (done && text < end) {
+        const char *newline = memchr(text, '\n', (size_t)(end - text));
+        const char *line_end = newline == NULL ? end : newline;
+        const char *comment = memchr(text, '#', (size_t)(line_end - text));
+        assembler->line = (struct line){assembler->assembly, text, text, comment == NULL ? line_end : comment,
+                                        assembler->line.number + 1, false, false};
+        done = take_line(assembler);
+        if (assembler->line.faulty && assembler->origin_count > 0) {
+            last_origin(assembler)->faulty = true;
+        }
+        text = newline == NULL ? end : newline + 1;
+    }
+    return done;
+}
+
+/* -- The fields in their places --------------------------------------------------------------- */
+
+/* Judges each field behind those before it, as the library reads them. */
+static void judge_sheet(struct assembler *assembler)
+{
+    const struct bytes *sheet = &assembler->assembly->sheet;
+    struct reading reading = {{0}, EDITION_RANK};
+    struct field field;
+    size_t at = 0, origin = 0;
+    for (; field_at(sheet->at, sheet->len, at, &field); at = field_end(&field)) {
+        struct text sentence;
+        while (origin + 1 < assembler->origin_count && assembler->origins[origin + 1].at <= at) {
+            origin++;
+        }
+        if (judge_field(&reading, &field, &sentence) != 0) {
+            report_field(assembler, &assembler->origins[origin], &sentence);
+        }
+        if (field.form != NULL) {
+            note_field(&reading, field.form);
+        }
+    }
+    struct text sentence = {.len = 0};
+    if (at < sheet->len) {
+        add_text(&sentence, HEAD_CUT_SENTENCE, sheet->len - at);
+        report_field(assembler, last_origin(assembler), &sentence);
+    } else if (reading.counts[EDITION_RANK] == 0) {
+        const struct origin end = {at, assembler->line.number == 0 ? 1 : assembler->line.number, 1, false};
+        add_text(&sentence, NO_EDITION_SENTENCE);
+        report_field(assembler, &end, &sentence);
+    }
+}
+
+bool assemble(const char *text, size_t len, struct assembly *assembly)
+{
+    memset(assembly, 0, sizeof *assembly);
+    struct assembler assembler = {.assembly = assembly};
+    assembly->sheet.at = malloc(SHEET_LIMIT);
+    bool done = assembly->sheet.at != NULL && take_lines(&assembler, text, len);
+    if (done) {
+        close_field(&assembler);
+        if (!assembly->allows_refused) {
+            judge_sheet(&assembler);
+        }
+    } else {
+        struct text sentence = {.len = 0};
+        add_text(&sentence, "there is not enough room to work in");
+        add_error(assembly, assembler.line.number, 1, &sentence);
+    }
+    free(assembler.origins);
+    return assembly->error_count == 0;
+}
+
+void print_asm_errors(const char *name, const struct assembly *assembly)
+{
+    for (size_t i = 0; i < assembly->error_count && i < ASM_ERRORS_KEPT; i++) {
+        const struct asm_error *error = &assembly->errors[i];
+        fprintf(stderr, "%s:%zu:%zu: %s\n", name, error->line, error->column, error->sentence.at);
+    }
+    if (assembly->error_count > ASM_ERRORS_KEPT) {
+        fprintf(stderr, "%s: %zu errors, the first %d are printed\n", name, assembly->error_count, ASM_ERRORS_KEPT);
+    }
+}
+
+void free_assembly(struct assembly *assembly)
+{
+    free(assembly->sheet.at);
+    assembly->sheet = (struct bytes){NULL, 0};
+}

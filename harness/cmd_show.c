@@ -1,0 +1,124 @@
+#include <inttypes.h>
+#include <stdio.h>
+#include <stdlib.h>
+
+#include "answers.h"
+#include "command.h"
+#include "fields.h"
+#include "files.h"
+#include "moonbleat.h"
+#include "sheet_text.h"
+#include "show.h"
+
+/* A number of the JSON object: a name where it has one, null for none. */
+static void json_value(struct json *json, const struct value *value, const char *key)
+{
+    const struct number_form *form = value->form;
+    if (form->name_of != NULL) {
+        json_text(json, key, form->name_of(value->raw));
+    } else if (is_none(form, value->raw)) {
+        json_null(json, key);
+    } else {
+        json_number(json, key, number_of(form, value->raw));
+    }
+}
+
+/* A field's numbers; those of a repeated part are in an array, as objects if they are several. */
+static void json_field(struct json *json, const struct field *field)
+{
+    struct values values;
+    field_values(field, &values);
+    json_open(json, NULL, '{');
+    json_text(json, "field", field->form->name);
+    json_number(json, "byte", (int64_t)field->at);
+    for (size_t i = 0; i < values.count; i++) {
+        const struct value *value = &values.at[i];
+        const struct part_form *part = &field->form->parts[value->part];
+        bool repeated = part->repeat != ONCE, several = part->count > 1;
+        bool first = value->form == part->numbers, last = value->form == part->numbers + part->count - 1;
+        if (repeated && first && value->dimension == 0) {
+            json_open(json, part->plural, '[');
+        }
+        if (repeated && several && first) {
+            json_open(json, NULL, '{');
+        }
+        json_value(json, value, repeated && !several ? NULL : value->form->name);
+        if (repeated && several && last) {
+            json_close(json, '}');
+        }
+        if (repeated && last && value->dimension + 1 == value_of_sort(&values, COUNT)) {
+            json_close(json, ']');
+        }
+    }
+    json_close(json, '}');
+}
+
+static void show_json(const struct refused *read)
+{
+    struct json json = {false};
+    struct field field;
+    open_answer(&json, &show_command, read);
+    json_number(&json, "bytes", (int64_t)read->sheet_len);
+    json_open(&json, "fields", '[');
+    for (size_t at = 0; field_at(read->sheet, readable_bytes(read), at, &field); at = field_end(&field)) {
+        json_field(&json, &field);
+    }
+    json_close(&json, ']');
+    close_answer(&json);
+}
+
+static void show_words(const struct refused *read, const uint32_t counts[MOONBLEAT_COUNTS])
+{
+    if (read->answer[MOONBLEAT_NUMBER] == 0) {
+        printf("sheet: %zu bytes, layouts %" PRIu32 ", views %" PRIu32 ", steps %" PRIu32 "\n", read->sheet_len,
+               counts[0], counts[1], counts[2]);
+        show_sheet(stdout, read->sheet, read->sheet_len);
+    } else {
+        printf("sheet: %zu bytes, refused\n", read->sheet_len);
+        show_refused_sheet(stdout, read->sheet, read->sheet_len, readable_bytes(read), refusal_line(read).at);
+    }
+}
+
+static int show(const struct request *request, const struct refused *read, const uint32_t counts[MOONBLEAT_COUNTS])
+{
+    bool accepted = read->answer[MOONBLEAT_NUMBER] == 0;
+    if (request->words[OPTION_JSON] != NULL) {
+        show_json(read);
+        return accepted ? DONE : REFUSED;
+    }
+    if (request->words[OPTION_ASM] != NULL) {
+        print_sheet_text(stdout, read);
+    } else {
+        show_words(read, counts);
+    }
+    return accepted ? DONE : answer_refusal(&show_command, request, read);
+}
+
+static int do_show(const struct request *request)
+{
+    struct bytes sheet;
+    if (request->words[OPTION_JSON] != NULL && request->words[OPTION_ASM] != NULL) {
+        return wrong_use(&show_command, "show prints one of --asm and --json");
+    }
+    if (!read_sheet(request->files[0], &sheet)) {
+        return FAILED;
+    }
+    uint32_t counts[MOONBLEAT_COUNTS] = {0};
+    uint32_t answer[MOONBLEAT_ANSWER] = {0};
+    const struct refused read = {sheet.at, sheet.len, 0, NULL, answer};
+    moonbleat_read(sheet.at, sheet.len, counts, answer);
+    int status = show(request, &read, counts);
+    free(sheet.at);
+    return status;
+}
+
+const struct command show_command = {
+    .name = "show",
+    .files = "SHEET",
+    .files_min = 1,
+    .files_max = 1,
+    .takes = SET(OPTION_ASM) | SET(OPTION_JSON),
+    .summary = "print the sheet in words, or in its text form",
+    .details = "A refused sheet is printed as far as it makes sense, with a mark behind the refused field.\n",
+    .perform = do_show,
+};

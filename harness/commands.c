@@ -1,0 +1,18 @@
+#include <string.h>
+
+#include "command.h"
+
+const struct command *const commands[] = {
+    &asm_command,  &show_command,     &check_command, &run_command,
+    &tape_command, &run_tape_command, &help_command,  NULL,
+};
+
+const struct command *find_command(const char *name)
+{
+    for (const struct command *const *command = commands; *command != NULL; command++) {
+        if (strcmp(name, (*command)->name) == 0) {
+            return *command;
+        }
+    }
+    return NULL;
+}

@@ -1,0 +1,166 @@
+#include "options.h"
+
+#include <stdarg.h>
+#include <stdio.h>
+#include <string.h>
+
+#include "command.h"
+#include "files.h"
+#include "help.h"
+#include "moonbleat.h"
+#include "numbers.h"
+
+const struct option_form option_forms[OPTIONS] = {
+    [OPTION_MEMORY] = {"--memory", "N", "the memory's length in bytes, decimal or 0x and hex; 65536 if not given"},
+    [OPTION_OUT] = {"-o", "OUT", "write what comes out to OUT: the memory afterwards, or the sheet of asm"},
+    [OPTION_REGISTERS] = {"--registers", "FILE", "write the registers to FILE: 16 type bytes, then 1024 elements"},
+    [OPTION_JSON] = {"--json", NULL, "print one JSON object in place of text"},
+    [OPTION_ASM] = {"--asm", NULL, "print the text form, which asm takes"},
+    [OPTION_MAN] = {"--man", NULL, "print the manual page"},
+};
+
+int wrong_use(const struct command *command, const char *format, ...)
+{
+    va_list arguments;
+    va_start(arguments, format);
+    fputs("moonbleat: ", stderr);
+    vfprintf(stderr, format, arguments);
+    fputc('\n', stderr);
+    va_end(arguments);
+    print_usage(stderr, command);
+    return WRONG_USE;
+}
+
+static bool is_option(const char *word)
+{
+    return word[0] == '-' && word[1] != '\0';
+}
+
+/* The length of an option's name in a word: all of it, or what is before the = of a long one. */
+static size_t name_length(const char *word)
+{
+    const char *equals = strncmp(word, "--", 2) == 0 ? strchr(word, '=') : NULL;
+    return equals == NULL ? strlen(word) : (size_t)(equals - word);
+}
+
+/* The option that a word names, OPTIONS if the command takes none of that name. */
+static enum option find_option(const struct command *command, const char *word)
+{
+    size_t len = name_length(word);
+    unsigned option = 0;
+    for (; option < OPTIONS; option++) {
+        const char *name = option_forms[option].name;
+        if ((command->takes & SET(option)) != 0 && strlen(name) == len && strncmp(name, word, len) == 0) {
+            break;
+        }
+    }
+    return (enum option)option;
+}
+
+static int take_memory(const struct command *command, const char *word, struct request *request)
+{
+    uint64_t length;
+    if (!parse_number(word, strlen(word), &length) || length > SIZE_MAX) {
+        return wrong_use(command, "--memory %s: not a length in bytes", word);
+    }
+    request->memory = (size_t)length;
+    return DONE;
+}
+
+/* Takes the option at words[*at] and the word after it, which may stand behind a =. */
+static int take_option(const struct command *command, char **words, size_t count, size_t *at, struct request *request)
+{
+    const char *word = words[*at];
+    enum option option = find_option(command, word);
+    if (option == OPTIONS) {
+        return wrong_use(command, "%s does not take %s", command->name, word);
+    }
+    const struct option_form *form = &option_forms[option];
+    const char *value = word[name_length(word)] == '=' ? word + name_length(word) + 1 : NULL;
+    if (form->value == NULL && value != NULL) {
+        return wrong_use(command, "%s takes no word after it", form->name);
+    }
+    if (form->value != NULL && value == NULL && *at + 1 < count) {
+        value = words[++*at];
+    }
+    if (form->value != NULL && value == NULL) {
+        return wrong_use(command, "%s needs a word after it", form->name);
+    }
+    if (request->words[option] != NULL) {
+        return wrong_use(command, "%s is given twice", form->name);
+    }
+    request->words[option] = form->value == NULL ? form->name : value;
+    return option == OPTION_MEMORY ? take_memory(command, value, request) : DONE;
+}
+
+static int take_words(const struct command *command, char **words, size_t count, struct request *request)
+{
+    bool options_end = false;
+    for (size_t i = 0; i < count; i++) {
+        if (!options_end && strcmp(words[i], "--") == 0) {
+            options_end = true;
+        } else if (!options_end && (strcmp(words[i], "--help") == 0 || strcmp(words[i], "-h") == 0)) {
+            request->help = true;
+            return DONE;
+        } else if (!options_end && is_option(words[i])) {
+            int status = take_option(command, words, count, &i, request);
+            if (status != DONE) {
+                return status;
+            }
+        } else if (request->file_count == command->files_max) {
+            return wrong_use(command, "%s takes %s, and %s is one more", command->name, command->files, words[i]);
+        } else {
+            request->files[request->file_count++] = words[i];
+        }
+    }
+    return DONE;
+}
+
+/* How many of the files are standard input, which can be read once. */
+static size_t standard_inputs(const struct request *request)
+{
+    size_t count = 0;
+    for (size_t i = 0; i < request->file_count; i++) {
+        count += strcmp(request->files[i], STANDARD_STREAM) == 0;
+    }
+    return count;
+}
+
+/* How much of what is asked for goes to standard output that can be nothing but itself. */
+static size_t standard_outputs(const struct request *request)
+{
+    static const enum option outputs[] = {OPTION_OUT, OPTION_REGISTERS};
+    size_t count = request->words[OPTION_JSON] != NULL;
+    for (size_t i = 0; i < sizeof outputs / sizeof outputs[0]; i++) {
+        const char *word = request->words[outputs[i]];
+        count += word != NULL && strcmp(word, STANDARD_STREAM) == 0;
+    }
+    return count;
+}
+
+static int check_request(const struct command *command, const struct request *request)
+{
+    if (request->file_count < command->files_min) {
+        return wrong_use(command, "%s takes %s", command->name, command->files);
+    }
+    for (unsigned option = 0; option < OPTIONS; option++) {
+        if ((command->needs & SET(option)) != 0 && request->words[option] == NULL) {
+            const struct option_form *form = &option_forms[option];
+            return wrong_use(command, "%s needs %s %s", command->name, form->name, form->value);
+        }
+    }
+    if (standard_inputs(request) > 1) {
+        return wrong_use(command, "standard input can be read only once");
+    }
+    if (standard_outputs(request) > 1) {
+        return wrong_use(command, "standard output can take only one of -o, --registers and --json");
+    }
+    return DONE;
+}
+
+int parse_request(const struct command *command, char **words, size_t count, struct request *request)
+{
+    *request = (struct request){.files = words, .memory = MOONBLEAT_MEMORY_MAX};
+    int status = take_words(command, words, count, request);
+    return status == DONE && !request->help ? check_request(command, request) : status;
+}

@@ -1,0 +1,41 @@
+/* The words of the command line: files, options, and the words after options. */
+#ifndef OPTIONS_H
+#define OPTIONS_H
+
+#include <stdbool.h>
+#include <stddef.h>
+
+/* Every option that some command takes; its row is in options.c. */
+enum option { OPTION_MEMORY, OPTION_OUT, OPTION_REGISTERS, OPTION_JSON, OPTION_ASM, OPTION_MAN, OPTIONS };
+
+/* An option in a set of options. */
+#define SET(option) (1u << (option))
+
+struct option_form {
+    const char *name;
+    const char *value; /* what the help calls the word after it; NULL for a switch */
+    const char *help;
+};
+
+extern const struct option_form option_forms[OPTIONS];
+
+/* What the command line asks for. */
+struct request {
+    char **files;
+    size_t file_count;
+    const char *words[OPTIONS]; /* of each option that is given its word, of a switch its name */
+    size_t memory;              /* 65,536 where --memory is not given */
+    bool help;                  /* --help: nothing else counts */
+};
+
+struct command;
+
+/* Says what is wrong with the command line and how the command is used (NULL: any command); gives
+ * the exit status. */
+int wrong_use(const struct command *command, const char *format, ...) __attribute__((format(printf, 2, 3)));
+
+/* Reads the words after a command's name; gives an exit status. The files are moved to the front
+ * of `words`. */
+int parse_request(const struct command *command, char **words, size_t count, struct request *request);
+
+#endif

@@ -1,0 +1,289 @@
+#include "step_faults.h"
+
+#include <inttypes.h>
+
+#include "kinds.h"
+#include "moonbleat.h"
+#include "places.h"
+
+/* The field of a rank and a number. */
+static bool find_field(const struct refused *refused, enum rank rank, uint32_t number, struct field *field)
+{
+    uint32_t before = 0;
+    for (size_t at = 0; field_at(refused->sheet, refused->sheet_len, at, field); at = field_end(field)) {
+        if (field->form == NULL) {
+            return false;
+        }
+        if (field->form->rank == rank && before++ == number) {
+            return true;
+        }
+    }
+    return false;
+}
+
+bool find_step(const struct refused *refused, uint32_t number, struct step *step)
+{
+    if (!find_field(refused, STEP_RANK, number, &step->field)) {
+        return false;
+    }
+    field_values(&step->field, &step->values);
+    return true;
+}
+
+/* The types before a step: the steps before it are carried out, and no byte of a memory changes a
+ * type. */
+static bool find_types(const struct refused *refused, struct step *step)
+{
+    static uint8_t memory[MOONBLEAT_MEMORY_MAX];
+    static uint32_t elements[MOONBLEAT_ELEMENTS];
+    uint32_t answer[MOONBLEAT_ANSWER] = {0};
+    return refused->memory_len <= MOONBLEAT_MEMORY_MAX &&
+           moonbleat_carry_out(refused->sheet, step->field.at, memory, refused->memory_len, step->types, elements,
+                               answer) == 0;
+}
+
+static const uint8_t *type_of(const struct step *step, uint32_t number)
+{
+    return step->types + (size_t)MOONBLEAT_TYPE_BYTES * (number % MOONBLEAT_REGISTERS);
+}
+
+static bool is_empty(const struct step *step, uint32_t number)
+{
+    return type_of(step, number)[MOONBLEAT_TYPE_ROWS] == 0;
+}
+
+bool find_empty_register(const struct step *step, struct text *cause)
+{
+    for (size_t i = 0; i < step->values.count; i++) {
+        const struct value *value = &step->values.at[i];
+        bool is_own = value->form->sort == OBJECT && value->raw == MOONBLEAT_NONE;
+        uint32_t number = is_own ? value_of_sort(&step->values, RESULT) : value->raw;
+        bool is_read = value->form->sort == REGISTER || value->form->sort == OBJECT;
+        if (is_read && is_empty(step, number)) {
+            add_text(cause, "register %" PRIu32 " is empty", number);
+            add_text(cause, "%s", is_own ? ", and without an object the load starts from it" : "");
+            return true;
+        }
+    }
+    return false;
+}
+
+static void add_type(struct text *text, const struct step *step, uint32_t number)
+{
+    const uint8_t *type = type_of(step, number);
+    add_text(text, "register %" PRIu32 " (%ux%u %s)", number, (unsigned)type[MOONBLEAT_TYPE_ROWS],
+             (unsigned)type[MOONBLEAT_TYPE_COLUMNS], kind_name(type[MOONBLEAT_TYPE_KIND]));
+}
+
+/* Whether a reduce to some sides may have a source of a type. */
+static bool reduce_fits(uint32_t mode, uint32_t rows, uint32_t columns, const uint8_t *type)
+{
+    switch (mode) {
+    case MOONBLEAT_REDUCE_ROW:
+        return rows == type[MOONBLEAT_TYPE_ROWS];
+    case MOONBLEAT_REDUCE_COLUMN:
+        return columns == type[MOONBLEAT_TYPE_COLUMNS];
+    case MOONBLEAT_REDUCE_2X2:
+        return 2 * rows == type[MOONBLEAT_TYPE_ROWS] && 2 * columns == type[MOONBLEAT_TYPE_COLUMNS];
+    default:
+        return true;
+    }
+}
+
+static bool find_reduce_fault(const struct step *step, struct text *cause)
+{
+    static const char *const rules[] = {
+        [MOONBLEAT_REDUCE_ROW] = "the rows must be the source's",
+        [MOONBLEAT_REDUCE_COLUMN] = "the columns must be the source's",
+        [MOONBLEAT_REDUCE_2X2] = "rows and columns must be half the source's",
+    };
+    uint32_t mode = value_of_sort(&step->values, MODE), source = value_of_sort(&step->values, REGISTER);
+    uint32_t rows = value_of_sort(&step->values, ROWS), columns = value_of_sort(&step->values, COLUMNS);
+    if (reduce_fits(mode, rows, columns, type_of(step, source))) {
+        return false;
+    }
+    add_text(cause, "a result of %" PRIu32 "x%" PRIu32 " of ", rows, columns);
+    add_type(cause, step, source);
+    add_text(cause, ": %s", rules[mode]);
+    return true;
+}
+
+static bool find_multiply_fault(const struct step *step, struct text *cause)
+{
+    enum { RESULT_AT, A_AT, B_AT, C_AT };
+    const struct value *values = step->values.at;
+    const uint8_t *a = type_of(step, values[A_AT].raw), *b = type_of(step, values[B_AT].raw),
+                  *c = type_of(step, values[C_AT].raw);
+    bool sides_fit = a[MOONBLEAT_TYPE_ROWS] == c[MOONBLEAT_TYPE_ROWS] &&
+                     a[MOONBLEAT_TYPE_COLUMNS] == b[MOONBLEAT_TYPE_ROWS] &&
+                     b[MOONBLEAT_TYPE_COLUMNS] == c[MOONBLEAT_TYPE_COLUMNS];
+    bool kind_fits = c[MOONBLEAT_TYPE_KIND] == MOONBLEAT_U32 || c[MOONBLEAT_TYPE_KIND] == MOONBLEAT_S32;
+    for (unsigned i = A_AT; i <= C_AT; i++) {
+        add_text(cause, "%s%s ", i == A_AT ? "" : ", ", values[i].form->name);
+        add_type(cause, step, values[i].raw);
+    }
+    add_text(cause, sides_fit ? ": C must be u32 or s32" : ": the sides must be MxK, KxN and MxN");
+    return !sides_fit || !kind_fits;
+}
+
+bool find_shape_fault(const struct step *step, struct text *cause)
+{
+    switch (step->field.tag) {
+    case MOONBLEAT_TAG_REDUCE:
+        return find_reduce_fault(step, cause);
+    case MOONBLEAT_TAG_MULTIPLY_ADD:
+        return find_multiply_fault(step, cause);
+    default:
+        return false;
+    }
+}
+
+/* The register whose type a load or a store goes by. */
+static uint32_t matrix_of(const struct step *step)
+{
+    uint32_t object = value_of_sort(&step->values, OBJECT);
+    if (step->field.tag == MOONBLEAT_TAG_STORE) {
+        return value_of_sort(&step->values, REGISTER);
+    }
+    return object == MOONBLEAT_NONE ? value_of_sort(&step->values, RESULT) : object;
+}
+
+/* What a load or a store addresses with. */
+static bool find_access(const struct refused *refused, const struct step *step, struct access *access)
+{
+    struct field layout, view;
+    struct values values;
+    uint32_t view_number = value_of_sort(&step->values, VIEW);
+    access->is_store = step->field.tag == MOONBLEAT_TAG_STORE;
+    access->has_view = view_number != MOONBLEAT_NONE;
+    if (!find_field(refused, LAYOUT_RANK, value_of_sort(&step->values, LAYOUT), &layout) ||
+        (access->has_view && !find_field(refused, VIEW_RANK, view_number, &view))) {
+        return false;
+    }
+    field_values(&layout, &values);
+    access->layout = layout_of(&values);
+    if (access->has_view) {
+        field_values(&view, &values);
+        access->view = view_of(&values);
+    }
+    const uint8_t *type = type_of(step, matrix_of(step));
+    access->base = step->values.at[step->values.count - 1].raw;
+    access->columns = type[MOONBLEAT_TYPE_COLUMNS];
+    access->size = kind_bits(type[MOONBLEAT_TYPE_KIND]) / 8;
+    return access->columns > 0;
+}
+
+static bool find_base_fault(const struct access *access, struct text *cause)
+{
+    add_text(cause, "base %" PRIu64 " is not a multiple of 16", access->base);
+    return access->base % 16 != 0;
+}
+
+static bool find_view_fault(const struct step *step, const struct access *access, struct text *cause)
+{
+    add_text(cause, "view %" PRIu32 " has no dimensions of its own and permutes %u, layout %" PRIu32 " has %u",
+             value_of_sort(&step->values, VIEW), access->view.count, value_of_sort(&step->values, LAYOUT),
+             access->layout.count);
+    return access->has_view && !access->view.sized && access->view.count != access->layout.count;
+}
+
+static bool find_block_fault(const struct step *step, const struct access *access, struct text *cause)
+{
+    for (unsigned i = 0; i < access->layout.count; i++) {
+        int64_t block = access->layout.dimensions[i].block;
+        if (block > 1) {
+            add_text(cause, "layout %" PRIu32 ", dimension %u: block %" PRId64 " is above 1",
+                     value_of_sort(&step->values, LAYOUT), i, block);
+            return access->is_store;
+        }
+    }
+    return false;
+}
+
+static void add_position(struct text *text, const struct access *access, unsigned element)
+{
+    add_text(text, "row %u, column %u", element / access->columns, element % access->columns);
+}
+
+static bool find_outside_fault(const struct access *access, const struct place *place, struct text *cause)
+{
+    add_text(cause, ": coordinate %" PRId64 " of dimension %u is not within 0 to %" PRId64
+                    ", and the clamp mode is Undefined",
+             place->coordinate, place->dimension, access->layout.dimensions[place->dimension].size - 1);
+    return place->outcome == OUTSIDE;
+}
+
+static bool find_address_fault(const struct refused *refused, const struct access *access, const struct place *place,
+                               struct text *cause)
+{
+    add_text(cause, ": ");
+    if (access->size > 1) {
+        add_text(cause, "bytes %" PRIu64 " to %" PRIu64 " do not all", place->byte, place->byte + access->size - 1);
+    } else {
+        add_text(cause, "byte %" PRIu64 " does not", place->byte);
+    }
+    add_text(cause, " lie in the memory of %zu bytes", refused->memory_len);
+    return place->outcome == PLACED && place->byte + access->size > refused->memory_len;
+}
+
+static bool find_shared_byte(const struct access *access, const struct place *place, unsigned element,
+                             struct text *cause)
+{
+    for (unsigned earlier = 0; earlier < element; earlier++) {
+        struct place other = place_of(access, earlier);
+        if (other.outcome == PLACED && other.byte == place->byte) {
+            add_text(cause, ": byte %" PRIu64 " has element %u already, ", place->byte, earlier);
+            add_position(cause, access, earlier);
+            return place->outcome == PLACED;
+        }
+    }
+    return false;
+}
+
+static bool find_element_fault(const struct refused *refused, const struct access *access, struct text *cause)
+{
+    unsigned element = refused->answer[MOONBLEAT_SECOND_PLACE];
+    struct place place = place_of(access, element);
+    add_position(cause, access, element);
+    switch (refused->answer[MOONBLEAT_NUMBER]) {
+    case MOONBLEAT_REFUSED_INDEX:
+        add_text(cause, ": the index after the view is %" PRIu64 ", not below 4294967296", place.index);
+        return place.outcome == INDEX_TOO_LARGE;
+    case MOONBLEAT_REFUSED_OUTSIDE:
+        return find_outside_fault(access, &place, cause);
+    case MOONBLEAT_REFUSED_ADDRESS:
+        return find_address_fault(refused, access, &place, cause);
+    default:
+        return find_shared_byte(access, &place, element, cause);
+    }
+}
+
+bool find_step_fault(const struct refused *refused, struct text *cause)
+{
+    struct step step;
+    struct access access;
+    uint32_t number = refused->answer[MOONBLEAT_NUMBER];
+    if (!find_step(refused, refused->answer[MOONBLEAT_PLACE], &step) || !find_types(refused, &step)) {
+        return false;
+    }
+    add_text(cause, "%s: ", step.field.form->name);
+    if (number == MOONBLEAT_REFUSED_EMPTY_REGISTER) {
+        return find_empty_register(&step, cause);
+    }
+    if (number == MOONBLEAT_REFUSED_SHAPE) {
+        return find_shape_fault(&step, cause);
+    }
+    if (!find_access(refused, &step, &access)) {
+        return false;
+    }
+    switch (number) {
+    case MOONBLEAT_REFUSED_BASE:
+        return find_base_fault(&access, cause);
+    case MOONBLEAT_REFUSED_VIEW:
+        return find_view_fault(&step, &access, cause);
+    case MOONBLEAT_REFUSED_BLOCK:
+        return find_block_fault(&step, &access, cause);
+    default:
+        return find_element_fault(refused, &access, cause);
+    }
+}

@@ -1,0 +1,26 @@
+/* What is wrong with a step: refusals 7 to 15. */
+#ifndef STEP_FAULTS_H
+#define STEP_FAULTS_H
+
+#include "diagnose.h"
+#include "fields.h"
+#include "moonbleat.h"
+
+/* A step, its numbers, and the registers' types before it. */
+struct step {
+    struct field field;
+    struct values values;
+    uint8_t types[MOONBLEAT_TYPES];
+};
+
+/* The step of a number, without the types; false if the sheet has none. */
+bool find_step(const struct refused *refused, uint32_t number, struct step *step);
+
+/* Refusals 7 and 8 of a step whose types are known; false if it gets none. */
+bool find_empty_register(const struct step *step, struct text *cause);
+bool find_shape_fault(const struct step *step, struct text *cause);
+
+/* The cause of a refusal that names a step. */
+bool find_step_fault(const struct refused *refused, struct text *cause);
+
+#endif

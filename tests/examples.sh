@@ -1,0 +1,67 @@
+#!/bin/sh
+# Tries the examples of docs/SHEETS.md. Each block is named by its kind: a `sheet` is assembled, and
+# the `run`, `tape` or `refusal` behind it must be what the tool prints for it, on a memory of 256
+# bytes in which byte i holds i; `hex` must be the bytes of the sheet before it that has a run.
+#
+#   tests/examples.sh FOLDER      FOLDER has the programs moonbleat and unhex
+
+set -u
+bin=$(cd "$1" && pwd) || exit 2
+root=$(cd "$(dirname "$0")/.." && pwd) || exit 2
+work=$(mktemp -d) || exit 2
+trap 'rm -rf "$work"' EXIT
+cd "$work" || exit 2
+passed=0
+failed=0
+
+# Each block into a file NUMBER.KIND.
+awk '/^```[a-z]+$/ { file = sprintf("%02d.%s", ++count, substr($0, 4)); next }
+     /^```$/ { file = ""; next }
+     file != "" { print > file }' "$root/docs/SHEETS.md"
+i=0
+while [ "$i" -lt 256 ]; do
+    # shellcheck disable=SC2059
+    printf "\\$(printf %03o "$i")"
+    i=$((i + 1))
+done > memory
+
+# fail NAME WHAT
+fail() {
+    failed=$((failed + 1))
+    echo "FAILED: docs/SHEETS.md, block $1: $2"
+}
+
+# gives NAME COMMAND..: the command must print the block.
+gives() {
+    name=$1
+    shift
+    "$@" > printed 2>&1
+    if cmp -s printed "$name"; then
+        passed=$((passed + 1))
+    else
+        fail "$name" "$(diff printed "$name" | head -n 5)"
+    fi
+}
+
+# assembles NAME: the block must be a text without errors; a warning may come.
+assembles() {
+    if "$bin/moonbleat" asm "$1" -o sheet > printed 2>&1; then
+        passed=$((passed + 1))
+    else
+        fail "$1" "$(head -n 5 printed)"
+    fi
+}
+
+for block in [0-9]*; do
+    case $block in
+        *.sheet) assembles "$block" ;;
+        *.run) gives "$block" "$bin/moonbleat" run sheet memory ;;
+        *.tape) gives "$block" "$bin/moonbleat" tape sheet ;;
+        *.hex) "$bin/unhex" < "$block" > bytes && gives bytes cat sheet ;;
+        *.refusal) sed 's/^/moonbleat: /' "$block" > line && gives line "$bin/moonbleat" check sheet --memory 256 ;;
+        *) fail "$block" 'of no known kind' ;;
+    esac
+done
+
+echo "examples of docs/SHEETS.md: $passed passed, $failed failed"
+[ "$failed" -eq 0 ] && [ "$passed" -gt 0 ]

@@ -1,0 +1,137 @@
+/* Holds the header's word on pointers: each slice may be NULL where its length is 0, and the answer
+ * is then that of any other empty slice. */
+#include <stdbool.h>
+#include <stdio.h>
+#include <string.h>
+
+#include "moonbleat.h"
+
+/* What a function may fill. */
+struct result {
+    uint32_t returned;
+    uint32_t counts[MOONBLEAT_COUNTS];
+    uint32_t records[1];
+    uint8_t types[MOONBLEAT_TYPES];
+    uint32_t elements[MOONBLEAT_ELEMENTS];
+    uint32_t answer[MOONBLEAT_ANSWER];
+};
+
+/* Edition 1, and a fill of register 0, which needs no memory. */
+static const uint8_t fill_sheet[] = {0x01, 1, 0, 1, 0x20, 8, 0, 0, 1, 4, 0, 7, 0, 0, 0};
+
+/* Calls a function with empty slices that begin at `nothing`. */
+typedef void call(uint8_t *nothing, int32_t *no_numbers, struct result *result);
+
+static void read_nothing(uint8_t *nothing, int32_t *no_numbers, struct result *result)
+{
+    (void)no_numbers;
+    result->returned = moonbleat_read(nothing, 0, result->counts, result->answer);
+}
+
+static void rewrite_nothing(uint8_t *nothing, int32_t *no_numbers, struct result *result)
+{
+    (void)no_numbers;
+    result->returned = moonbleat_rewrite(nothing, 0, nothing, 0, result->answer);
+}
+
+static void rewrite_to_nothing(uint8_t *nothing, int32_t *no_numbers, struct result *result)
+{
+    (void)no_numbers;
+    result->returned = moonbleat_rewrite(fill_sheet, sizeof fill_sheet, nothing, 0, result->answer);
+}
+
+static void check_nothing(uint8_t *nothing, int32_t *no_numbers, struct result *result)
+{
+    (void)no_numbers;
+    result->returned = moonbleat_check(nothing, 0, 0, result->answer);
+}
+
+static void carry_out_nothing(uint8_t *nothing, int32_t *no_numbers, struct result *result)
+{
+    (void)no_numbers;
+    result->returned =
+        moonbleat_carry_out(nothing, 0, nothing, 0, result->types, result->elements, result->answer);
+}
+
+static void carry_out_on_nothing(uint8_t *nothing, int32_t *no_numbers, struct result *result)
+{
+    (void)no_numbers;
+    result->returned = moonbleat_carry_out(fill_sheet, sizeof fill_sheet, nothing, 0, result->types, result->elements,
+                                           result->answer);
+}
+
+static void translate_nothing(uint8_t *nothing, int32_t *no_numbers, struct result *result)
+{
+    result->returned = moonbleat_translate(nothing, 0, 0, no_numbers, 0, result->records, result->answer);
+}
+
+static void translate_to_nothing(uint8_t *nothing, int32_t *no_numbers, struct result *result)
+{
+    (void)nothing;
+    result->returned =
+        moonbleat_translate(fill_sheet, sizeof fill_sheet, 0, no_numbers, 0, result->records, result->answer);
+}
+
+static void run_nothing(uint8_t *nothing, int32_t *no_numbers, struct result *result)
+{
+    result->returned = moonbleat_run(nothing, 0, no_numbers, 0, 0, nothing, 0, result->types, result->elements,
+                                     result->answer);
+}
+
+static void run_on_nothing(uint8_t *nothing, int32_t *no_numbers, struct result *result)
+{
+    result->returned = moonbleat_run(fill_sheet, sizeof fill_sheet, no_numbers, 0, 0, nothing, 0, result->types,
+                                     result->elements, result->answer);
+}
+
+static void run_records_of_nothing(uint8_t *nothing, int32_t *no_numbers, struct result *result)
+{
+    result->returned = moonbleat_run(fill_sheet, sizeof fill_sheet, no_numbers, 0, 1, nothing, 0, result->types,
+                                     result->elements, result->answer);
+}
+
+static const struct {
+    const char *name;
+    call *call;
+    uint32_t refusal;
+} cases[] = {
+    {"read nothing", read_nothing, MOONBLEAT_REFUSED_ORDER},
+    {"rewrite nothing", rewrite_nothing, MOONBLEAT_REFUSED_ORDER},
+    {"rewrite to nothing", rewrite_to_nothing, MOONBLEAT_REFUSED_ROOM},
+    {"check nothing", check_nothing, MOONBLEAT_REFUSED_ORDER},
+    {"carry out nothing", carry_out_nothing, MOONBLEAT_REFUSED_ORDER},
+    {"carry out on nothing", carry_out_on_nothing, 0},
+    {"translate nothing", translate_nothing, MOONBLEAT_REFUSED_ORDER},
+    {"translate to nothing", translate_to_nothing, MOONBLEAT_REFUSED_TAPE_LENGTH},
+    {"run nothing", run_nothing, MOONBLEAT_REFUSED_ORDER},
+    {"run on nothing", run_on_nothing, 0},
+    {"run records of nothing", run_records_of_nothing, MOONBLEAT_REFUSED_RECORD},
+};
+
+enum { CASES = sizeof cases / sizeof cases[0], GARBAGE = 0xA5 };
+
+/* Whether a call with NULL gives what it gives with another empty slice, from garbage. */
+static bool holds(size_t i)
+{
+    static struct result with_null, with_another;
+    uint8_t byte = 0;
+    int32_t number = 0;
+    memset(&with_null, GARBAGE, sizeof with_null);
+    memset(&with_another, GARBAGE, sizeof with_another);
+    cases[i].call(NULL, NULL, &with_null);
+    cases[i].call(&byte, &number, &with_another);
+    return memcmp(&with_null, &with_another, sizeof with_null) == 0 && with_null.returned == cases[i].refusal;
+}
+
+int main(void)
+{
+    int failed = 0;
+    for (size_t i = 0; i < CASES; i++) {
+        if (!holds(i)) {
+            printf("FAILED: %s\n", cases[i].name);
+            failed++;
+        }
+    }
+    printf("slices of length 0: %d passed, %d failed\n", CASES - failed, failed);
+    return failed != 0;
+}

@@ -1,0 +1,143 @@
+/*
+ * Tries the text form and the diagnoses on each sheet of a folder, as `compare dump` writes them:
+ *
+ *   - the text of a sheet, of a refused one too, assembles to the sheet's bytes;
+ *   - every sheet is shown;
+ *   - of a refused sheet the cause is found, and of its tape with one number changed.
+ *
+ *   sheets FOLDER
+ */
+#define _POSIX_C_SOURCE 200809L
+
+#include <dirent.h>
+#include <inttypes.h>
+#include <stdbool.h>
+#include <stdio.h>
+#include <stdlib.h>
+#include <string.h>
+
+#include "diagnose.h"
+#include "files.h"
+#include "moonbleat.h"
+#include "round_trip.h"
+#include "show.h"
+
+static size_t sheets, read_sheets, failed, refused[MOONBLEAT_REFUSED_RECORD + 1];
+static FILE *nowhere;
+
+static void fail(const char *name, const char *what)
+{
+    failed++;
+    printf("FAILED: %s: %s\n", name, what);
+}
+
+static void try_text(const char *name, const struct bytes *sheet)
+{
+    uint32_t counts[MOONBLEAT_COUNTS], answer[MOONBLEAT_ANSWER];
+    const struct refused read = {sheet->at, sheet->len, 0, NULL, answer};
+    if (moonbleat_read(sheet->at, sheet->len, counts, answer) == 0) {
+        read_sheets++;
+        show_sheet(nowhere, sheet->at, sheet->len);
+    } else {
+        show_refused_sheet(nowhere, sheet->at, sheet->len, readable_bytes(&read), "");
+    }
+    if (!comes_back(&read)) {
+        fail(name, "the text gives other bytes");
+    }
+}
+
+/* Counts a refusal, whose cause must be found. */
+static void expect_cause(const char *name, const struct refused *input)
+{
+    struct text cause;
+    uint32_t number = input->answer[MOONBLEAT_NUMBER];
+    if (number == 0 || number == MOONBLEAT_REFUSED_MEMORY) {
+        return;
+    }
+    refused[number]++;
+    if (!diagnose(input, &cause)) {
+        printf("FAILED: %s: refusal %" PRIu32 " at %" PRIu32 " %" PRIu32 " has no cause\n", name, number,
+               input->answer[MOONBLEAT_PLACE], input->answer[MOONBLEAT_SECOND_PLACE]);
+        failed++;
+    }
+}
+
+/* Runs the tape of an accepted sheet with some number of it changed, another one for each sheet. */
+static void try_tape(const char *name, const struct bytes *sheet, size_t memory_len)
+{
+    static const int32_t others[] = {-1, 0, 1, 4, 5, 17, 256, 65535, 65536, INT32_MIN, INT32_MAX};
+    static struct tape tape;
+    static uint8_t memory[MOONBLEAT_MEMORY_MAX];
+    static uint32_t elements[MOONBLEAT_ELEMENTS];
+    uint8_t types[MOONBLEAT_TYPES];
+    uint32_t records[1], answer[MOONBLEAT_ANSWER];
+    if (moonbleat_translate(sheet->at, sheet->len, memory_len, tape.numbers, MOONBLEAT_TAPE_NUMBERS, records,
+                            answer) != 0 ||
+        records[0] == 0) {
+        return;
+    }
+    tape.records = records[0];
+    size_t numbers = MOONBLEAT_RECORD_NUMBERS * tape.records;
+    size_t sheet_number = strtoul(name, NULL, 10);
+    tape.numbers[sheet_number * 7919 % numbers] = others[sheet_number % (sizeof others / sizeof others[0])];
+    const struct refused ran = {sheet->at, sheet->len, memory_len, &tape, answer};
+    moonbleat_run(sheet->at, sheet->len, tape.numbers, numbers, tape.records, memory, memory_len, types, elements,
+                  answer);
+    expect_cause(name, &ran);
+}
+
+static void try_diagnosis(const char *name, const struct bytes *sheet, size_t memory_len)
+{
+    uint32_t answer[MOONBLEAT_ANSWER];
+    const struct refused checked = {sheet->at, sheet->len, memory_len, NULL, answer};
+    if (moonbleat_check(sheet->at, sheet->len, memory_len, answer) == 0) {
+        try_tape(name, sheet, memory_len);
+    } else {
+        expect_cause(name, &checked);
+    }
+}
+
+/* A file is called NUMBER-MEMORY.sheet. */
+static void try_file(const char *folder, const char *name)
+{
+    char path[512];
+    struct bytes sheet;
+    const char *memory = strchr(name, '-');
+    if (memory == NULL) {
+        return;
+    }
+    snprintf(path, sizeof path, "%s/%s", folder, name);
+    if (!read_sheet(path, &sheet)) {
+        failed++;
+        return;
+    }
+    sheets++;
+    try_text(name, &sheet);
+    try_diagnosis(name, &sheet, strtoul(memory + 1, NULL, 10));
+    free(sheet.at);
+}
+
+int main(int argc, char **argv)
+{
+    DIR *folder = argc == 2 ? opendir(argv[1]) : NULL;
+    nowhere = fopen("/dev/null", "w");
+    if (folder == NULL || nowhere == NULL) {
+        fputs("usage: sheets FOLDER\n", stderr);
+        return 2;
+    }
+    for (const struct dirent *entry = readdir(folder); entry != NULL; entry = readdir(folder)) {
+        try_file(argv[1], entry->d_name);
+    }
+    closedir(folder);
+    fclose(nowhere);
+    printf("sheets put through their text: %zu, of which %zu are read\nrefused by number:", sheets, read_sheets);
+    for (size_t number = 1; number <= MOONBLEAT_REFUSED_RECORD; number++) {
+        printf(" %zu:%zu", number, refused[number]);
+        /* The tape's length is not asked for. */
+        if (refused[number] == 0 && number != MOONBLEAT_REFUSED_TAPE_LENGTH) {
+            fail(argv[1], "a refusal was not met");
+        }
+    }
+    printf("\n%zu failed\n", failed);
+    return failed != 0;
+}
