@@ -24,10 +24,10 @@ use Rattle.sheet.specs.declared.Cell.{Cell}
 use Rattle.sheet.specs.declared.Sheet.{Sheet}
 use Rattle.contents.specs.Contents.{layoutAt, viewAt, stepAt}
 use Rattle.sheet_reader.specs.Reading.{givenOf, layoutMayCome, viewMayCome, withEdition, moreLayout, moreView, withTensors, withStep, withField, refusedRead, acceptedRead, endRead, readSheet}
-use Rattle.sheet_reader.specs.Laws.Taken.{LayoutTaken, ViewTaken, StepTaken, Took, edition, layout-place, view-place, step-place}
-use Rattle.sheet_reader.specs.Laws.Growing.{layout, view, step, Grown, edition-grown, layout-grown, view-grown, step-grown, first-edition}
+use Rattle.sheet_reader.specs.Laws.Taken.{LayoutTaken, ViewTaken, StepTaken, Took, edition, layout, view, step, layout-place, view-place, step-place}
 use Rattle.sheet_reader.specs.Laws.Turns.{with-edition, with-layout, with-view, with-step}
 use Rattle.sheet_reader.specs.Laws.Ways.{tagAt, lengthAt, nextAt, Ways, reads}
+use Rattle.sheet_reader.specs.Laws.Growing.{Grown, edition-grown, layout-grown, view-grown, step-grown, first-edition}
 use Rattle.sheet_reader.specs.declared.Given.{Given}
 use Rattle.sheet_reader.specs.declared.ReadAnswer.{ReadAnswer}
 use Rattle.sheet_bytes.specs.Bytes.{fieldBytes, layoutBytes, viewBytes}

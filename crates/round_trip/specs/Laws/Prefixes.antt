@@ -17,8 +17,7 @@ use Rattle.fields.specs.declared.Cursor.{Cursor}
 use Rattle.fields.specs.declared.Field.the-variants.{Whole}
 use Rattle.contents.specs.Contents.{layoutAt, layoutHeadOk, viewAt, viewHeadOk, fillAt, windowAt, loadAt, storeAt, reduceAt, transposeAt, multiplyAt, stepAt}
 use Rattle.sheet_reader.specs.Reading.{givenOf, editionRefusal, layoutRefusal, viewRefusal, stepRefusal, fieldRefusal, withEdition, withField, refusedRead, Turn, over, on, turnField, turn, afterTurn, readFrom, readSheet}
-use Rattle.sheet_reader.specs.Laws.Taken.{Took, edition, took}
-use Rattle.sheet_reader.specs.Laws.Growing.{layout, view, step}
+use Rattle.sheet_reader.specs.Laws.Taken.{Took, edition, layout, view, step, took}
 use Rattle.sheet_reader.specs.Laws.Turns.{with-edition, with-layout, with-view, with-step}
 use Rattle.sheet_reader.specs.Laws.Ways.{tagAt, lengthAt, nextAt, Goes, Ways, turn-goes}
 use Rattle.sheet_reader.specs.declared.Given.{Given}

@@ -28,8 +28,7 @@ use Rattle.sheet.specs.declared.Tensors.{Tensors}
 use Rattle.sheet.specs.declared.Sheet.{Sheet}
 use Rattle.contents.specs.Contents.{layoutAt, viewAt, stepAt}
 use Rattle.sheet_reader.specs.Reading.{givenOf, layoutMayCome, viewMayCome, stepMayCome, withEdition, moreLayout, moreView, withTensors, withStep, withField, refusedRead, acceptedRead, endRead, readSheet}
-use Rattle.sheet_reader.specs.Laws.Taken.{EditionTaken, LayoutTaken, ViewTaken, StepTaken, Took, edition, layout-place, view-place, step-place}
-use Rattle.sheet_reader.specs.Laws.Growing.{layout, view, step}
+use Rattle.sheet_reader.specs.Laws.Taken.{EditionTaken, LayoutTaken, ViewTaken, StepTaken, Took, edition, layout, view, step, layout-place, view-place, step-place}
 use Rattle.sheet_reader.specs.Laws.Turns.{with-edition, with-layout, with-view, with-step}
 use Rattle.sheet_reader.specs.Laws.Ways.{lengthAt, nextAt, Ways, reads}
 use Rattle.sheet_reader.specs.declared.Given.{Given}
