@@ -15,6 +15,8 @@ QUALIFIER = re.compile(r"(?<![\w.·'«-])(?:[A-Za-z][\w·'+-]*\.)+(?=[^\W\d]|_|\
 # What every place's record takes: the callees' contracts, the function's own, and its loops'.
 PARAMETERS = re.compile(r'\s+\((?:Asked,\s+Learnt,?\s*)+\)|\s+Pre\s+Post\b|\s+Inv-\S+\s+μ-[^\s)]+')
 ERROR = re.compile(r'(?P<file>\S+?):(?P<line>\d+):\d+: error(?:\[[\w-]+\])?: (?P<text>.*)', re.S)
+# Before some causes antt says what to do.
+ADVICE = re.compile(r'give a proof of that as the last argument.*? to the list ')
 LONGEST_CODE = 90
 LONGEST_CAUSE = 300
 
@@ -104,6 +106,7 @@ def brief(text):
 
 def cause(text):
     """One line of an error: what it says first, or the two types that differ, and where omega's goal fails."""
+    text = ADVICE.sub('', text)
     name = re.match(r'`[^`]+`: ', text)
     differ = re.search(r'expected type .*', text)
     fails = re.search(r'the goal fails, at .*?(?=\. It read|$)', text)
