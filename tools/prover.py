@@ -48,12 +48,15 @@ def parser(description, epilog):
                                    formatter_class=argparse.RawDescriptionHelpFormatter)
 
 
-def crate_folder(name):
-    """The folder of a crate that crates.txt lists."""
+def crates():
+    """The crates that crates.txt lists."""
     lines = [line.split('#')[0] for line in (ROOT / 'crates.txt').read_text().splitlines()]
-    names = [line.split(':')[0].strip() for line in lines if ':' in line]
-    if name not in names:
-        die(f'crates.txt lists no crate {name}; it lists {", ".join(names)}')
+    return [line.split(':')[0].strip() for line in lines if ':' in line]
+
+
+def crate_folder(name):
+    if name not in crates():
+        die(f'crates.txt lists no crate {name}; it lists {", ".join(crates())}')
     return ROOT / 'crates' / name
 
 
