@@ -31,8 +31,8 @@ perform-requires c κs = let j = c .before .before .before .before .before .befo
     let r = sheet-readable (now (a .sheet)) (length (now (a .memory))) (ap (λ (x : CheckAnswer). x .refusal .number) (sym (j .ensures .0)) ∙ z) in
     rw (j .ensures .1 z) (r .within, r .few, r .clear)
 
-refusal-at-requires : tie.Need-refusal-at-requires
-refusal-at-requires c κs = search needs
+not-refused-requires : tie.Need-not-refused-requires
+not-refused-requires c κs = search needs
 
 same-length : tie.Need-same-length
 same-length c = search needs
@@ -46,7 +46,7 @@ returns-2 c = let j = c .before .before .before .before .before .before .before 
     let n = ap (λ (x : CheckAnswer). x .refusal .number) (sym (j .ensures .0)) ∙ z in
     let g = c .before .before .before .before .perform in
     let p = g .ensures ∙ ap (λ (x : Sheet). performed x (started m)) (j .ensures .1 z) in
-    (ap (λ (r : Refusal). carryAnswer r (g .result .registers) (g .result .count)) (c .refusal-at .ensures) ∙ carried-accepted s m n p, memory-accepted s m n p)
+    (ap (λ (r : Refusal). carryAnswer r (g .result .registers) (g .result .count)) (c .not-refused .ensures) ∙ carried-accepted s m n p, memory-accepted s m n p)
 
 pub carry-out-spec : {M : Type 1} → statement M
 carry-out-spec =
@@ -56,6 +56,6 @@ carry-out-spec =
     carry-refused-requires
     returns
     perform-requires
-    refusal-at-requires
+    not-refused-requires
     same-length
     returns-2)

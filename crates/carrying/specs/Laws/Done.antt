@@ -28,26 +28,26 @@ module _ (tensors : Tensors) (register : ℕ) (window : Window) (m : Machine) (t
   its load = accessOf tensors load window (theType (m .registers .types) register) (length (m .memory))
 
   -- the plan's access is the step's
-  the-access : (load : Bool) (a : Access) (p : Plan) → a ≡ accessOf tensors load window t (length (m .memory)) → p ≡ planned a → p .access ≡ its load
-  the-access load a p e q = planned-access a q ∙ e ∙ ap (λ (u : MatrixType). accessOf tensors load window u (length (m .memory))) tt
+  the-access : (load : Bool) (p : Plan) → p ≡ planned (accessOf tensors load window t (length (m .memory))) → p .access ≡ its load
+  the-access load p q = planned-access _ q ∙ ap (λ (u : MatrixType). accessOf tensors load window u (length (m .memory))) tt
 
-  pub load-performed : (a : Access) (p : Plan) {es : List ℕ} {n : ℕ} → a ≡ accessOf tensors true window t (length (m .memory)) → p ≡ planned a
+  pub load-performed : (p : Plan) {es : List ℕ} {n : ℕ} → p ≡ planned (accessOf tensors true window t (length (m .memory)))
       → es ≡ loadedElements (p .access) register (stateOf m) .elements → n ≡ loadedElements (p .access) register (stateOf m) .count
       → machine (record { types = m .registers .types; elements = es }) (m .memory) n ≡ loadDone tensors register window m
   unfolding loadDone
-  load-performed a p e q x y =
-      let r = the-access true a p e q in
+  load-performed p q x y =
+      let r = the-access true p q in
       let s : State = loadedElements (its true) register (stateOf m) in
       made (m .registers .types) s (rw r at x)
       (sym (transferred-keeps (λ (u : State). u .memory) _ (λ k o u. loaded-memory _ register k o u) _ _ (stateOf m)))
       (rw r at y)
 
-  pub store-performed : (a : Access) (p : Plan) {memory : List ℕ} {n : ℕ} → a ≡ accessOf tensors false window t (length (m .memory)) → p ≡ planned a
+  pub store-performed : (p : Plan) {memory : List ℕ} {n : ℕ} → p ≡ planned (accessOf tensors false window t (length (m .memory)))
       → memory ≡ storedElements (p .access) register (stateOf m) .memory → n ≡ storedElements (p .access) register (stateOf m) .count
       → machine (m .registers) memory n ≡ storeDone tensors register window m
   unfolding storeDone
-  store-performed a p e q x y =
-      let r = the-access false a p e q in
+  store-performed p q x y =
+      let r = the-access false p q in
       let s : State = storedElements (its false) register (stateOf m) in
       made (m .registers .types) s
       (sym (transferred-keeps (λ (u : State). u .elements) _ (λ k o u. stored-elements _ register k o u) _ _ (stateOf m)))
