@@ -1,16 +1,17 @@
--- Elements that fit, where a register is written whole.
-use mathlib.Core.Path.{_≡_, _∙_}
+-- Elements fit at the start, and where a register is written whole, copied, or given one element.
+use mathlib.Core.Path.{_≡_, refl, _∙_}
 use mathlib.Core.List.{List}
-use Prim.Native.Nat.{ℕ, _*_, _/_, _%_, _^_, _<_}
+use Prim.Native.Nat.{ℕ, _*_, _/_, _%_, _^_, _<_, _≤_}
+use native.Mathlib.Nat.{not-suc-le-zero}
 use native.Mathlib.Omega.{arith}
-use lib.ListN.{length, getD}
+use lib.ListN.{length, getD, replicate}
 use lib.Seq.{getD-set-same, getD-set-other}
 use Rattle.numbers.specs.Lists.{line}
-use Rattle.numbers.specs.Places.{by-place}
+use Rattle.numbers.specs.Places.{by-place, none-all}
 use Rattle.kinds.specs.Widths.{width}
 use Rattle.sheet.specs.Sizes.{registerCount, matrixPlaces, elementPlaces}
 use Rattle.registers.specs.Types.{noType, theType, withType}
-use Rattle.registers.specs.Registers.{placeOf, elementOf, withBlock}
+use Rattle.registers.specs.Registers.{placeOf, elementOf, withElementOf, withBlock, copiedElements, emptyRegisters}
 use Rattle.registers.specs.Grids.{numbered, block}
 use Rattle.registers.specs.Sized.{SizedType, Sized}
 use Rattle.registers.specs.Fits.{FitMatrix, Fit}
@@ -58,3 +59,52 @@ module _ (ts : List MatrixType) (es : List ℕ) (r : ℕ) (t : MatrixType) where
   pub fit-made : (f : ℕ → ℕ → ℕ) → length ts ≡ registerCount → length es ≡ elementPlaces → r < registerCount → Sized ts → SizedType t → Fit ts es
       → ((i j : ℕ) → i < t .rows → j < t .columns → f i j < 2 ^ width (t .kind)) → Fit (withType ts r t) (withBlock es r (block (t .rows) (t .columns) f))
   fit-made f p q l z s w h = fit-written (λ (e : ℕ). getD (block (t .rows) (t .columns) f) e 0) p q l z s w (fit-block t f s h)
+
+-- an element of a register's matrix put
+module _ (ts : List MatrixType) (es : List ℕ) (r e x : ℕ) (z : Sized ts) (at : placeOf r e < length es) (l : e < theType ts r .rows * theType ts r .columns) (h : x < 2 ^ width (theType ts r .kind)) (w : Fit ts es) where
+  few : e < matrixPlaces
+  few = omega (arith, sized-places (theType ts r) (z .each r))
+
+  put-inside : (k : ℕ) → k < registerCount → (i : ℕ) → i < theType ts k .rows * theType ts k .columns
+      → elementOf (withElementOf es r e x) k i < 2 ^ width (theType ts k .kind)
+  put-inside k m i n =
+      let j : i < matrixPlaces = omega (arith, sized-places (theType ts k) (z .each k)) in
+      by-place (placeOf k i) (placeOf r e)
+      (λ d. let c : k ≡ r = omega (arith, few) in rw (d, getD-set-same es (placeOf r e) x 0 at, c) h)
+      (λ d. rw (getD-set-other es (placeOf r e) (placeOf k i) x 0 d) (w .each k m .inside i n))
+
+  put-past : (k : ℕ) → k < registerCount → (i : ℕ) → theType ts k .rows * theType ts k .columns ≤ i → i < matrixPlaces
+      → elementOf (withElementOf es r e x) k i ≡ 0
+  put-past k m i n o =
+      by-place (placeOf k i) (placeOf r e)
+      (λ d.
+      let c : k ≡ r = omega (arith, few) in
+      let f : i ≡ e = omega (arith, few) in
+      let u : theType ts r .rows * theType ts r .columns ≤ i = rw c at n in
+      absurd (omega arith))
+      (λ d. getD-set-other es (placeOf r e) (placeOf k i) x 0 d ∙ w .each k m .past i n o)
+
+  pub fit-put : Fit ts (withElementOf es r e x)
+  fit-put = record { each = λ k m. record { inside = put-inside k m; past = put-past k m } }
+
+-- a register made equal to another
+pub fit-copied : (ts : List MatrixType) (es : List ℕ) (r s : ℕ) → length ts ≡ registerCount → length es ≡ elementPlaces → r < registerCount → s < registerCount
+    → Sized ts → Fit ts es → Fit (withType ts r (theType ts s)) (copiedElements es r s)
+fit-copied ts es r s p q l m z w = fit-written ts es r (theType ts s) (elementOf es s) p q l z (z .each s) w (w .each s m)
+
+-- the places of empty registers are 0
+pub fit-empty : Fit (emptyRegisters .types) (emptyRegisters .elements)
+unfolding emptyRegisters
+fit-empty =
+    record {
+      each =
+          λ r l.
+          none-all (λ (t : MatrixType). FitMatrix t (elementOf (replicate elementPlaces 0) r)) registerCount noType noType (none r) (none r) r;
+    }
+  where
+    none : (r : ℕ) → FitMatrix noType (elementOf (replicate elementPlaces 0) r)
+    none r =
+        record {
+          inside = λ e l. absurd (not-suc-le-zero l);
+          past = λ e l m. none-all (λ (x : ℕ). x ≡ 0) elementPlaces 0 0 refl refl (placeOf r e);
+        }

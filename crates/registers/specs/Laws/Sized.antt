@@ -4,7 +4,7 @@ use mathlib.Core.List.{List, [], _∷_}
 use Prim.Native.Nat.{ℕ, zero, suc, _*_, _≤_}
 use native.Mathlib.Nat.{mul-le-mul}
 use native.Mathlib.Omega.{arith}
-use lib.ListN.{replicate}
+use Rattle.numbers.specs.Places.{none-all}
 use Rattle.sheet.specs.Sizes.{registerCount, sidePlaces, matrixPlaces}
 use Rattle.registers.specs.Types.{noType, theType, withType}
 use Rattle.registers.specs.Registers.{emptyRegisters}
@@ -18,7 +18,7 @@ sides a b p q = mul-le-mul {n₂ = sidePlaces} {m₂ = sidePlaces} p q
 pub sized-places : (t : MatrixType) → SizedType t → t .rows * t .columns ≤ matrixPlaces
 sized-places t s = sides (t .rows) (t .columns) (s .rows) (s .columns)
 
-pub sized-none : SizedType noType
+sized-none : SizedType noType
 sized-none = record { kind = refl; rows = omega arith; columns = omega arith; some = λ h. h; none = λ e. refl }
 
 at-set : (P : MatrixType → Type 0) (ts : List MatrixType) (r : ℕ) (t : MatrixType) (k : ℕ) → P (theType ts k) → P t → P (theType (withType ts r t) k)
@@ -31,11 +31,6 @@ at-set P (x ∷ ts) (suc r) t (suc k) p q = at-set P ts r t k p q
 pub sized-with : (ts : List MatrixType) (r : ℕ) (t : MatrixType) → Sized ts → SizedType t → Sized (withType ts r t)
 sized-with ts r t s p = record { each = λ k. at-set SizedType ts r t k (s .each k) p }
 
-none-at : (n k : ℕ) → SizedType (theType (replicate n noType) k)
-none-at zero k = sized-none
-none-at (suc n) zero = sized-none
-none-at (suc n) (suc k) = none-at n k
-
 pub sized-empty : Sized (emptyRegisters .types)
 unfolding emptyRegisters
-sized-empty = record { each = λ k. none-at registerCount k }
+sized-empty = record { each = λ k. none-all SizedType registerCount noType noType sized-none sized-none k }
