@@ -92,7 +92,7 @@ fn check_whole(
 }
 
 // The register that a load's object is in.
-fn object_register(register: u8, object: Object) -> u8
+pub fn object_register(register: u8, object: Object) -> u8
     ensures { λ r. ⌜ r ≡ objectRegister register object ⌝ }
 {
     match object {

@@ -3,8 +3,7 @@ ghost use mathlib.Core.Path.{_≡_};
 ghost use mathlib.Core.Bool.{true};
 ghost use Prim.Native.Nat.{ℕ, _+_, _*_, _<_, _≤_, _^_};
 ghost use lib.ListN.{length};
-ghost use Rattle.sheet.specs.Sizes.{recordPlaces};
-ghost use Rattle.registers.specs.Registers.{room};
+ghost use Rattle.sheet.specs.Sizes.{matrixPlaces, recordPlaces};
 ghost use Rattle.registers.specs.Sized.{Sized, SizedType};
 ghost use Rattle.sheet.specs.Laws.Within.{Within};
 ghost use Rattle.records.specs.Ranges.{Bytes, Sound};
@@ -31,7 +30,7 @@ fn elements_ok(t: MatrixType, first: usize, count: usize) -> bool
 }
 
 fn byte_inside(size: usize, len: usize, byte: usize, up: usize, down: usize, i: usize) -> bool
-    requires { ⌜ (size ≤ 4) × (i < room) × Bytes byte up down ⌝ }
+    requires { ⌜ (size ≤ 4) × (i < matrixPlaces) × Bytes byte up down ⌝ }
     ensures { λ r. ⌜ r ≡ byteInside size len byte up down i ⌝ }
 {
     let above = byte + i * up;
@@ -43,7 +42,7 @@ fn byte_inside(size: usize, len: usize, byte: usize, up: usize, down: usize, i: 
 }
 
 fn bytes_inside(size: usize, len: usize, count: usize, byte: usize, up: usize, down: usize) -> bool
-    requires { ⌜ (size ≤ 4) × (count ≤ room) × Bytes byte up down ⌝ }
+    requires { ⌜ (size ≤ 4) × (count ≤ matrixPlaces) × Bytes byte up down ⌝ }
     ensures { λ r. ⌜ r ≡ bytesInside size len count byte up down ⌝ }
 {
     let mut i = 0;
@@ -108,7 +107,7 @@ fn whole_clear(edition: u8, types: [MatrixType; REGISTERS], len: usize, step: St
             window: _,
         } => false,
         Step::Whole(whole) => {
-            let stop = whole_steps::refusals::whole_refusal(edition, types, len, whole);
+            let stop = whole_steps::stops::whole_refusal(edition, types, len, whole);
             stop.number == 0
         }
     }

@@ -6,7 +6,10 @@ enum-known-d : tie.Need-enum-known-d
 enum-known-d c = search needs
 
 record-types-requires : tie.Need-record-types-requires
-record-types-requires c κs = let s = c .before .before .before in let e = c .before .d .given .1 in (s .pre .0, rw e at (s .pre .1), rw e at (s .pre .2))
+record-types-requires c κs =
+    let q = c .before .before .before .pre in
+    let e = c .before .d .given .1 in
+    (rw e at (q .0), (q .1 .0, q .1 .1, q .1 .2, q .1 .3, rw e at (q .1 .4)))
 
 enum-told : tie.Need-enum-told
 enum-told c = search needs

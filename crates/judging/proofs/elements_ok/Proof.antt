@@ -1,4 +1,4 @@
-use Rattle.registers.specs.Sized.{sized-room}
+use Rattle.registers.specs.Laws.Sized.{sized-places}
 use native.Mathlib.Omega.{arith}
 use borrow.Author.Needs.{needs}
 use Rattle.judging.proofs.elements_ok.Statement.{statement}
@@ -14,7 +14,7 @@ cast-result-2 : tie.Need-cast-result-2
 cast-result-2 c = search needs
 
 mul-result : tie.Need-mul-result
-mul-result c = omega (arith, sized-room _ (c .before .before .pre .0))
+mul-result c = omega (arith, sized-places _ (c .before .before .pre .0))
 
 returns : tie.Need-returns
 returns c = search needs

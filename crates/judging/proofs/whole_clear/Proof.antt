@@ -1,3 +1,4 @@
+use mathlib.Core.Path.{refl}
 use Rattle.whole_steps.specs.Laws.Within.{whole-ok}
 use borrow.Author.Needs.{needs}
 use Rattle.judging.proofs.whole_clear.Statement.{statement}
@@ -16,7 +17,9 @@ enum-known-step : tie.Need-enum-known-step
 enum-known-step c = search needs
 
 whole-refusal-requires : tie.Need-whole-refusal-requires
-whole-refusal-requires c κs = whole-ok _ _ (rw (c .before .step .given .1) at (c .before .before .before .pre .2))
+whole-refusal-requires c κs =
+    let e = c .before .step .given .1 in
+    whole-ok _ _ (rw e at (c .before .before .before .pre .ok (rw e refl)))
 
 returns : tie.Need-returns
 returns c = search needs

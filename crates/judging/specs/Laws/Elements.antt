@@ -8,8 +8,9 @@ use borrow.Author.Tests.{leb-true}
 use Rattle.numbers.specs.Choice.{both-left, both-right}
 use Rattle.numbers.specs.All.{all-at}
 use Rattle.kinds.specs.Widths.{bytesOf}
-use Rattle.registers.specs.Registers.{room}
-use Rattle.registers.specs.Sized.{SizedType, sized-room}
+use Rattle.sheet.specs.Sizes.{matrixPlaces}
+use Rattle.registers.specs.Sized.{SizedType}
+use Rattle.registers.specs.Laws.Sized.{sized-places}
 use Rattle.registers.specs.declared.MatrixType.{MatrixType}
 use Rattle.judging.specs.Laws.Bytes.{byte-natural, inside-natural}
 use Rattle.judging.specs.Records.{elementsOk, byteAt, byteInside, bytesInside, bytesRecordOk, fillRecordOk}
@@ -34,8 +35,8 @@ inside-lies size len count byte up down e i h =
     record { above = leb-true _ _ (both-left _ _ f); below = rw (byte-natural byte up down i) (leb-true _ _ (both-right _ _ f)) }
 
 -- elements of a matrix are elements of a register
-pub elements-fit : (t : MatrixType) (first count : ℕ) → SizedType t → elementsOk t first count ≡ true → first + count ≤ room
-elements-fit t first count s e = omega (arith, sized-room t s, leb-true (first + count) (t .rows * t .columns) e)
+pub elements-fit : (t : MatrixType) (first count : ℕ) → SizedType t → elementsOk t first count ≡ true → first + count ≤ matrixPlaces
+elements-fit t first count s e = omega (arith, sized-places t s, leb-true (first + count) (t .rows * t .columns) e)
 
 -- a take or a put, and a fill, that is in range, by its parts
 module _ (t : MatrixType) (first count : ℕ) where
@@ -52,5 +53,5 @@ module _ (t : MatrixType) (first count : ℕ) where
   fill-elements value e = both-left _ _ (both-right _ _ e)
 
 -- the way of an element from a record's byte
-pub stride-small : (i step : ℕ) → i < room → step ≤ 65535 → i * step ≤ room * 65536
-stride-small i step h l = let k : i ≤ room = omega arith in mul-le-mul {n₂ = room} {m₂ = 65536} k (omega arith)
+pub stride-small : (i step : ℕ) → i < matrixPlaces → step ≤ 65535 → i * step ≤ matrixPlaces * 65536
+stride-small i step h l = let k : i ≤ matrixPlaces = omega arith in mul-le-mul {n₂ = matrixPlaces} {m₂ = 65536} k (omega arith)

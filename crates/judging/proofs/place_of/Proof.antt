@@ -1,0 +1,15 @@
+use Rattle.numbers.specs.Choice.{ways}
+use Rattle.judging.specs.Records.{placeOf}
+use Rattle.judging.proofs.place_of.Statement.{statement}
+use Rattle.judging.proofs.place_of.Tie as tie
+
+returns : tie.Need-returns
+unfolding placeOf
+returns c = search ways
+
+returns-2 : tie.Need-returns-2
+unfolding placeOf
+returns-2 c = search ways
+
+pub place-of-spec : {M : Type 1} → statement M
+place-of-spec = tie.close (tie.spec returns returns-2)
