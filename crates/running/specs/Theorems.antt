@@ -22,7 +22,7 @@ use Rattle.records.specs.declared.Decoded.the-variants.{Good, Bad}
 use Rattle.judging.specs.Records.{byteAt}
 use Rattle.judging.specs.Judging.{decodedOk, decodedTypes, rangeFrom, rangeRefusal}
 use Rattle.judging.specs.Laws.Records.{whole-named}
-use Rattle.running.specs.Records.{inOrder, ranRecord}
+use Rattle.running.specs.Records.{inOrder, ranRecordWith, ranRecord}
 use Rattle.running.specs.Running.{ranDecoded, ranFrom, ran}
 use Rattle.running.specs.Laws.Records.{decoded-types}
 use Rattle.running.specs.Outside.{OutsideRecord, OutsideFrom}
@@ -39,7 +39,7 @@ module _ (sh : Sheet) (len p : ℕ) where
   Kept before after = getD (after .memory) p 0 ≡ getD (before .memory) p 0
 
   record-kept : (d : Decoded) (m : Machine) → decodedOk sh (m .registers .types) len d ≡ true → OutsideRecord (m .registers .types) p d → Kept m (ranDecoded sh d m)
-  unfolding ranRecord performedStep
+  unfolding ranRecordWith performedStep
   record-kept (Good (Copy register object)) m e o = refl
   record-kept (Good (Take register first count byte up down)) m e o =
       in-order-keeps (λ (s : State). getD (s .memory) p 0 ≡ getD (m .memory) p 0) _ count (λ i l s q. q) (stateOf m) refl

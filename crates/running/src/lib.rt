@@ -5,86 +5,70 @@ ghost use mathlib.Core.Path.{_≡_};
 ghost use mathlib.Core.Bool.{true};
 ghost use Prim.Native.Nat.{ℕ, _+_, _*_, _<_, _≤_, _^_};
 ghost use lib.ListN.{length};
-ghost use Rattle.sheet.specs.Steps.{theStep, stepOk};
-ghost use Rattle.sheet.specs.declared.Sheet.{Sheet};
-ghost use Rattle.registers.specs.Sized.{Sized};
+ghost use Rattle.sheet.specs.Sizes.{recordPlaces};
 ghost use Rattle.sheet.specs.Laws.Within.{Within};
+ghost use Rattle.sheet.specs.declared.Tensors.{Tensors};
+ghost use Rattle.registers.specs.Sized.{Sized};
 ghost use Rattle.transfers.specs.Acts.{state};
 ghost use Rattle.carrying.specs.Steps.{machine, machineOf, performedStep};
 ghost use Rattle.carrying.specs.Carrying.{started};
 ghost use Rattle.records.specs.Ranges.{Sound};
 ghost use Rattle.records.specs.declared.Decoded.the-variants.{Good};
-ghost use Rattle.judging.specs.Records.{wholeClear, wholeRecordOk, recordOk};
-ghost use Rattle.running.specs.Records.{ranRecord};
-ghost use Rattle.judging.specs.Judging.{tapeRecord, decodedOk, rangeRefusal};
-ghost use Rattle.running.specs.Running.{ranDecoded, ran, runTape, ranMemory};
+ghost use Rattle.judging.specs.Records.{wholeClear, recordOkWith};
+ghost use Rattle.judging.specs.Judging.{tapeRecord, decodedOkWith, rangeRefusal};
+ghost use Rattle.judging.specs.Laws.Named.{Placed};
+ghost use Rattle.running.specs.Records.{ranRecordWith};
+ghost use Rattle.running.specs.Running.{ranDecodedWith, ran, runTape, ranMemory};
 use carrying::CarryAnswer;
 use carrying::Performed;
 use carrying::Stepped;
-use checking::checks;
 use records::Decoded;
 use records::Record;
+use refusals::MEMORY_TOO_LARGE;
 use registers::MatrixType;
 use registers::Registers;
 use sheet::Sheet;
 use sheet::Step;
+use sheet::sizes::ELEMENTS;
+use sheet::sizes::REGISTERS;
 
 // A whole step. The answer is the types.
 fn perform_named(
-    types: [MatrixType; 4],
-    elements: &mut [u32; 1024],
+    types: [MatrixType; REGISTERS],
+    elements: &mut [u32; ELEMENTS],
     memory: &[u8],
     step: Step,
-) -> [MatrixType; 4]
-    requires { ⌜ Sized types × ((edition layouts views : ℕ) × (stepOk edition layouts views step ≡ true) × (wholeClear edition types (length (now memory)) step ≡ true)) ⌝ }
-    ensures { λ r. ⌜ ((sheet : Sheet) (n : ℕ) → machineOf r (state (now (elements .exit)) (now (memory .entry)) n) ≡ performedStep sheet step (machineOf types (state (now (elements .entry)) (now (memory .entry)) n))) ⌝ }
+) -> [MatrixType; REGISTERS]
+    requires { ⌜ Sized types × ((edition : ℕ) × Placed edition step × (wholeClear edition types (length (now memory)) step ≡ true)) ⌝ }
+    ensures { λ r. ⌜ ((tensors : Tensors) (n : ℕ) → machineOf r (state (now (elements .exit)) (now (memory .entry)) n) ≡ performedStep tensors step (machineOf types (state (now (elements .entry)) (now (memory .entry)) n))) ⌝ }
 {
     match step {
         Step::Nothing => types,
         Step::Load {
             register: _,
             object: _,
-            layout: _,
-            view: _,
-            base: _,
+            window: _,
         } => types,
         Step::Store {
             register: _,
-            layout: _,
-            view: _,
-            base: _,
+            window: _,
         } => types,
         Step::Whole(whole) => whole_steps::perform_whole(types, elements, memory, whole),
     }
 }
 
-// Op 4.
-fn run_whole(
-    sheet: Sheet,
-    types: [MatrixType; 4],
-    elements: &mut [u32; 1024],
-    memory: &[u8],
-    step: usize,
-) -> [MatrixType; 4]
-    requires { ⌜ Within sheet × Sized types × (wholeRecordOk sheet types (length (now memory)) step ≡ true) ⌝ }
-    ensures { λ r. ⌜ ((n : ℕ) → machineOf r (state (now (elements .exit)) (now (memory .entry)) n) ≡ performedStep sheet (theStep (sheet .step) step) (machineOf types (state (now (elements .entry)) (now (memory .entry)) n))) ⌝ }
-{
-    let c = sheet.step[step];
-    let s = c.step;
-    perform_named(types, elements, memory, s)
-}
-
+// The sheet is not passed for each record: the step that the record names stands for it.
 fn run_record(
-    sheet: Sheet,
-    types: [MatrixType; 4],
-    elements: &mut [u32; 1024],
+    types: [MatrixType; REGISTERS],
+    elements: &mut [u32; ELEMENTS],
     memory: &mut [u8],
+    named: Step,
     r: Record,
     counted: usize,
 ) -> Stepped
-    requires { ⌜ Within sheet × Sized types × Sound (Good r) × (counted < 2 ^ 31) ⌝ }
-    requires { ⌜ recordOk sheet types (length (now memory)) r ≡ true ⌝ }
-    ensures { λ p. ⌜ machineOf (p .types) (state (now (elements .exit)) (now (memory .exit)) (p .count)) ≡ ranRecord sheet r (machineOf types (state (now (elements .entry)) (now (memory .entry)) counted)) ⌝ }
+    requires { ⌜ Sized types × Sound (Good r) × (counted < 2 ^ 31) ⌝ }
+    requires { ⌜ ((edition steps : ℕ) × Placed edition named × (recordOkWith edition steps types (length (now memory)) named r ≡ true)) ⌝ }
+    ensures { λ p. ⌜ ((tensors : Tensors) → machineOf (p .types) (state (now (elements .exit)) (now (memory .exit)) (p .count)) ≡ ranRecordWith tensors named r (machineOf types (state (now (elements .entry)) (now (memory .entry)) counted))) ⌝ }
 {
     match r {
         Record::Copy { register, object } => {
@@ -155,8 +139,8 @@ fn run_record(
                 count: counted,
             }
         }
-        Record::Whole { step } => {
-            let after = run_whole(sheet, types, elements, memory, step);
+        Record::Whole { step: _ } => {
+            let after = perform_named(types, elements, memory, named);
             Stepped {
                 types: after,
                 count: counted,
@@ -166,19 +150,19 @@ fn run_record(
 }
 
 fn run_decoded(
-    sheet: Sheet,
-    types: [MatrixType; 4],
-    elements: &mut [u32; 1024],
+    types: [MatrixType; REGISTERS],
+    elements: &mut [u32; ELEMENTS],
     memory: &mut [u8],
+    named: Step,
     d: Decoded,
     counted: usize,
 ) -> Stepped
-    requires { ⌜ Within sheet × Sized types × Sound d × (counted < 2 ^ 31) ⌝ }
-    requires { ⌜ decodedOk sheet types (length (now memory)) d ≡ true ⌝ }
-    ensures { λ p. ⌜ machineOf (p .types) (state (now (elements .exit)) (now (memory .exit)) (p .count)) ≡ ranDecoded sheet d (machineOf types (state (now (elements .entry)) (now (memory .entry)) counted)) ⌝ }
+    requires { ⌜ Sized types × Sound d × (counted < 2 ^ 31) ⌝ }
+    requires { ⌜ ((edition steps : ℕ) × Placed edition named × (decodedOkWith edition steps types (length (now memory)) named d ≡ true)) ⌝ }
+    ensures { λ p. ⌜ ((tensors : Tensors) → machineOf (p .types) (state (now (elements .exit)) (now (memory .exit)) (p .count)) ≡ ranDecodedWith tensors named d (machineOf types (state (now (elements .entry)) (now (memory .entry)) counted))) ⌝ }
 {
     match d {
-        Decoded::Good(r) => run_record(sheet, types, elements, memory, r, counted),
+        Decoded::Good(r) => run_record(types, elements, memory, named, r, counted),
         Decoded::Bad => Stepped {
             types,
             count: counted,
@@ -188,18 +172,22 @@ fn run_decoded(
 
 // The records in order, from empty registers and the lent memory.
 fn run_records(sheet: Sheet, tape: &[i32], records: usize, memory: &mut [u8]) -> Performed
-    requires { ⌜ Within sheet × (records ≤ 1024) × (records * 6 ≤ length (now tape)) ⌝ }
+    requires { ⌜ Within sheet × (records ≤ recordPlaces) × (records * 6 ≤ length (now tape)) ⌝ }
     requires { ⌜ rangeRefusal records sheet (length (now memory)) (tapeRecord (now tape)) .number ≡ 0 ⌝ }
     ensures { λ r. ⌜ machine (r .registers) (now (memory .exit)) (r .count) ≡ ran records sheet (tapeRecord (now (tape .entry))) (started (now (memory .entry))) ⌝ }
 {
-    let none = registers::no_type();
-    let mut types = [none; 4];
-    let mut elements = [0u32; 1024];
+    let empty = registers::empty_registers();
+    let steps = sheet.steps;
+    let mut types = empty.types;
+    let mut elements = empty.elements;
     let mut count: usize = 0;
     let mut k: usize = 0;
     while k < records {
         let d = records::read_record(tape, k * records::NUMBERS);
-        let done = run_decoded(sheet, types, &mut elements, memory, d, count);
+        let at = judging::place_named(steps, d);
+        let c = sheet.step[at];
+        let named = c.step;
+        let done = run_decoded(types, &mut elements, memory, named, d, count);
         let after = done.types;
         types = after;
         count = done.count;
@@ -217,7 +205,7 @@ pub fn run_tape(sheet: &[u8], tape: &[i32], records: usize, memory: &mut [u8]) -
     ensures { λ _. ⌜ now (memory .exit) ≡ ranMemory (now (sheet .entry)) (now (tape .entry)) records (now (memory .entry)) ⌝ }
 {
     if checking::MEMORY_LIMIT < memory.len() {
-        return carrying::carry_refused(checks::refusal_at(checking::MEMORY_TOO_LARGE, 0, 0));
+        return carrying::carry_refused(refusals::refusal_at(MEMORY_TOO_LARGE, 0, 0));
     }
     let read = sheet_reader::read_sheet(sheet);
     let unread = read.refusal;
@@ -232,7 +220,7 @@ pub fn run_tape(sheet: &[u8], tape: &[i32], records: usize, memory: &mut [u8]) -
     let done = run_records(model, tape, records, memory);
     let registers = done.registers;
     CarryAnswer {
-        refusal: checks::refusal_at(0, 0, 0),
+        refusal: refusals::not_refused(),
         count: done.count,
         registers,
     }

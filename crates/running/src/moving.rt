@@ -5,7 +5,7 @@ ghost use mathlib.Core.List.{List};
 ghost use Prim.Native.Nat.{ℕ, _+_, _*_, _<_, _≤_};
 ghost use lib.ListN.{length};
 ghost use Rattle.kinds.specs.Laws.{ElementSize};
-ghost use Rattle.sheet.specs.Sizes.{matrixPlaces};
+ghost use Rattle.sheet.specs.Sizes.{registerCount, matrixPlaces};
 ghost use Rattle.registers.specs.Sized.{Sized};
 ghost use Rattle.registers.specs.Types.{theType};
 ghost use Rattle.transfers.specs.Acts.{state};
@@ -15,16 +15,18 @@ ghost use Rattle.judging.specs.Records.{byteAt, bytesInside, bytesRecordOk, fil
 ghost use Rattle.running.specs.Records.{inOrder, onElements};
 ghost use Rattle.running.specs.Elements.{taking, putting, filling};
 use registers::MatrixType;
+use sheet::sizes::ELEMENTS;
+use sheet::sizes::REGISTERS;
 
 fn byte_at(byte: usize, up: usize, down: usize, i: usize) -> usize
-    requires { ⌜ Bytes byte up down × (i < 256) × (i * down ≤ byte + i * up) ⌝ }
+    requires { ⌜ Bytes byte up down × (i < matrixPlaces) × (i * down ≤ byte + i * up) ⌝ }
     ensures { λ r. ⌜ r ≡ byteAt byte up down i ⌝ }
 {
     byte + i * up - i * down
 }
 
 fn take_elements(
-    elements: &mut [u32; 1024],
+    elements: &mut [u32; ELEMENTS],
     memory: &[u8],
     size: usize,
     register: u8,
@@ -34,7 +36,7 @@ fn take_elements(
     up: usize,
     down: usize,
 )
-    requires { ⌜ ElementSize size × (register < 4) × (first + count ≤ matrixPlaces) × Bytes byte up down ⌝ }
+    requires { ⌜ ElementSize size × (register < registerCount) × (first + count ≤ matrixPlaces) × Bytes byte up down ⌝ }
     requires { ⌜ bytesInside size (length (now memory)) count byte up down ≡ true ⌝ }
     ensures { λ _. ⌜ ((n : ℕ) → state (now (elements .exit)) (now (memory .entry)) (n + count) ≡ inOrder (taking size register first byte up down) count (state (now (elements .entry)) (now (memory .entry)) n)) ⌝ }
 {
@@ -48,7 +50,7 @@ fn take_elements(
 }
 
 fn put_elements(
-    elements: &[u32; 1024],
+    elements: &[u32; ELEMENTS],
     memory: &mut [u8],
     size: usize,
     register: u8,
@@ -58,7 +60,7 @@ fn put_elements(
     up: usize,
     down: usize,
 )
-    requires { ⌜ ElementSize size × (register < 4) × (first + count ≤ matrixPlaces) × Bytes byte up down ⌝ }
+    requires { ⌜ ElementSize size × (register < registerCount) × (first + count ≤ matrixPlaces) × Bytes byte up down ⌝ }
     requires { ⌜ bytesInside size (length (now memory)) count byte up down ≡ true ⌝ }
     ensures { λ _. ⌜ ((n : ℕ) → state (now (elements .entry)) (now (memory .exit)) (n + count) ≡ inOrder (putting size register first byte up down) count (state (now (elements .entry)) (now (memory .entry)) n)) ⌝ }
 {
@@ -71,8 +73,8 @@ fn put_elements(
     }
 }
 
-fn fill_elements(elements: &mut [u32; 1024], register: u8, first: usize, count: usize, value: u32)
-    requires { ⌜ (register < 4) × (first + count ≤ matrixPlaces) ⌝ }
+fn fill_elements(elements: &mut [u32; ELEMENTS], register: u8, first: usize, count: usize, value: u32)
+    requires { ⌜ (register < registerCount) × (first + count ≤ matrixPlaces) ⌝ }
     ensures { λ _. ⌜ ((memory : List ℕ) (n : ℕ) → state (now (elements .exit)) memory n ≡ inOrder (filling register first value) count (state (now (elements .entry)) memory n)) ⌝ }
 {
     let mut i = 0;
@@ -84,8 +86,8 @@ fn fill_elements(elements: &mut [u32; 1024], register: u8, first: usize, count: 
 
 // A take, which changes elements alone.
 pub fn take(
-    types: [MatrixType; 4],
-    elements: &mut [u32; 1024],
+    types: [MatrixType; REGISTERS],
+    elements: &mut [u32; ELEMENTS],
     memory: &[u8],
     register: u8,
     first: usize,
@@ -114,8 +116,8 @@ pub fn take(
 
 // A put, which changes memory alone.
 pub fn put(
-    types: [MatrixType; 4],
-    elements: &[u32; 1024],
+    types: [MatrixType; REGISTERS],
+    elements: &[u32; ELEMENTS],
     memory: &mut [u8],
     register: u8,
     first: usize,
@@ -144,8 +146,8 @@ pub fn put(
 
 // A fill, which changes elements alone.
 pub fn fill(
-    types: [MatrixType; 4],
-    elements: &mut [u32; 1024],
+    types: [MatrixType; REGISTERS],
+    elements: &mut [u32; ELEMENTS],
     register: u8,
     first: usize,
     count: usize,

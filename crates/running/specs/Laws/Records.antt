@@ -3,7 +3,11 @@ use Prim.Native.Nat.{ℕ, _+_, _≤_}
 use mathlib.Core.Path.{_≡_, refl, ap, _∙_}
 use mathlib.Core.Bool.{true}
 use native.Mathlib.Omega.{arith}
+use mathlib.Core.List.{List}
+use borrow.Author.Tests.{lt-ltb}
 use lib.ListN.{length, length-set}
+use Rattle.numbers.specs.Choice.{pick}
+use Rattle.registers.specs.declared.MatrixType.{MatrixType}
 use Rattle.numbers.specs.Lists.{length-line}
 use Rattle.kinds.specs.Widths.{bytesOf}
 use Rattle.sheet.specs.Steps.{theStep}
@@ -22,19 +26,19 @@ use Rattle.records.specs.declared.Record.{Record}
 use Rattle.records.specs.declared.Record.the-variants.{Copy, Take, Put, Fill, Whole}
 use Rattle.records.specs.declared.Decoded.{Decoded}
 use Rattle.records.specs.declared.Decoded.the-variants.{Good, Bad}
-use Rattle.judging.specs.Records.{recordOk, recordTypes, elementsOk}
-use Rattle.judging.specs.Judging.{decodedOk, decodedTypes}
+use Rattle.judging.specs.Records.{placeOf, recordOk, recordTypes, elementsOk}
+use Rattle.judging.specs.Judging.{placeNamed, decodedOk, decodedTypes}
 use Rattle.judging.specs.Laws.Elements.{elements-fit, bytes-elements, fill-elements}
 use Rattle.judging.specs.Laws.Records.{whole-named, record-sized, record-registers}
-use Rattle.running.specs.Records.{ranRecord}
-use Rattle.running.specs.Running.{ranDecoded}
+use Rattle.running.specs.Records.{ranRecordWith, ranRecord}
+use Rattle.running.specs.Running.{ranDecodedWith, ranDecoded}
 use Rattle.running.specs.Elements.{taking, putting, filling}
 use Rattle.running.specs.Laws.Elements.{order-keeps, order-counts}
 
 module _ (sh : Sheet) where
   pub record-types : (r : Record) (m : Machine) (len : ℕ) → recordOk sh (m .registers .types) len r ≡ true
       → ranRecord sh r m .registers .types ≡ recordTypes sh (m .registers .types) r
-  unfolding ranRecord performedStep
+  unfolding ranRecordWith performedStep
   record-types (Copy register object) m len e = refl
   record-types (Take register first count byte up down) m len e = refl
   record-types (Put register first count byte up down) m len e = refl
@@ -44,7 +48,7 @@ module _ (sh : Sheet) where
 -- a record in range on a machine
 module _ (sh : Sheet) (m : Machine) (len : ℕ) where
   record-length : (r : Record) → recordOk sh (m .registers .types) len r ≡ true → length (ranRecord sh r m .memory) ≡ length (m .memory)
-  unfolding ranRecord performedStep
+  unfolding ranRecordWith performedStep
   record-length (Copy register object) e = refl
   record-length (Take register first count byte up down) e =
       order-keeps _ (λ (s : State). length (s .memory)) (λ i s. refl) count (stateOf m)
@@ -55,7 +59,7 @@ module _ (sh : Sheet) (m : Machine) (len : ℕ) where
   record-length (Whole k) e = rw (whole-named sh (m .registers .types) len k e .is)
 
   record-places : (r : Record) → length (ranRecord sh r m .registers .elements) ≡ length (m .registers .elements)
-  unfolding ranRecord
+  unfolding ranRecordWith
   record-places (Copy register object) = length-line (m .registers .elements) (placeOf register 0) (elementOf (m .registers .elements) object) matrixPlaces
   record-places (Take register first count byte up down) =
       order-keeps _ (λ (s : State). length (s .elements)) (λ i s. length-set (s .elements) _ _) count (stateOf m)
@@ -69,7 +73,7 @@ module _ (sh : Sheet) (m : Machine) (len : ℕ) where
   few register first count s e = omega (arith, elements-fit _ first count (s .each register) e)
 
   record-count : (r : Record) → recordOk sh (m .registers .types) len r ≡ true → Sized (m .registers .types) → ranRecord sh r m .count ≤ m .count + matrixPlaces
-  unfolding ranRecord performedStep
+  unfolding ranRecordWith performedStep
   record-count (Copy register object) e s = omega arith
   record-count (Take register first count byte up down) e s =
       let f = few register first count s (bytes-elements _ first count len byte up down e) in
@@ -110,3 +114,14 @@ module _ (sh : Sheet) (m : Machine) (len : ℕ) where
   pub decoded-formed : Within sh → (d : Decoded) → decodedOk sh (m .registers .types) len d ≡ true → Formed m → Formed (ranDecoded sh d m)
   decoded-formed w (Good r) e f = record-formed w r e f
   decoded-formed w Bad e f = f
+
+-- with what stands at the place of the step that a record in range names, it does what it does with the sheet
+pub named-ran : (sh : Sheet) (ts : List MatrixType) (len : ℕ) (d : Decoded) {at : ℕ} → at ≡ placeNamed (sh .steps) d → decodedOk sh ts len d ≡ true
+    → (m : Machine) → ranDecodedWith (sh .tensors) (theStep (sh .step) at) d m ≡ ranDecoded sh d m
+unfolding ranRecordWith placeOf pick
+named-ran sh ts len (Good (Copy register object)) so e m = refl
+named-ran sh ts len (Good (Take register first count byte up down)) so e m = refl
+named-ran sh ts len (Good (Put register first count byte up down)) so e m = refl
+named-ran sh ts len (Good (Fill register first count value)) so e m = refl
+named-ran sh ts len (Good (Whole k)) so e m = rw (so, lt-ltb k (sh .steps) (whole-named sh ts len k e .given))
+named-ran sh ts len Bad so e m = refl

@@ -2,20 +2,16 @@
 use Prim.Native.Nat.{ℕ, suc, _+_, _-_, _*_, _<_, _≤_}
 use mathlib.Core.Path.{_≡_, refl, _∙_}
 use mathlib.Core.Bool.{true}
-use mathlib.Core.List.{List, [], _∷_}
+use mathlib.Core.List.{List}
 use native.Mathlib.Omega.{arith}
-use lib.ListN.{length, replicate}
+use lib.ListN.{length}
 use Rattle.numbers.specs.Choice.{pick, pick-case}
-use Rattle.sheet.specs.Sizes.{matrixPlaces, elementPlaces}
+use Rattle.sheet.specs.Sizes.{matrixPlaces}
 use Rattle.sheet.specs.declared.Sheet.{Sheet}
 use Rattle.refusals.specs.declared.Refusal.{Refusal}
 use Rattle.sheet.specs.Laws.Within.{Within}
-use Rattle.registers.specs.Types.{noType}
-use Rattle.registers.specs.Registers.{emptyRegisters}
-use Rattle.registers.specs.declared.MatrixType.{MatrixType}
-use Rattle.transfers.specs.Acts.{state}
 use Rattle.checking.specs.Laws.Turns.{one-less}
-use Rattle.carrying.specs.Steps.{Machine, machineOf}
+use Rattle.carrying.specs.Steps.{Machine}
 use Rattle.carrying.specs.Carrying.{started}
 use Rattle.carrying.specs.Machines.{Formed}
 use Rattle.carrying.specs.Laws.Types.{started-formed}
@@ -23,11 +19,6 @@ use Rattle.records.specs.declared.Decoded.{Decoded}
 use Rattle.judging.specs.Judging.{decodedOk, decodedTypes, rangeFrom, rangeRefusal}
 use Rattle.running.specs.Running.{ranDecoded, ranFrom, ran}
 use Rattle.running.specs.Laws.Records.{decoded-types, decoded-length, decoded-count, decoded-formed}
-
--- the run begins with registers that have no type, and elements that are 0
-pub empty-started : (none : MatrixType) → none ≡ noType → (memory : List ℕ) → machineOf (none ∷ none ∷ none ∷ none ∷ []) (state (replicate elementPlaces 0) memory 0) ≡ started memory
-unfolding emptyRegisters
-empty-started none e memory = rw e
 
 -- a machine before record k of n more: well formed, few elements counted, the rest in range, and the rest leaves the goal
 pub record Ready (n : ℕ) (sh : Sheet) (len : ℕ) (the : ℕ → Decoded) (k : ℕ) (m goal : Machine) : Type 0 where
