@@ -73,7 +73,13 @@ fn put_elements(
     }
 }
 
-fn fill_elements(elements: &mut [u32; ELEMENTS], register: u8, first: usize, count: usize, value: u32)
+fn fill_elements(
+    elements: &mut [u32; ELEMENTS],
+    register: u8,
+    first: usize,
+    count: usize,
+    value: u32,
+)
     requires { ⌜ (register < registerCount) × (first + count ≤ matrixPlaces) ⌝ }
     ensures { λ _. ⌜ ((memory : List ℕ) (n : ℕ) → state (now (elements .exit)) memory n ≡ inOrder (filling register first value) count (state (now (elements .entry)) memory n)) ⌝ }
 {

@@ -87,8 +87,8 @@ run-records-requires c κs =
     let f = tape-fit sh t (a .records) len (omega arith) in
     ((rw e (read-within s (omega arith)), fit-few _ _ _ f, fit-room _ _ _ f), tape-clear sh t (a .records) len (omega arith))
 
-refusal-at-requires-2 : tie.Need-refusal-at-requires-2
-refusal-at-requires-2 c κs = search needs
+not-refused-requires : tie.Need-not-refused-requires
+not-refused-requires c κs = search needs
 
 same-length : tie.Need-same-length
 same-length c = search needs
@@ -108,7 +108,7 @@ returns-4 c =
     let n = ap (λ (r : Refusal). r .number) w ∙ y in
     let g = c .before .before .before .before .run-records in
     let p = g .ensures ∙ ap (λ (r : ReadAnswer). ran (a .records) (r .sheet) (tapeRecord t) (started m)) e in
-    (ap (λ (r : Refusal). carryAnswer r (g .result .registers) (g .result .count)) (c .refusal-at2 .ensures) ∙ run-accepted s t (a .records) m n p, ran-accepted s t (a .records) m n p)
+    (ap (λ (r : Refusal). carryAnswer r (g .result .registers) (g .result .count)) (c .not-refused .ensures) ∙ run-accepted s t (a .records) m n p, ran-accepted s t (a .records) m n p)
 
 pub run-tape-spec : {M : Type 1} → statement M
 run-tape-spec =
@@ -124,6 +124,6 @@ run-tape-spec =
     carry-refused-requires-3
     returns-3
     run-records-requires
-    refusal-at-requires-2
+    not-refused-requires
     same-length
     returns-4)

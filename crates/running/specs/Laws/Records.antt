@@ -26,7 +26,8 @@ use Rattle.records.specs.declared.Record.{Record}
 use Rattle.records.specs.declared.Record.the-variants.{Copy, Take, Put, Fill, Whole}
 use Rattle.records.specs.declared.Decoded.{Decoded}
 use Rattle.records.specs.declared.Decoded.the-variants.{Good, Bad}
-use Rattle.judging.specs.Records.{placeOf, recordOk, recordTypes, elementsOk}
+use Rattle.judging.specs.Records.{recordOk, recordTypes, elementsOk}
+use Rattle.judging.specs.Records as judged
 use Rattle.judging.specs.Judging.{placeNamed, decodedOk, decodedTypes}
 use Rattle.judging.specs.Laws.Elements.{elements-fit, bytes-elements, fill-elements}
 use Rattle.judging.specs.Laws.Records.{whole-named, record-sized, record-registers}
@@ -118,7 +119,7 @@ module _ (sh : Sheet) (m : Machine) (len : ℕ) where
 -- with what stands at the place of the step that a record in range names, it does what it does with the sheet
 pub named-ran : (sh : Sheet) (ts : List MatrixType) (len : ℕ) (d : Decoded) {at : ℕ} → at ≡ placeNamed (sh .steps) d → decodedOk sh ts len d ≡ true
     → (m : Machine) → ranDecodedWith (sh .tensors) (theStep (sh .step) at) d m ≡ ranDecoded sh d m
-unfolding ranRecordWith placeOf pick
+unfolding ranRecordWith judged.placeOf pick
 named-ran sh ts len (Good (Copy register object)) so e m = refl
 named-ran sh ts len (Good (Take register first count byte up down)) so e m = refl
 named-ran sh ts len (Good (Put register first count byte up down)) so e m = refl

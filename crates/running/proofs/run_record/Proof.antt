@@ -1,0 +1,120 @@
+use denote.Ref.{now}
+use Rattle.numbers.specs.Choice.{both-right}
+use Rattle.judging.specs.Records.{wholeRecordOk}
+use Rattle.running.specs.Records.{ranRecordWith}
+use native.Mathlib.Omega.{arith}
+use borrow.Author.Needs.{needs}
+use Rattle.running.proofs.run_record.Statement.{statement}
+use Rattle.running.proofs.run_record.Tie as tie
+
+enum-known-r : tie.Need-enum-known-r
+enum-known-r c = search needs
+
+the-type-requires : tie.Need-the-type-requires
+the-type-requires c κs = (rw (c .before .r .given .1) at (c .before .before .before .before .pre .0 .1)) .1
+
+copy-elements-requires : tie.Need-copy-elements-requires
+copy-elements-requires c κs = rw (c .before .before .before .r .given .1) at (c .before .before .before .before .before .before .pre .0 .1)
+
+with-type-requires : tie.Need-with-type-requires
+with-type-requires c κs = (rw (c .before .before .before .before .r .given .1) at (c .before .before .before .before .before .before .before .pre .0 .1)) .0
+
+enum-known-r-2 : tie.Need-enum-known-r-2
+enum-known-r-2 c = search needs
+
+take-requires : tie.Need-take-requires
+take-requires c κs =
+    let s = c .before .before .before .before .before .before in
+    let e = c .before .before .before .r2 .given .1 in
+    let q = rw e at (s .pre .0 .1) in
+    ((s .pre .0 .0, q .0, q .1), rw e at (s .pre .1 .3))
+
+add-t35 : tie.Need-add-t35
+add-t35 c = let q = rw (c .before .before .before .before .r2 .given .1) at (c .before .before .before .before .before .before .before .pre .0 .1) in omega (arith, c .before .before .before .before .before .before .before .pre .0 .2, q .0 .count)
+
+enum-known-r-3 : tie.Need-enum-known-r-3
+enum-known-r-3 c = search needs
+
+put-requires : tie.Need-put-requires
+put-requires c κs =
+    let s = c .before .before .before .before .before .before in
+    let e = c .before .before .before .r3 .given .1 in
+    let q = rw e at (s .pre .0 .1) in
+    ((s .pre .0 .0, q .0, q .1), rw e at (s .pre .1 .3))
+
+add-t40 : tie.Need-add-t40
+add-t40 c = let q = rw (c .before .before .before .before .before .before .r3 .given .1) at (c .before .before .before .before .before .before .before .before .before .pre .0 .1) in omega (arith, c .before .before .before .before .before .before .before .before .before .pre .0 .2, q .0 .count)
+
+enum-known-r-4 : tie.Need-enum-known-r-4
+enum-known-r-4 c = search needs
+
+fill-requires : tie.Need-fill-requires
+fill-requires c κs =
+    let s = c .before .before .before .before .before in
+    let e = c .before .before .r4 .given .1 in
+    ((s .pre .0 .0, (rw e at (s .pre .0 .1)) .0), rw e at (s .pre .1 .3))
+
+enum-told : tie.Need-enum-told
+enum-told c = search needs
+
+perform-named-requires : tie.Need-perform-named-requires
+unfolding wholeRecordOk
+perform-named-requires c κs =
+    let s = c .before .before .before .before .before in
+    (s .pre .0 .0, (s .pre .1 .0, s .pre .1 .2, both-right _ _ (rw (c .before .before .enum-told .given .1) at (s .pre .1 .3))))
+
+returns : tie.Need-returns
+unfolding ranRecordWith
+returns c = λ tensors. rw (c .before .before .before .before .before .r .given .1, c .with-type .ensures, c .before .before .before .the-type .ensures, c .before .copy-elements .ensures)
+
+same-length : tie.Need-same-length
+same-length c = search needs
+
+returns-2 : tie.Need-returns-2
+unfolding ranRecordWith
+returns-2 c = λ tensors. rw (c .before .before .before .before .r2 .given .1) (c .take .ensures (c .before .before .before .before .before .before .before .args .counted))
+
+same-length-2 : tie.Need-same-length-2
+same-length-2 c = search needs
+
+returns-3 : tie.Need-returns-3
+unfolding ranRecordWith
+returns-3 c = λ tensors. rw (c .before .before .before .before .before .before .r3 .given .1) (c .before .before .put .ensures (c .before .before .before .before .before .before .before .before .before .args .counted))
+
+returns-4 : tie.Need-returns-4
+unfolding ranRecordWith
+returns-4 c = let a = c .before .before .before .before .before .before .args in λ tensors. rw (c .before .before .before .r4 .given .1) (c .fill .ensures (now (a .memory)) (a .counted))
+
+same-length-3 : tie.Need-same-length-3
+same-length-3 c = search needs
+
+returns-5 : tie.Need-returns-5
+unfolding ranRecordWith
+returns-5 c = λ tensors. rw (c .before .before .before .enum-told .given .1) (c .perform-named .ensures tensors (c .before .before .before .before .before .before .args .counted))
+
+pub run-record-spec : {M : Type 1} → statement M
+run-record-spec =
+    tie.close
+    (tie.spec
+    enum-known-r
+    the-type-requires
+    copy-elements-requires
+    with-type-requires
+    enum-known-r-2
+    take-requires
+    add-t35
+    enum-known-r-3
+    put-requires
+    add-t40
+    enum-known-r-4
+    fill-requires
+    enum-told
+    perform-named-requires
+    returns
+    same-length
+    returns-2
+    same-length-2
+    returns-3
+    returns-4
+    same-length-3
+    returns-5)
