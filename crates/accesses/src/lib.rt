@@ -18,7 +18,11 @@ use addressing::Access;
 use addressing::Plan;
 use clashes::MARKS;
 use outcomes::Outcome;
+use refusals::BLOCKED_STORE;
+use refusals::BYTE_TWICE;
+use refusals::RANKS_DIFFER;
 use refusals::Stop;
+use refusals::UNALIGNED_BASE;
 use sheet::Layout;
 use sheet::sizes::PLACES;
 
@@ -166,7 +170,7 @@ fn check_elements(entries: &mut [u32; PLACES], marks: &mut [u32; MARKS], p: Plan
         return accept(s.placed);
     }
     let clash = clashes::first_clash(entries, count);
-    refuse(15, clash)
+    refuse(BYTE_TWICE, clash)
 }
 
 // Refusal 10.
@@ -226,13 +230,13 @@ pub fn check_access(entries: &mut [u32; PLACES], marks: &mut [u32; MARKS], a: Ac
     ensures { λ r. ⌜ r ≡ checkedAccess a ⌝ }
 {
     if a.base % 16 != 0 {
-        return refuse(9, 0);
+        return refuse(UNALIGNED_BASE, 0);
     }
     if ranks_differ(a) {
-        return refuse(10, 0);
+        return refuse(RANKS_DIFFER, 0);
     }
     if store_blocked(a) {
-        return refuse(11, 0);
+        return refuse(BLOCKED_STORE, 0);
     }
     let p = addressing::plan_of(a);
     check_elements(entries, marks, p)

@@ -11,6 +11,7 @@ use lib.IntN.{ℤ, pos, negsuc, _+ℤ_}
 use lib.ListN.{getD, set}
 use mathlib.Core.List.{List, [], _∷_}
 use borrow.Author.Tests.{lt-ltb, le-ltb, le-leb, lt-leb, ltb-false, leb-true, leb-false, eqb-false}
+use Rattle.refusals.specs.Refusals.{indexTooLarge}
 use Rattle.numbers.specs.Choice.{pick, pick-case}
 use Rattle.sheet.specs.Laws.Facts.{InSize, layout-span, view-most, view-size}
 use Rattle.sheet.specs.Views.{theViewDimension}
@@ -179,7 +180,7 @@ pub scaled-le : {x n stride : ℕ} (block : ℕ) → x < n → n ≤ 4096 → st
 scaled-le {x} block h m t = mul-le-mul {n₂ = 4096} {m₂ = 65536} (omega (arith, div-le-self x block)) (omega arith)
 
 module _ (a : Access) where
-  pub reached-far : (index : ℕ) → 2 ^ 32 ≤ index → refused 12 ≡ reached a index
+  pub reached-far : (index : ℕ) → 2 ^ 32 ≤ index → refused indexTooLarge ≡ reached a index
   unfolding reached pick
   reached-far index h = rw (le-leb _ _ h)
 

@@ -6,6 +6,7 @@ use lib.Dec.{ltb, leb, eqb}
 use lib.ListN.{getD, set, replicate}
 use lib.IntN.{ℤ, pos, negsuc, _+ℤ_}
 use Rattle.numbers.specs.Choice.{pick}
+use Rattle.refusals.specs.Refusals.{indexTooLarge, outsideUndefined, outsideMemory}
 use Rattle.sheet.specs.Layouts.{theDimension}
 use Rattle.sheet.specs.Views.{theViewDimension}
 use Rattle.sheet.specs.declared.ClampMode.{ClampMode}
@@ -172,7 +173,7 @@ answered o = record { refusal = 0; outcome = o }
 -- Rule 5: the byte is base + tensor index * element size; refusal 14: the element's bytes don't all lie in memory
 unfoldable pub addressed : Access → ℕ → Located
 addressed a t =
-    pick (leb (a .base + t * a .size + a .size) (a .memory)) (answered (outcome.Placed (a .base + t * a .size))) (refused 14)
+    pick (leb (a .base + t * a .size + a .size) (a .memory)) (answered (outcome.Placed (a .base + t * a .size))) (refused outsideMemory)
 
 -- Rule 4: Constant yields the low bits of the clamp value
 abbrev pub lowBits : Access → ℕ
@@ -180,7 +181,7 @@ lowBits a = a .layout .clamp % 2 ^ (8 * a .size)
 
 -- each element is skipped, filled, discarded, or has a byte; refusal 13: Undefined and outside in some dimension
 abbrev pub settled : Access → Clamped → Located
-settled a Refused = refused 13
+settled a Refused = refused outsideUndefined
 settled a Discarded = answered outcome.Discarded
 settled a Filled = answered (outcome.Filled (lowBits a))
 settled a (At t) = addressed a t
@@ -188,7 +189,7 @@ settled a (At t) = addressed a t
 -- Refusal 12: the index after rule 2 is 2^32 or more; then rules 3 to 5
 unfoldable pub reached : Access → ℕ → Located
 reached a index =
-    pick (leb (2 ^ 32) index) (refused 12)
+    pick (leb (2 ^ 32) index) (refused indexTooLarge)
     (settled a (tensorIndex (a .load) (a .layout) (spanCoordinates (a .layout) index) (a .layout .rank)))
 
 -- Rules 1 and 2: the index of element (row, col); without a view it is row*N+col

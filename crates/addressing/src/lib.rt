@@ -12,6 +12,9 @@ pub mod tensors;
 pub mod views;
 
 use outcomes::Outcome;
+use refusals::INDEX_TOO_LARGE;
+use refusals::OUTSIDE_MEMORY;
+use refusals::OUTSIDE_UNDEFINED;
 use sheet::Layout;
 use sheet::View;
 use sheet::sizes::RANK;
@@ -155,7 +158,7 @@ fn address(a: Access, t: u32) -> Located
     if byte + size <= a.memory {
         answer(Outcome::Placed(byte))
     } else {
-        refuse(14)
+        refuse(OUTSIDE_MEMORY)
     }
 }
 
@@ -182,10 +185,10 @@ fn reach(a: Access, numbers: &[u16; LAYOUT_NUMBERS], fill: u32, index: u64) -> L
     ensures { λ r. ⌜ r ≡ reached a index ⌝ }
 {
     if INDEX_LIMIT <= index {
-        return refuse(12);
+        return refuse(INDEX_TOO_LARGE);
     }
     match tensors::tensor_index(a.load, a.layout, numbers, index as u32) {
-        Clamped::Refused => refuse(13),
+        Clamped::Refused => refuse(OUTSIDE_UNDEFINED),
         Clamped::Discarded => answer(Outcome::Discarded),
         Clamped::Filled => answer(Outcome::Filled(fill)),
         Clamped::At(t) => address(a, t),

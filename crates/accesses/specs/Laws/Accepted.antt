@@ -17,6 +17,7 @@ use Rattle.addressing.specs.Rules.{elementsOf}
 use Rattle.addressing.specs.Valid.{SizedAccess, ValidAccess}
 use Rattle.addressing.specs.Sound.{Sound}
 use Rattle.addressing.specs.Laws.Sound.{located-sound, low-bits-fit}
+use Rattle.refusals.specs.Refusals as refusal
 use Rattle.refusals.specs.Refusals.{stopAt}
 use Rattle.refusals.specs.declared.Stop.{Stop}
 use Rattle.accesses.specs.Refusals.{elementOutcome, misplaced, ranksDiffer, storeBlocked, firstRefused, sameAt, meets, clashFrom, clashRefusal, elementsRefusal, accessRefusal, placedOne, placedCount}
@@ -105,15 +106,15 @@ module _ (a : Access) (ok : accessRefusal a .number ≡ 0) where
   abbrev count : ℕ
   count = elementsOf a
 
-  past-nine : pick (ranksDiffer a) (stopAt 10 0) (pick (storeBlocked a) (stopAt 11 0) (elementsRefusal (a .load) (elementOutcome a) count)) .number ≡ 0
+  past-nine : pick (ranksDiffer a) (stopAt refusal.ranksDiffer 0) (pick (storeBlocked a) (stopAt refusal.blockedStore 0) (elementsRefusal (a .load) (elementOutcome a) count)) .number ≡ 0
   unfolding accessRefusal
-  past-nine = past (misplaced a) (stopAt 9 0) _ (λ e. omega arith) ok .1
+  past-nine = past (misplaced a) (stopAt refusal.unalignedBase 0) _ (λ e. omega arith) ok .1
 
   ranks-same : ranksDiffer a ≡ false
-  ranks-same = past (ranksDiffer a) (stopAt 10 0) _ (λ e. omega arith) past-nine .0
+  ranks-same = past (ranksDiffer a) (stopAt refusal.ranksDiffer 0) _ (λ e. omega arith) past-nine .0
 
   past-eleven : elementsRefusal (a .load) (elementOutcome a) count .number ≡ 0
-  past-eleven = past (storeBlocked a) (stopAt 11 0) _ (λ e. omega arith) (past (ranksDiffer a) (stopAt 10 0) _ (λ e. omega arith) past-nine .1) .1
+  past-eleven = past (storeBlocked a) (stopAt refusal.blockedStore 0) _ (λ e. omega arith) (past (ranksDiffer a) (stopAt refusal.ranksDiffer 0) _ (λ e. omega arith) past-nine .1) .1
 
   first-clear : firstRefused (elementOutcome a) 0 count .number ≡ 0
   unfolding elementsRefusal pick
