@@ -18,7 +18,7 @@ use Rattle.records.specs.Records.{moved}
 use Rattle.runs.specs.Runs.{runsRecords}
 use Rattle.runs.specs.Acts.{Act, meet, give, one, spread, pour}
 use Rattle.runs.specs.States.{fold, elementwise, fold-append, same-records}
-use Rattle.running.specs.Records.{inOrder, onElements, ranRecord}
+use Rattle.running.specs.Records.{inOrder, onElements, ranRecordWith, ranRecord}
 use Rattle.judging.specs.Laws.Bytes.{byte-natural}
 use Rattle.agreement.specs.Laws.Passing.{ranAll}
 
@@ -50,7 +50,7 @@ module _ (sh : Sheet) (register : ℕ) where
   moved-crosses : (load : Bool) (first count byte up down : ℕ) (m : Machine)
       → ranRecord sh (moved load register first count byte up down) m
       ≡ onElements register (λ (size i : ℕ) (s : State). crossed load size register (first + i) (byte + i * up - i * down) s) count m
-  unfolding ranRecord moved
+  unfolding ranRecordWith moved
   moved-crosses true first count byte up down m =
       λ j. onElements register (λ (size i : ℕ) (s : State). crossed true size register (first + i) (byte-natural byte up down i j) s) count m
   moved-crosses false first count byte up down m =
@@ -67,7 +67,7 @@ module _ (sh : Sheet) (register : ℕ) where
 
   pours : (load : Bool) (first count value : ℕ) (m : Machine)
       → ranRecord sh (Fill register first count value) m ≡ fold (acted load register) m (pour first count value)
-  unfolding ranRecord inOrder pour each fold
+  unfolding ranRecordWith inOrder pour each fold
   pours load first zero value m = refl
   pours load first (suc n) value m =
       ap (λ (x : Machine). acted load register x (give (first + n) value)) (pours load first n value m)

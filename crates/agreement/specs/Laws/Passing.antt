@@ -8,7 +8,7 @@ use lib.ListN.{length, getD}
 use Rattle.numbers.specs.Choice.{pick}
 use Rattle.sheet.specs.declared.Sheet.{Sheet}
 use Rattle.registers.specs.declared.MatrixType.{MatrixType}
-use Rattle.checking.specs.Checking.{refusalAt}
+use Rattle.refusals.specs.Refusals.{notRefused}
 use Rattle.carrying.specs.Steps.{Machine}
 use Rattle.records.specs.declared.Record.{Record}
 use Rattle.records.specs.declared.Record.the-variants.{Whole}
@@ -48,7 +48,7 @@ module _ (sh : Sheet) where
     says-others k r rs s i l = let e : k + 1 + i ≡ k + suc i = omega arith in rw e (s (suc i) (omega arith))
 
     pub passes-range : {len : ℕ} {rs : List Record} {ts us : List MatrixType} (k : ℕ) → Says the k rs → Passes len rs ts us
-        → rangeFrom (length rs) sh len the k ts ≡ refusalAt 0 0 0
+        → rangeFrom (length rs) sh len the k ts ≡ notRefused
     unfolding rangeFrom pick
     passes-range k s none = refl
     passes-range k s (more {r = r} {rs = rs} e p) =

@@ -1,31 +1,33 @@
 -- The records of a tape are within the ranges that their six numbers say.
-use Prim.Native.Nat.{ℕ, zero, suc, _+_, _*_, _^_, _<_, _≤_}
+use Prim.Native.Nat.{ℕ, zero, suc, _+_, _^_, _<_, _≤_}
 use mathlib.Core.Path.{_≡_}
 use mathlib.Core.Bool.{Bool, true, false}
 use mathlib.Core.List.{List, [], _∷_}
-use native.Mathlib.Nat.{mul-le-mul}
 use native.Mathlib.Omega.{arith}
 use borrow.Author.Tests.{ltb-true}
-use lib.Dec.{eqb}
-use Rattle.numbers.specs.Choice.{pick, pick-case, both-left, both-right}
 use Rattle.kinds.specs.Widths.{width, fits}
 use Rattle.kinds.specs.Laws.{width-case, bytes-low}
 use Rattle.outcomes.specs.declared.Outcome.{Outcome}
 use Rattle.outcomes.specs.declared.Outcome.the-variants.{Skipped, Filled, Discarded, Placed}
-use Rattle.sheet.specs.Sizes.{optionOk}
-use Rattle.sheet.specs.Steps.{theStep, loadOk, storeOk, stepOk}
+use Rattle.sheet.specs.Sizes.{registerCount, stepPlaces}
+use Rattle.sheet.specs.Steps.{theStep, objectOk, stepOk}
+use Rattle.sheet.specs.declared.Object.{Object}
+use Rattle.sheet.specs.declared.Object.the-variants.{Kept, Register}
+use Rattle.sheet.specs.declared.Window.{Window}
 use Rattle.sheet.specs.declared.Sheet.{Sheet}
 use Rattle.sheet.specs.declared.Step.{Step}
 use Rattle.sheet.specs.declared.Step.the-variants.{Nothing, Load, Store, Whole}
-use Rattle.sheet.specs.Laws.Within.{Within}
+use Rattle.sheet.specs.Laws.Within.{Within, within-places}
 use Rattle.registers.specs.Types.{theType}
 use Rattle.registers.specs.Registers.{emptyRegisters}
 use Rattle.registers.specs.Sized.{SizedType, Sized}
-use Rattle.registers.specs.Laws.Sized.{sized-empty}
+use Rattle.registers.specs.Laws.Sized.{sized-empty, sized-places}
 use Rattle.registers.specs.declared.MatrixType.{MatrixType}
+use Rattle.addressing.specs.Rules.{elementsOf}
 use Rattle.transfers.specs.Transfers.{outcomeOf}
-use Rattle.checking.specs.Steps.{accessOf, objectOf}
+use Rattle.checking.specs.Steps.{accessOf, objectRegister}
 use Rattle.checking.specs.Checking.{memoryLimit}
+use Rattle.checking.specs.Laws.Names.{load-register, load-object-ok, store-register}
 use Rattle.checking.specs.Laws.Steps.{check-sized}
 use Rattle.checking.specs.Laws.Turns.{within-step}
 use Rattle.records.specs.declared.Record.the-variants.{Copy}
@@ -47,33 +49,29 @@ module _ (len : ℕ) (most : len ≤ memoryLimit) where
   near kind (Placed b) h = omega (arith, bytes-low kind)
 
   module _ (sh : Sheet) where
-    access-within : (load : Bool) (register layout view base : ℕ) (t : MatrixType) → register < 4 → SizedType t
-        → AllWithin (accessRecords (accessOf sh load layout view base t len) register t)
-    access-within load register layout view base t few s =
-        let elements : t .rows * t .columns ≤ 16 * 16 = mul-le-mul (s .rows) (s .columns) in
-        let outcome = outcomeOf (accessOf sh load layout view base t len) (t .columns) in
-        runs-within load register few outcome (t .rows * t .columns) (omega arith)
-        (λ i l. near (t .kind) (outcome i) (access-passable sh load register layout view base t len i))
+    access-within : (load : Bool) (register : ℕ) (window : Window) (t : MatrixType) → register < registerCount → SizedType t
+        → AllWithin (accessRecords (accessOf (sh .tensors) load window t len) register)
+    access-within load register window t few s =
+        let a = accessOf (sh .tensors) load window t len in
+        runs-within load register few (outcomeOf a) (elementsOf a) (omega (arith, sized-places t s))
+        (λ i l. near (t .kind) (outcomeOf a i) (access-passable sh load register window t len i))
 
-    copies-within : (register object : ℕ) → register < 4 → optionOk 4 object ≡ true → AllWithin (copyRecords register object)
-    unfolding optionOk pick
-    copies-within register object few ok =
-        pick-case AllWithin (eqb object 255) [] (Copy register object ∷ []) (λ e. tt)
-        (λ e. let o : object < 4 = ltb-true object 4 (rw e at ok) in ((few, o), tt))
+    copies-within : (register : ℕ) (object : Object) → register < registerCount → objectOk object ≡ true → AllWithin (copyRecords register object)
+    copies-within register Kept few ok = tt
+    copies-within register (Register object) few ok = ((few, ltb-true object registerCount ok), tt)
 
-    -- at most 32 steps
-    step-within : (ts : List MatrixType) (k : ℕ) (st : Step) (edition layouts views : ℕ) → k < 32 → stepOk edition layouts views st ≡ true → Sized ts
-        → AllWithin (stepRecords sh ts len k st)
-    unfolding stepRecords loadOk storeOk
+    step-within : (ts : List MatrixType) (k : ℕ) (st : Step) (edition layouts views : ℕ) → k < stepPlaces → stepOk edition layouts views st ≡ true → Sized ts
+        → AllWithin (stepRecords (sh .tensors) ts len k st)
+    unfolding stepRecords
     step-within ts k Nothing edition layouts views l ok s = tt
-    step-within ts k (Load register object layout view base) edition layouts views l ok s =
-        let few : register < 4 = ltb-true register 4 (both-left _ _ ok) in
-        let t = theType ts (objectOf register object) in
-        all-append ranges.Within (copyRecords register object) (accessRecords (accessOf sh true layout view base t len) register t)
-        (copies-within register object few (both-left _ _ (both-right _ _ ok)))
-        (access-within true register layout view base t few (s .each (objectOf register object)))
-    step-within ts k (Store register layout view base) edition layouts views l ok s =
-        access-within false register layout view base (theType ts register) (ltb-true register 4 (both-left _ _ ok)) (s .each register)
+    step-within ts k (Load register object window) edition layouts views l ok s =
+        let few = load-register layouts views register object window ok in
+        let t = theType ts (objectRegister register object) in
+        all-append ranges.Within (copyRecords register object) (accessRecords (accessOf (sh .tensors) true window t len) register)
+        (copies-within register object few (load-object-ok layouts views register object window ok))
+        (access-within true register window t few (s .each (objectRegister register object)))
+    step-within ts k (Store register window) edition layouts views l ok s =
+        access-within false register window (theType ts register) (store-register layouts views register window ok) (s .each register)
     step-within ts k (Whole whole) edition layouts views l ok s = (omega arith, tt)
 
     module _ (w : Within sh) where
@@ -83,9 +81,9 @@ module _ (len : ℕ) (most : len ≤ memoryLimit) where
       from-within (suc n) k ts l s =
           let st = theStep (sh .step) k in
           let ok = within-step sh w k (omega arith) in
-          all-append ranges.Within (stepRecords sh ts len k st) _
-          (step-within ts k st (sh .edition) (sh .layouts) (sh .views) (omega (arith, w .steps)) ok s)
-          (from-within n (k + 1) _ (omega arith) (check-sized sh ts len st (sh .edition) (sh .layouts) (sh .views) ok s))
+          all-append ranges.Within (stepRecords (sh .tensors) ts len k st) _
+          (step-within ts k st (sh .edition) (sh .tensors .layouts) (sh .tensors .views) (omega (arith, within-places w)) ok s)
+          (from-within n (k + 1) _ (omega arith) (check-sized (sh .edition) (sh .tensors) ts len st (sh .edition) (sh .tensors .layouts) (sh .tensors .views) ok s))
 
       -- every record of the tape of a sheet within Sizes, for a memory of a length within Sizes
       pub tape-within : AllWithin (tapeOf sh len)

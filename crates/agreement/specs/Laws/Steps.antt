@@ -11,7 +11,7 @@ use Rattle.registers.specs.declared.MatrixType.{MatrixType}
 use Rattle.checking.specs.Laws.Turns.{typesFrom, within-step}
 use Rattle.carrying.specs.Steps.{Machine, performedStep}
 use Rattle.carrying.specs.Carrying.{performedFrom}
-use Rattle.carrying.specs.Machines.{checkOn, Accepted, Formed}
+use Rattle.carrying.specs.Machines.{stepOn, AcceptedStep, Formed}
 use Rattle.carrying.specs.Laws.Types.{checkFrom, step-types, step-length, step-formed, first-accepted, rest-checked}
 use Rattle.records.specs.declared.Record.{Record}
 use Rattle.runs.specs.States.{performAll, performAll-append}
@@ -35,21 +35,21 @@ module _ (sh : Sheet) (w : Within sh) where
   from-agree zero k m count l h f = record { passes = none; same = refl }
   from-agree (suc n) k m count l h f =
       let st = theStep (sh .step) k in
-      let a : Accepted sh st m = first-accepted n sh k m count h in
+      let a : AcceptedStep sh k m = first-accepted n sh k m count h in
       let ok = within-step sh w k (omega arith) in
-      let first = stepRecords sh (m .registers .types) (length (m .memory)) k st in
-      let others = tapeFrom n sh (length (m .memory)) (k + 1) (checkOn sh st m .types) in
-      let left = performedStep sh st m in
+      let first = stepRecords (sh .tensors) (m .registers .types) (length (m .memory)) k st in
+      let others = tapeFrom n sh (length (m .memory)) (k + 1) (stepOn sh k m .types) in
+      let left = performedStep (sh .tensors) st m in
       let later : Agree n sh (k + 1) left =
-      from-agree n (k + 1) left (count + checkOn sh st m .placed) (omega arith) (rw (rest-checked n sh k m count a) at h)
-      (step-formed sh st m (sh .edition) (sh .layouts) (sh .views) ok a f) in
+      from-agree n (k + 1) left (count + stepOn sh k m .placed) (omega arith) (rw (rest-checked n sh k m count a) at h)
+      (step-formed (sh .edition) (sh .tensors) st m (sh .edition) (sh .tensors .layouts) (sh .tensors .views) ok a f) in
       record {
         passes =
             passes-append sh (step-passes sh m k st (omega arith) refl a (f .registers) ok)
-            (rw (step-length sh st m, step-types sh st m a) at (later .passes));
+            (rw (step-length (sh .tensors) st m, step-types (sh .edition) (sh .tensors) st m a) at (later .passes));
         same =
             performAll-append (ranRecord sh) first others m
             ∙ ap (ranAll sh others) (step-done sh m k st refl (f .registers) ok)
-            ∙ ap₂ (λ (len : ℕ) (ts : List MatrixType). ranAll sh (tapeFrom n sh len (k + 1) ts) left) (sym (step-length sh st m)) (sym (step-types sh st m a))
+            ∙ ap₂ (λ (len : ℕ) (ts : List MatrixType). ranAll sh (tapeFrom n sh len (k + 1) ts) left) (sym (step-length (sh .tensors) st m)) (sym (step-types (sh .edition) (sh .tensors) st m a))
             ∙ later .same;
       }

@@ -11,7 +11,7 @@ use lib.IntN.{ℤ}
 use lib.ListN.{length, getD, length-append}
 use Rattle.numbers.specs.Choice.{both-true, taken}
 use Rattle.sheet.specs.declared.Sheet.{Sheet}
-use Rattle.sheet.specs.Sizes.{recordLimit}
+use Rattle.sheet.specs.Editions.{limits}
 use Rattle.sheet.specs.Laws.Within.{Within}
 use Rattle.checking.specs.Checking.{memoryLimit, checked}
 use Rattle.carrying.specs.Carrying.{performed, started}
@@ -46,7 +46,7 @@ module _ (sh : Sheet) (w : Within sh) (memory : List ℕ) (h : checked sh (lengt
 
   -- Agreement over numbers: the tape of an accepted sheet as the numbers of a slice, six a record, with any numbers after them;
   -- memory's limit keeps the numbers in their ranges, and a record count above its limit is refused.
-  module _ (most : length memory ≤ memoryLimit) (few : length (tapeOf sh (length memory)) ≤ recordLimit (sh .edition)) (numbers rest : List ℤ)
+  module _ (most : length memory ≤ memoryLimit) (few : length (tapeOf sh (length memory)) ≤ limits (sh .edition) .records) (numbers rest : List ℤ)
       (is : numbers ≡ tapeNumbers (tapeOf sh (length memory)) ++ rest) where
     numbers-say : Says (tapeRecord numbers) 0 (tapeOf sh (length memory))
     numbers-say i l = rw (is, zero-add i) (tape-back (tapeOf sh (length memory)) rest i (tape-within (length memory) most sh w) l)
@@ -57,7 +57,7 @@ module _ (sh : Sheet) (w : Within sh) (memory : List ℕ) (h : checked sh (lengt
         let n = length (tapeOf sh (length memory)) in
         let long : length numbers ≡ n * 6 + length rest =
         ap length is ∙ length-append (tapeNumbers (tapeOf sh (length memory))) rest ∙ rw (length-tape (tapeOf sh (length memory))) in
-        both-true _ _ (le-leb n (recordLimit (sh .edition)) few) (le-leb (n * 6) (length numbers) (omega arith))
+        both-true _ _ (le-leb n (limits (sh .edition) .records) few) (le-leb (n * 6) (length numbers) (omega arith))
 
     pub agreement-numbers : NumbersAgree sh memory (length (tapeOf sh (length memory))) numbers
     unfolding tapeRefusal

@@ -10,9 +10,10 @@ use lib.ListN.{length, drop}
 use lib.Seq.{sets-eq}
 use Rattle.numbers.specs.Choice.{pick, both-left}
 use Rattle.sheet.specs.declared.Sheet.{Sheet}
-use Rattle.sheet.specs.Sizes.{recordLimit}
+use Rattle.sheet.specs.Editions.{limits}
 use Rattle.sheet_reader.specs.Reading.{readSheet}
-use Rattle.checking.specs.Checking.{refusalAt, memoryLimit}
+use Rattle.refusals.specs.Refusals.{notRefused}
+use Rattle.checking.specs.Checking.{memoryLimit}
 use Rattle.checking.specs.Laws.Readable.{Readable, sheet-readable}
 use Rattle.carrying.specs.Steps.{Machine}
 use Rattle.carrying.specs.Carrying.{carryAnswer, carried, carriedMemory}
@@ -46,7 +47,7 @@ module _ (s memory : List ℕ) (room : List ℤ) (h : translated s (length memor
   accepted : Readable s (length memory)
   accepted = sheet-readable s (length memory) (translation .accepted)
 
-  few : length (tapeOf sh (length memory)) ≤ recordLimit (sh .edition)
+  few : length (tapeOf sh (length memory)) ≤ limits (sh .edition) .records
   unfolding fitsRoom recordsFit
   few = leb-true _ _ (both-left _ _ (translation .fits))
 
@@ -61,7 +62,7 @@ module _ (s memory : List ℕ) (room : List ℤ) (h : translated s (length memor
   agrees : NumbersAgree sh memory (length (tapeOf sh (length memory))) numbers
   agrees = agreement-numbers sh (accepted .within) memory (accepted .clear) (accepted .few) few numbers rest numbers-are
 
-  run-accepted : runRefusal s numbers (length (tapeOf sh (length memory))) (length memory) ≡ refusalAt 0 0 0
+  run-accepted : runRefusal s numbers (length (tapeOf sh (length memory))) (length memory) ≡ notRefused
   unfolding runRefusal pick
   run-accepted = rw (le-leb (length memory) memoryLimit (accepted .few), eq-eqb (readSheet s .refusal .number) 0 (accepted .read)) (agrees .accepted)
 
@@ -71,7 +72,7 @@ module _ (s memory : List ℕ) (room : List ℤ) (h : translated s (length memor
       record {
         answer =
             rw (run-accepted, translation .accepted)
-            (ap (λ (m : Machine). carryAnswer (refusalAt 0 0 0) (m .registers) (m .count)) (agrees .same));
+            (ap (λ (m : Machine). carryAnswer (notRefused) (m .registers) (m .count)) (agrees .same));
         bytes = rw (run-accepted, translation .accepted) (ap (λ (m : Machine). m .memory) (agrees .same));
       }
 
