@@ -1,13 +1,14 @@
 // Prints the tape of the sheet on standard input for a memory of 65,536: one record a line, six decimal numbers with single blanks. A refusal is one
-// line of three numbers, its number and its place.
+// line of three numbers, its number and its place. Where the input cannot be read, one line on standard error says so.
 ghost use Prim.Native.Nat.{_<_, _≤_};
+ghost use Rattle.sheet.specs.Sizes.{recordPlaces};
+use libc::STDERR_FILENO;
 use libc::STDIN_FILENO;
 use libc::STDOUT_FILENO;
+use records::NUMBERS;
+use sheet::sizes::RECORDS;
 
 const MEMORY: usize = 65_536;
-
-// The most records.
-const RECORDS: usize = 1024;
 
 fn print(x: usize, after: &[u8]) {
     io::print_decimal(STDOUT_FILENO, x as u64);
@@ -38,11 +39,11 @@ fn print_record(tape: &[i32], at: usize)
 }
 
 fn print_records(tape: &[i32], records: usize)
-    requires { ⌜ records ≤ 1024 ⌝ }
+    requires { ⌜ records ≤ recordPlaces ⌝ }
 {
     let mut k: usize = 0;
     while k < records {
-        print_record(tape, k * 6);
+        print_record(tape, k * NUMBERS);
         k += 1;
     }
 }
@@ -53,12 +54,27 @@ fn print_refusal(number: u8, place: usize, element: usize) {
     print(element, b"\n");
 }
 
+// Whether a read fails; at the end of the input it gives no byte.
+fn unreadable() -> bool {
+    let mut more = [0u8; 1];
+    libc::read(STDIN_FILENO, &mut more) < 0
+}
+
 // The longest accepted sheet has 744 bytes and the longest field 65,538, so what is past 66,282 bytes cannot change the answer (theorem
 // `prefix-reads` of the crate round_trip).
 fn main() {
     let mut input = [0u8; 66_282];
     let n = io::read_full(STDIN_FILENO, &mut input);
-    let mut tape = [0i32; 6144];
+    if n < input.len() {
+        if unreadable() {
+            io::write_all(
+                STDERR_FILENO,
+                b"print_tape: standard input cannot be read\n",
+            );
+            return;
+        }
+    }
+    let mut tape = [0i32; RECORDS * NUMBERS];
     let r = translating::translate(&input[..n], MEMORY, &mut tape);
     let f = r.refusal;
     if 0 < f.number {

@@ -4,7 +4,10 @@ use mathlib.Core.Path.{_≡_, refl, _∙_}
 use mathlib.Core.Bool.{true}
 use mathlib.Core.List.{List}
 use native.Mathlib.Omega.{arith}
-use lib.ListN.{getD}
+use borrow.Author.Tests.{eqb-true, eqb-false}
+use lib.Dec.{eqb, leb}
+use lib.IntN.{ℤ}
+use lib.ListN.{length, getD}
 use Rattle.numbers.specs.Choice.{pick-case}
 use Rattle.kinds.specs.Widths.{bytesOf}
 use Rattle.sheet.specs.declared.Sheet.{Sheet}
@@ -20,11 +23,14 @@ use Rattle.records.specs.declared.Record.the-variants.{Copy, Take, Put, Fill, W
 use Rattle.records.specs.declared.Decoded.{Decoded}
 use Rattle.records.specs.declared.Decoded.the-variants.{Good, Bad}
 use Rattle.judging.specs.Records.{byteAt}
-use Rattle.judging.specs.Judging.{decodedOk, decodedTypes, rangeFrom, rangeRefusal}
+use Rattle.sheet_reader.specs.Reading.{readSheet}
+use Rattle.checking.specs.Checking.{memoryLimit}
+use Rattle.judging.specs.Judging.{tapeRecord, decodedOk, decodedTypes, rangeFrom, rangeRefusal}
+use Rattle.judging.specs.Laws.Turns.{tape-clear}
 use Rattle.judging.specs.Laws.Records.{whole-named}
 use Rattle.running.specs.Records.{inOrder, ranRecordWith, ranRecord}
-use Rattle.running.specs.Running.{ranDecoded, ranFrom, ran}
-use Rattle.running.specs.Laws.Records.{decoded-types}
+use Rattle.running.specs.Running.{ranDecoded, ranFrom, ran, runRefusal, ranMemory}
+use Rattle.running.specs.Laws.Records.{decoded-types, decoded-length}
 use Rattle.running.specs.Outside.{OutsideRecord, OutsideFrom}
 
 -- what holds before the elements of a record, and after each, holds after all
@@ -78,3 +84,41 @@ module _ (sh : Sheet) (len p : ℕ) where
   pub outside-kept : (n : ℕ) (the : ℕ → Decoded) (memory : List ℕ) → rangeRefusal n sh len the .number ≡ 0
       → OutsideFrom n sh the 0 (emptyRegisters .types) p → getD (ran n sh the (started memory) .memory) p 0 ≡ getD memory p 0
   outside-kept n the memory h o = from-kept n the 0 (started memory) h o
+
+  from-length : (n : ℕ) (the : ℕ → Decoded) (k : ℕ) (m : Machine) → rangeFrom n sh len the k (m .registers .types) .number ≡ 0
+      → length (ranFrom n sh the k m .memory) ≡ length (m .memory)
+  unfolding ranFrom
+  from-length zero the k m h = refl
+  from-length (suc n) the k m h =
+      let r = ranged n the k (m .registers .types) h in
+      from-length n the (k + 1) (ranDecoded sh (the k) m) (rw (decoded-types sh m len (the k) (r .first)) (r .others))
+      ∙ decoded-length sh m len (the k) (r .first)
+
+-- The same of the memory that running leaves, refused or not; and it is as long as before.
+module _ (s : List ℕ) (tape : List ℤ) (records : ℕ) (memory : List ℕ) where
+  abbrev sh : Sheet
+  sh = readSheet s .sheet
+
+  -- a tape that is not refused is in range
+  in-range : runRefusal s tape records (length memory) .number ≡ 0 → rangeRefusal records sh (length memory) (tapeRecord tape) .number ≡ 0
+  unfolding runRefusal
+  in-range =
+      pick-case P (leb (length memory) memoryLimit) _ _
+      (λ l. pick-case P (eqb (readSheet s .refusal .number) 0) _ _ (λ e h. tape-clear sh tape records (length memory) h)
+      (λ e h. absurd (eqb-false (readSheet s .refusal .number) 0 e h)))
+      (λ l h. absurd (omega arith))
+    where
+      P : Refusal → Type 0
+      P r = r .number ≡ 0 → rangeRefusal records sh (length memory) (tapeRecord tape) .number ≡ 0
+
+  pub ran-untouched : (p : ℕ) → OutsideFrom records sh (tapeRecord tape) 0 (emptyRegisters .types) p → getD (ranMemory s tape records memory) p 0 ≡ getD memory p 0
+  unfolding ranMemory
+  ran-untouched p o =
+      pick-case (λ (l : List ℕ). getD l p 0 ≡ getD memory p 0) (eqb (runRefusal s tape records (length memory) .number) 0) _ _
+      (λ e. outside-kept sh (length memory) p records (tapeRecord tape) memory (in-range (eqb-true _ 0 e)) o) (λ e. refl)
+
+  pub ran-length : length (ranMemory s tape records memory) ≡ length memory
+  unfolding ranMemory
+  ran-length =
+      pick-case (λ (l : List ℕ). length l ≡ length memory) (eqb (runRefusal s tape records (length memory) .number) 0) _ _
+      (λ e. from-length sh (length memory) 0 records (tapeRecord tape) 0 (started memory) (in-range (eqb-true _ 0 e))) (λ e. refl)
