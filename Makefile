@@ -125,6 +125,7 @@ demo: all
 tool-test: all
 	tests/tool.sh $(TOOL)
 	tests/examples.sh $(TOOL)
+	tests/night.sh $(TOOL)
 
 test: tool-test $(TOOL)/test-null $(TOOL)/test-stack $(SHEET_FILES)
 	$(TOOL)/test-null
