@@ -4,7 +4,7 @@
 
 const struct command *const commands[] = {
     &asm_command,      &show_command, &check_command, &run_command,  &tape_command,
-    &run_tape_command, &diff_command, &help_command, NULL,
+    &run_tape_command, &diff_command, &night_command, &help_command, NULL,
 };
 
 const struct command *find_command(const char *name)

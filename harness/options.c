@@ -13,7 +13,8 @@
 
 const struct option_form option_forms[OPTIONS] = {
     [OPTION_MEMORY] = {"--memory", "N", "the memory's length in bytes, decimal or 0x and hex; 65536 if not given"},
-    [OPTION_OUT] = {"-o", "OUT", "write what comes out to OUT: the memory afterwards, or the sheet of asm"},
+    [OPTION_OUT] = {"-o", "OUT",
+                    "write what comes out to OUT: the memory afterwards, the sheet of asm, or the report of night"},
     [OPTION_REGISTERS] = {"--registers", "FILE", "write the registers to FILE: 16 type bytes, then 1024 elements"},
     [OPTION_JSON] = {"--json", NULL, "print one JSON object in place of text"},
     [OPTION_ASM] = {"--asm", NULL, "print the text form, which asm takes"},
@@ -22,6 +23,11 @@ const struct option_form option_forms[OPTIONS] = {
     [OPTION_CARD_REGISTERS] = {"--registers", "NAME=FILE",
                                "compare its registers too: FILE is as run --registers writes it", .repeats = true},
     [OPTION_ALL] = {"--all", NULL, "list every difference, in runs"},
+    [OPTION_JOBS] = {"-j", "N", "work in N processes; the output is the same"},
+    [OPTION_CSV] = {"--csv", NULL, "print a table of comma-separated values in place of text"},
+    [OPTION_HTML] = {"--html", "FILE", "also write the report to FILE as a page to send"},
+    [OPTION_SHARD] = {"--shard", "K/N", "take the K-th of N parts of the folder's sheets"},
+    [OPTION_MERGE] = {"--merge", NULL, "make one report of the JSON reports of all parts"},
 };
 
 int wrong_use(const struct command *command, const char *format, ...)

@@ -16,6 +16,11 @@ enum option {
     OPTION_CARD,
     OPTION_CARD_REGISTERS,
     OPTION_ALL,
+    OPTION_JOBS,
+    OPTION_CSV,
+    OPTION_HTML,
+    OPTION_SHARD,
+    OPTION_MERGE,
     OPTIONS
 };
 

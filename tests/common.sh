@@ -95,3 +95,12 @@ absent() {
     done
     pass
 }
+
+# contains TEXT FILE: a file must have this text on one of its lines.
+contains() {
+    if grep -q -F -e "$1" "$2"; then
+        pass
+    else
+        fail "$2 does not have '$1'"
+    fi
+}

@@ -1,10 +1,12 @@
 #!/bin/sh
-# Tests of diff: a card's memory and registers beside what a sheet must leave, and bad input.
+# Tests of diff and night: a card's memory and registers beside what a sheet must leave, a night's folder
+# in all forms of report, its parts merged, and bad input.
 #
 #   tests/night.sh FOLDER      FOLDER has the programs moonbleat and unhex
 
 # shellcheck source=tests/common.sh
 . "$(dirname "$0")/common.sh"
+tests=$root/tests
 
 # lines LINE..: standard output must be these lines.
 lines() {
@@ -189,5 +191,427 @@ wrong '--registers a is given twice' diff sheet memory --card a=agreeing --regis
 wrong '--registers b: no card has this name' diff sheet memory --card a=agreeing --registers b=registers
 wrong 'standard input can be read only once' diff - - --card a=agreeing
 
-echo "tests of diff: $passed passed, $failed failed"
+# -- A night in all its forms --------------------------------------------------------------------
+
+# reports STATUS NAME FOLDER WORD..: makes NAME.txt, NAME.json, NAME.csv and NAME.html.
+reports() {
+    wanted_status=$1
+    report=$2
+    shift 2
+    call "$wanted_status" night "$@" --html "$report.html"
+    cp stdout "$report.txt"
+    call "$wanted_status" night "$@" --json -o "$report.json"
+    silent
+    call "$wanted_status" night "$@" --csv
+    cp stdout "$report.csv"
+}
+
+# agree WHAT ONE OTHER: two nights' reports must be equal, in every form.
+agree() {
+    for form in txt json csv html; do
+        same "$1: $form" "$2.$form" "$3.$form"
+    done
+}
+
+# checked WORD..: the forms of a report must say the same.
+checked() {
+    if python3 "$tests/night_check.py" "$@" > problems 2>&1; then
+        pass
+    else
+        fail "$(tail -n 1 problems)"
+    fi
+}
+
+# The worked example: what its README and its report say.
+python3 "$root/examples/night/make_night.py" example || fail 'the example'
+reports 1 example_report example
+same 'the example' example_report.txt "$root/examples/night/report.txt"
+checked example_report.txt example_report.json example_report.csv example_report.html
+sed -n 's/^    \(.* differs: .*\)/\1/p' "$root/examples/night/README.md" > shown
+if [ -s shown ]; then pass; else fail 'the example shows no line'; fi
+while read -r line; do
+    contains "$line" example_report.txt
+done < shown
+
+# The night that the manual shows.
+mkdir shown_night
+cp example/border-mirror-u16.* shown_night
+rm shown_night/*.alder.registers shown_night/*.birch.registers shown_night/*.cedar.after
+call 1 night shown_night
+sed -n '/^    border-mirror-u16 alder agrees$/,/^    night: /p' "$root/docs/NIGHT.md" | sed 's/^    //' > shown
+same 'the night in docs/NIGHT.md' stdout shown
+
+# Random sheets, and what an independent reading of the rules expects of them.
+mkdir random
+python3 "$tests/night_oracle.py" random 1 "${ORACLE_SHEETS:-60}" || fail 'the random sheets'
+reports 1 random_report random/night
+same 'random sheets' random_report.txt random/report.txt
+checked random_report.txt random_report.json random_report.csv random_report.html random/maps.json
+same 'no message' stderr /dev/null
+
+# More processes, also more than there are sheets, and the same output.
+for jobs in 2 3 100; do
+    reports 1 parallel_report random/night -j "$jobs"
+    agree "-j $jobs" parallel_report random_report
+done
+
+# Parts on two machines, merged in any order, are the report of one run.
+call 1 night random/night --shard 1/2 --json -o part1.json
+call 1 night random/night --shard 2/2 --json -o part2.json -j 2
+for part in part1 part2; do
+    if [ "$(grep -c '"sheet"' "$part.json")" -ge 10 ]; then pass; else fail "$part has too few sheets"; fi
+done
+reports 1 merged_report --merge part1.json part2.json
+agree 'two parts' merged_report random_report
+reports 1 merged_report --merge part2.json part1.json
+agree 'two parts, the second first' merged_report random_report
+reports 1 merged_report --merge random_report.json
+agree 'one part' merged_report random_report
+merged=
+for part in 1 2 3 4 5 6 7; do
+    tool night example --shard "$part/7" --json -o "seventh$part.json" > stdout 2> stderr
+    merged="$merged seventh$part.json"
+done
+# shellcheck disable=SC2086
+reports 1 merged_report --merge $merged
+agree 'seven parts, some without a sheet' merged_report example_report
+
+# One page of cards that all agree, with many sheets as one row; one where none differs but files lack.
+mkdir alike
+for i in 1 2 3 4 5 6 7 8 9; do
+    cp sheet "alike/s$i.sheet"
+    cp memory "alike/s$i.memory"
+    cp wanted "alike/s$i.card1.after"
+done
+reports 0 alike_report alike
+checked alike_report.txt alike_report.json alike_report.csv alike_report.html
+contains '<h1>Every card agrees on every sheet</h1>' alike_report.html
+contains '<th>s1 to s9</th>' alike_report.html
+rm alike/s4.card1.after
+reports 3 alike_report alike
+checked alike_report.txt alike_report.json alike_report.csv alike_report.html
+contains '<h1>No card differs, but 1 comparison could not be made</h1>' alike_report.html
+cp refused alike/s5.sheet
+rm alike/s4.*
+reports 4 alike_report alike
+checked alike_report.txt alike_report.json alike_report.csv alike_report.html
+contains 's5 card1 refused: refusal 7 at step 0' alike_report.txt
+
+# Progress, where standard error is a terminal, changes nothing else.
+if python3 "$tests/night_progress.py" "$bin/moonbleat" random/night random_report.txt > problems 2>&1; then
+    pass
+else
+    fail "progress: $(tail -n 1 problems)"
+fi
+
+# -- Bad input -----------------------------------------------------------------------------------
+
+# good NAME: a sheet on which card `ok` agrees.
+good() {
+    cp "$top/sheet" "./$1.sheet"
+    cp "$top/memory" "./$1.memory"
+    cp "$top/wanted" "./$1.ok.after"
+}
+
+top=$work
+mkdir bad
+cd bad || exit 2
+good 'a b'
+good "$new_line"
+good "$(printf 'l\303\244nge')"
+good "$(printf 'no\377utf8')"
+good "<i>&\"'"
+good '-o'
+good 'one.two'
+good plain
+# The sheet: none, two, no regular file, a folder, links.
+cp "$top/wanted" nosheet.ok.after
+good two
+cp "$top/text" two.txt
+good folder
+rm folder.sheet
+mkdir folder.sheet
+good pipe
+rm pipe.sheet
+mkfifo pipe.sheet
+good linked
+mv linked.sheet ../linked_elsewhere
+ln -s ../linked_elsewhere linked.sheet
+good dangling
+rm dangling.sheet
+ln -s nowhere dangling.sheet
+good looped
+rm looped.sheet
+ln -s looped.sheet looped.sheet
+# The text form: right, wrong, and too long.
+good text
+rm text.sheet
+cp "$top/text" text.txt
+good wrongtext
+rm wrongtext.sheet
+printf 'edition 1\nfill r0 1x99 u8 0\n' > wrongtext.txt
+good longtext
+rm longtext.sheet
+yes '# no end' | head -c 1048577 > longtext.txt
+# The memory: none, too long, shorter than the card's.
+good nomemory
+rm nomemory.memory
+good longmemory
+zeros longmemory.memory 65537
+good shortmemory
+head -c 320 "$top/memory" > shortmemory.memory
+# The card's files: none, empty, a folder, a pipe, too short, differing with unreadable registers.
+good noafter
+mv noafter.ok.after noafter.other.after
+good empty
+: > empty.ok.after
+good afterfolder
+rm afterfolder.ok.after
+mkdir afterfolder.ok.after
+good afterpipe
+rm afterpipe.ok.after
+mkfifo afterpipe.ok.after
+good shortregisters
+head -c 4111 "$top/wanted_registers" > shortregisters.ok.registers
+good both
+cp "$top/differing" both.ok.after
+mkdir both.ok.registers
+# A sheet that is refused.
+good refused
+cp "$top/refused" refused.sheet
+# No night's files.
+mkdir inner
+: > notes
+: > .sheet
+: > card.after
+: > x..after
+cd "$top" || exit 2
+
+reports 1 bad_report bad
+cp stderr bad_errors
+checked bad_report.txt bad_report.json bad_report.csv bad_report.html
+reports 1 parallel_report bad -j 3
+agree 'bad input in three processes' parallel_report bad_report
+# Pairs of a sheet and the card `other`, which has one file, are all missing but for the sheet's own faults.
+grep -v -e ' other missing: ' bad_report.txt | sed '/^$/,$d' > found
+cat > expected << 'END'
+-o ok agrees
+"<i>&\"'" ok agrees
+"a\nb" ok agrees
+"a b" ok agrees
+afterfolder ok unreadable: afterfolder.ok.after: Is a directory
+afterpipe ok unreadable: afterpipe.ok.after: not a regular file
+both ok differs: byte 0 wants 00, has 01; no step writes there; 1 byte differs in 1 run
+dangling ok unreadable: dangling.sheet: No such file or directory
+dangling other unreadable: dangling.sheet: No such file or directory
+empty ok unreadable: empty.ok.after: it has 0 bytes, not the memory's 512
+folder ok unreadable: folder.sheet: Is a directory
+folder other unreadable: folder.sheet: Is a directory
+linked ok agrees
+longmemory ok refused: refusal 18: the memory is longer than 65536 bytes
+longmemory other refused: refusal 18: the memory is longer than 65536 bytes
+longtext ok unreadable: longtext.txt: it has more than 1048576 bytes
+longtext other unreadable: longtext.txt: it has more than 1048576 bytes
+looped ok unreadable: looped.sheet: Too many levels of symbolic links
+looped other unreadable: looped.sheet: Too many levels of symbolic links
+länge ok agrees
+noafter ok missing: noafter.ok.after
+noafter other agrees
+nomemory ok missing: nomemory.memory
+nosheet ok missing: nosheet.sheet
+"no\xFFutf8" ok agrees
+one.two ok agrees
+pipe ok unreadable: pipe.sheet: not a regular file
+pipe other unreadable: pipe.sheet: not a regular file
+plain ok agrees
+refused ok refused: refusal 7 at step 0: transpose: register 1 is empty
+refused other refused: refusal 7 at step 0: transpose: register 1 is empty
+shortmemory ok unreadable: shortmemory.ok.after: it has more than the memory's 320 bytes
+shortregisters ok unreadable: shortregisters.ok.registers: it has 4111 bytes, not a registers file's 4112
+text ok agrees
+two ok unreadable: two.sheet: there are two sheets of this name, .sheet and .txt
+two other unreadable: two.sheet: there are two sheets of this name, .sheet and .txt
+wrongtext ok unreadable: wrongtext.txt: 2:11: columns 99 is not within 1 to 16
+wrongtext other unreadable: wrongtext.txt: 2:11: columns 99 is not within 1 to 16
+END
+same 'bad input' found expected
+sort bad_errors > stderr
+for name in .sheet card.after inner notes x..after; do
+    echo "moonbleat: bad: passing over $name: not the name of a night's file"
+done | sort > expected
+same 'files that are no night'"'"'s' stderr expected
+
+# A file that may not be read; root may read all.
+mkdir closed
+for part in sheet memory card.after; do
+    cp "alike/s1.$(echo "$part" | sed 's/card/card1/')" "closed/s.$part"
+done
+chmod 000 closed/s.card.after
+if [ ! -r closed/s.card.after ]; then
+    call 3 night closed
+    contains 's card unreadable: s.card.after: Permission denied' stdout
+fi
+
+# A memory of 0 bytes is one.
+mkdir small
+cp few_steps small/s.sheet
+: > small/s.memory
+: > small/s.card.after
+call 0 night small
+lines 's card agrees' '' 'card: 1 agree, 0 differ, 0 missing, 0 refused, 0 unreadable' \
+    'night: 1 sheet, 1 card: 1 agree, 0 differ, 0 missing, 0 refused, 0 unreadable'
+
+# Nothing to compare is no agreement, and writes nothing.
+mkdir nothing cardless
+cp sheet cardless/s.sheet
+echo old > old
+cp old out
+for folder in nothing cardless; do
+    call 3 night "$folder" -o out --html out.html
+    silent
+    errors "moonbleat: $folder: no card's file, NAME.CARD.after, is there: nothing to compare"
+    same 'an output file' out old
+    absent out.html
+done
+call 3 night nowhere
+errors 'moonbleat: nowhere: No such file or directory'
+call 3 night sheet
+errors 'moonbleat: sheet: Not a directory'
+
+wrong 'night takes DIR' night
+wrong 'one folder is a night, and small is one more' night example small
+wrong '-j 0: not a number of processes, 1 to 1024' night example -j 0
+wrong '-j x: not a number of processes, 1 to 1024' night example -j x
+wrong '-j 1025: not a number of processes, 1 to 1024' night example -j 1025
+for shard in 0/2 3/2 1 1/ /2 1/0 a/b 1/2/3 1/4294967296; do
+    wrong "--shard $shard: not K/N, K from 1 to N" night example --shard "$shard"
+done
+wrong 'a report is --json or --csv, not both' night example --json --csv
+wrong 'standard output can take only one of the report and --html' night example --html -
+wrong '--merge takes neither --shard nor -j' night --merge part1.json --shard 1/2
+wrong '--merge takes neither --shard nor -j' night --merge part1.json -j 2
+call 1 night example --html - -o out
+same 'the page on standard output' stdout example_report.html
+same 'the report in a file' out example_report.txt
+
+# Outputs are written whole or not at all, and nothing else is.
+mkdir outputs
+cp old outputs/report
+cp old outputs/page
+(
+    trap '' XFSZ
+    ulimit -f 1
+    tool night example -o outputs/report --html outputs/page > stdout 2> stderr
+)
+if [ $? -eq 3 ]; then pass; else fail 'a full disk'; fi
+silent
+contains 'File too large' stderr
+same 'the report on a full disk' outputs/report old
+same 'the page on a full disk' outputs/page old
+if [ "$(ls -A outputs | tr '\n' ' ')" = 'page report ' ]; then pass; else fail "left: $(ls -A outputs)"; fi
+call 3 night example -o outputs/report --html nowhere/page
+errors 'moonbleat: nowhere/page: No such file or directory'
+same 'the report beside a page that cannot be written' outputs/report old
+call 3 night example -o outputs/report --html outputs/../outputs/report
+same 'a report and a page in one file' outputs/report old
+if [ -c /dev/full ]; then
+    tool night example > /dev/full 2> stderr
+    if [ $? -eq 3 ]; then pass; else fail 'a report to a full device'; fi
+    says 'moonbleat: standard output: No space left on device'
+fi
+
+# -- Reports that cannot be merged ---------------------------------------------------------------
+
+# unmerged TEXT REPORT..: exit status 3, nothing printed or written, and standard error is the text.
+unmerged() {
+    text=$1
+    shift
+    cp old out
+    call 3 night --merge "$@" -o out --html page.html
+    errors "moonbleat: $text"
+    same 'a report of unfit parts' out old
+    absent page.html
+}
+unmerged 'part 2 of 2 is missing' part1.json
+unmerged 'part 1 of 2 is missing' part2.json
+unmerged 'part 1 of 2 is given twice' part1.json part1.json
+unmerged 'part 1 of 2 is given twice' part1.json part2.json part1.json
+unmerged 'example_report.json: part 1 of 1, but part1.json is one of 2' part1.json example_report.json
+tool night example --shard 2/2 --json -o other2.json
+unmerged 'other2.json: its cards are not those of part1.json' part1.json other2.json
+unmerged 'nowhere.json: No such file or directory' part1.json nowhere.json
+
+# faulty LINE WHAT: broken.json is no report from this line on.
+faulty() {
+    cp old out
+    call 3 night --merge broken.json -o out
+    errors "moonbleat: broken.json: line $1: not a whole report of moonbleat night"
+    same "$2" out old
+}
+# Cut anywhere, it is no report: here after each of its lines and amid them.
+count=$(wc -l < alike_report.json)
+line=1
+while [ "$line" -lt "$count" ]; do
+    head -n "$line" alike_report.json > broken.json
+    faulty "$((line + 1))" "cut after line $line"
+    head -c -3 broken.json > cut.json && mv cut.json broken.json
+    call 3 night --merge broken.json
+    line=$((line + 1))
+done
+: > broken.json
+faulty 1 'an empty report'
+echo '{}' > broken.json
+faulty 1 'another object'
+cp example_report.txt broken.json
+faulty 1 'a text report'
+{ cat alike_report.json; echo x; } > broken.json
+faulty "$((count + 1))" 'more behind the report'
+# altered SED LINE: a report that was edited.
+altered() {
+    sed "$1" example_report.json > broken.json
+    if cmp -s example_report.json broken.json; then fail "nothing is altered by $1"; fi
+    faulty "$2" "$1"
+}
+head_lines=$(grep -n '"sheets": \[' example_report.json | cut -d: -f1)
+altered 's/"format": 1/"format": 2/' 2
+altered 's/moonbleat night/moonbleat/' 1
+altered 's/"part": 1/"part": 2/' 3
+altered 's/"parts": 1/"parts": 0/' 3
+altered 's/"alder", "birch"/"birch", "birch"/' 4
+altered '0,/"agrees"/s/"agrees"/"agreed"/' "$((head_lines + 2))"
+altered '0,/"agrees"}/s/"agrees"}/"differs"}/' "$((head_lines + 2))"
+altered 's/"byte": 80/"byte": -80/' "$(grep -n '"byte": 80,' example_report.json | cut -d: -f1)"
+altered 's/"byte": 80/"byte": 4294967296/' "$(grep -n '"byte": 80,' example_report.json | cut -d: -f1)"
+altered 's/"byte": 80/"bytes": 80/' "$(grep -n '"byte": 80,' example_report.json | cut -d: -f1)"
+altered '0,/xxxxxxxx/s/xxxxxxxx/xxxxxyxx/' "$(grep -n 'xxxxxxxx' example_report.json | head -n 1 | cut -d: -f1)"
+altered '0,/xxxxxxxx/s/xxxxxxxx/xxxxxxx/' "$(grep -n 'xxxxxxxx' example_report.json | head -n 1 | cut -d: -f1)"
+altered 's/"tag": 33/"tag": 32801/' "$(grep -n '"tag": 33' example_report.json | head -n 1 | cut -d: -f1)"
+altered 's/"sheet": "turned-u8"/"sheet": "aaa"/' "$(grep -n '"sheet": "turned-u8"' example_report.json | cut -d: -f1)"
+last=$(wc -l < example_report.json)
+altered "${last}s/\"differs\": [0-9]*/\"differs\": 0/" "$last"
+altered "${last}s/\"sheets\": [0-9]*/\"sheets\": 0/" "$last"
+# A sheet whose name is of the other part, by FNV-1a.
+name=$(python3 -c '
+def part(name):
+    value = 14695981039346656037
+    for byte in name.encode():
+        value = (value ^ byte) * 1099511628211 % 2**64
+    return value % 2 + 1
+print(next(n for n in map(str, range(100)) if part(n) == 2))')
+sed "0,/\"sheet\": \"sheet[0-9]*/s//\"sheet\": \"$name/" part1.json > broken.json
+call 3 night --merge broken.json part2.json
+errors "moonbleat: broken.json: line $((head_lines + 1)): not a whole report of moonbleat night"
+# Damaged in many ways.
+if python3 "$tests/night_fuzz.py" "$bin/moonbleat" example_report.json "${DAMAGED:-60}" > problems 2>&1; then
+    pass
+else
+    fail "$(tail -n 1 problems)"
+fi
+# Blanks and escapes as another program writes them.
+python3 -c 'import json, sys; json.dump(json.load(open(sys.argv[1])), open(sys.argv[2], "w"), indent=3)' \
+    bad_report.json rewritten.json
+reports 1 merged_report --merge rewritten.json
+agree 'a report that another program wrote' merged_report bad_report
+
+echo "tests of diff and night: $passed passed, $failed failed"
 [ "$failed" -eq 0 ]
