@@ -2,7 +2,7 @@
 # implementation. Everything is built in target/.
 #
 #   make            the tool, the examples and unhex, in target/tool/
-#   make demo       print the tape of strip 4 and carry it out
+#   make demo       print the tape of strip 4 and carry it out; compare three cards
 #   make archive    the library, target/staticlib/libmoonbleat.a
 #   make install    the tool, the library, its header, manual page and completion, below PREFIX
 #   make uninstall  take them away again
@@ -13,11 +13,12 @@
 #                   comparison, and on TEXTS damaged texts
 #   make compare    hold the archive to the second implementation; SHEETS=n SEED=n for other sheets
 #   make bench      time the archive beside it
+#   make night-speed  time a night of NIGHT sheets with eight cards
 #   make lint       cppcheck, warnings as errors, and the header as C++
 #   make check      lint, test, text-test and compare: all but the proofs
-#   make memcheck   the tool's tests with sanitizers, then with each third call under valgrind (all
-#                   of them would take six minutes), then 1,000 sheets of the comparison under it:
-#                   some two minutes
+#   make memcheck   the tool's tests with sanitizers, then with each third call (of diff and night:
+#                   each ninth) under valgrind, then 1,000 sheets of the comparison under it: some
+#                   three minutes
 #
 # The archive is made by `rt staticlib moonbleat`, which proves what is not proved yet: some
 # minutes the first time. ARCHIVE=path names another one.
@@ -27,6 +28,7 @@ ARCHIVE = target/staticlib/libmoonbleat.a
 SHEETS = 20000
 SEED = 1
 TEXTS = 30000
+NIGHT = 10000
 
 PREFIX = /usr/local
 BINDIR = $(PREFIX)/bin
@@ -121,10 +123,16 @@ demo: all
 	@$(TOOL)/moonbleat tape $(TOOL)/strip4.sheet
 	@echo '-- carried out on a memory whose byte i holds i'
 	@$(TOOL)/moonbleat run $(TOOL)/strip4.sheet $(TOOL)/strip4.memory
+	@echo '-- a night of three cards: birch reads mirrored edges wrongly, cedar stores where it must not'
+	@rm -rf $(TOOL)/night
+	@python3 examples/night/make_night.py $(TOOL)/night
+	@$(TOOL)/moonbleat night $(TOOL)/night --html $(TOOL)/night.html || test $$? -eq 1
+	@echo '-- the same as a page: $(TOOL)/night.html'
 
 tool-test: all
 	tests/tool.sh $(TOOL)
 	tests/examples.sh $(TOOL)
+	tests/night.sh $(TOOL)
 
 test: tool-test $(TOOL)/test-null $(TOOL)/test-stack $(SHEET_FILES)
 	$(TOOL)/test-null
@@ -134,6 +142,7 @@ test: tool-test $(TOOL)/test-null $(TOOL)/test-stack $(SHEET_FILES)
 memcheck: all
 	$(MAKE) $(SANITIZED) tool-test
 	RUNNER='$(VALGRIND) $(LEAKS)' EVERY=3 tests/tool.sh $(TOOL)
+	RUNNER='$(VALGRIND) $(LEAKS)' EVERY=9 tests/night.sh $(TOOL)
 	CARGO_TARGET_X86_64_UNKNOWN_LINUX_GNU_RUNNER='$(VALGRIND)' $(CARGO) run $(CARGO_WORDS) -- --sheets 1000
 
 # The sheets of the comparison as files.
@@ -156,6 +165,9 @@ compare: $(ARCHIVE)
 bench: $(ARCHIVE)
 	$(CARGO) run $(CARGO_WORDS) -- bench
 
+night-speed: all
+	python3 tests/night_speed.py $(TOOL)/moonbleat target/night-speed-$(NIGHT) $(NIGHT)
+
 lint:
 	cppcheck --quiet --std=c11 --enable=warning,style,performance,portability --inconclusive \
 		--error-exitcode=1 --suppress=missingIncludeSystem -Iinclude -Iharness harness tests
@@ -169,4 +181,4 @@ clean:
 
 FORCE:
 
-.PHONY: all archive install uninstall dist demo tool-test test text-test memcheck compare bench lint check clean FORCE
+.PHONY: all archive install uninstall dist demo tool-test test text-test memcheck compare bench night-speed lint check clean FORCE

@@ -27,7 +27,7 @@ static int write_sheet(const struct request *request, const struct assembly *ass
     if (number != 0) {
         fprintf(stderr, "%s: warning: %s\n", request->files[0], refusal_line(&refused).at);
     }
-    const struct output output = {request->words[OPTION_OUT], sheet->at, sheet->len};
+    const struct output output = {request->words[OPTION_OUT], sheet->at, sheet->len, NULL};
     return write_outputs(&output, 1) ? DONE : FAILED;
 }
 

@@ -29,8 +29,8 @@ static int finish_run(const struct command *command, const struct request *reque
     const char *memory_name = request->words[OPTION_OUT], *registers_name = request->words[OPTION_REGISTERS];
     uint8_t registers[REGISTERS_BYTES];
     registers_bytes(result, registers);
-    const struct output outputs[] = {{memory_name, memory->at, memory->len},
-                                     {registers_name, registers, sizeof registers}};
+    const struct output outputs[] = {{memory_name, memory->at, memory->len, NULL},
+                                     {registers_name, registers, sizeof registers, NULL}};
     if (!write_outputs(outputs, sizeof outputs / sizeof outputs[0])) {
         return FAILED;
     }

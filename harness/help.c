@@ -26,7 +26,8 @@ static const struct section sections[] = {
      "link is written through. A number is decimal, or hex behind 0x. A word after -- is a file.\n"},
     {"EXIT STATUS",
      "0 accepted; 1 refused, with number, place and sentence on standard error (with --json in the\n"
-     "object); 2 wrong use; 3 a file could not be read or written, or a line of it is wrong.\n"},
+     "object); 2 wrong use; 3 a file could not be read or written, or a line of it is wrong.\n"
+     "diff and night: see there.\n"},
 };
 
 enum { SECTIONS = sizeof sections / sizeof sections[0] };
@@ -34,7 +35,8 @@ enum { SECTIONS = sizeof sections / sizeof sections[0] };
 static void add_option(struct text *text, const struct option_form *form, bool needed)
 {
     const char *value = form->value == NULL ? "" : form->value;
-    add_text(text, " %s%s%s%s%s", needed ? "" : "[", form->name, *value == '\0' ? "" : " ", value, needed ? "" : "]");
+    add_text(text, " %s%s%s%s%s%s", needed ? "" : "[", form->name, *value == '\0' ? "" : " ", value,
+             needed ? "" : "]", form->repeats ? " .." : "");
 }
 
 /* A command with its files and options, as it is written on the command line. */

@@ -11,14 +11,13 @@ static int perform(const struct command *command, char **words, size_t count)
 {
     struct request request;
     int status = parse_request(command, words, count, &request);
-    if (status != DONE) {
-        return status;
-    }
-    if (request.help) {
+    if (status == DONE && request.help) {
         print_help(command);
-        return DONE;
+    } else if (status == DONE) {
+        status = command->perform(&request);
     }
-    return command->perform(&request);
+    free_request(&request);
+    return status;
 }
 
 /* What was printed must have arrived. */

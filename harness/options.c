@@ -2,6 +2,7 @@
 
 #include <stdarg.h>
 #include <stdio.h>
+#include <stdlib.h>
 #include <string.h>
 
 #include "command.h"
@@ -12,11 +13,21 @@
 
 const struct option_form option_forms[OPTIONS] = {
     [OPTION_MEMORY] = {"--memory", "N", "the memory's length in bytes, decimal or 0x and hex; 65536 if not given"},
-    [OPTION_OUT] = {"-o", "OUT", "write what comes out to OUT: the memory afterwards, or the sheet of asm"},
+    [OPTION_OUT] = {"-o", "OUT",
+                    "write what comes out to OUT: the memory afterwards, the sheet of asm, or the report of night"},
     [OPTION_REGISTERS] = {"--registers", "FILE", "write the registers to FILE: 16 type bytes, then 1024 elements"},
     [OPTION_JSON] = {"--json", NULL, "print one JSON object in place of text"},
     [OPTION_ASM] = {"--asm", NULL, "print the text form, which asm takes"},
     [OPTION_MAN] = {"--man", NULL, "print the manual page"},
+    [OPTION_CARD] = {"--card", "NAME=AFTER", "compare card NAME, which left the memory AFTER", .repeats = true},
+    [OPTION_CARD_REGISTERS] = {"--registers", "NAME=FILE",
+                               "compare its registers too: FILE is as run --registers writes it", .repeats = true},
+    [OPTION_ALL] = {"--all", NULL, "list every difference, in runs"},
+    [OPTION_JOBS] = {"-j", "N", "work in N processes; the output is the same"},
+    [OPTION_CSV] = {"--csv", NULL, "print a table of comma-separated values in place of text"},
+    [OPTION_HTML] = {"--html", "FILE", "also write the report to FILE as a page to send"},
+    [OPTION_SHARD] = {"--shard", "K/N", "take the K-th of N parts of the folder's sheets"},
+    [OPTION_MERGE] = {"--merge", NULL, "make one report of the JSON reports of all parts"},
 };
 
 int wrong_use(const struct command *command, const char *format, ...)
@@ -86,8 +97,11 @@ static int take_option(const struct command *command, char **words, size_t count
     if (form->value != NULL && value == NULL) {
         return wrong_use(command, "%s needs a word after it", form->name);
     }
-    if (request->words[option] != NULL) {
+    if (request->words[option] != NULL && !form->repeats) {
         return wrong_use(command, "%s is given twice", form->name);
+    }
+    if (form->repeats) {
+        request->repeated[request->repeated_count++] = (struct repeated){option, value};
     }
     request->words[option] = form->value == NULL ? form->name : value;
     return option == OPTION_MEMORY ? take_memory(command, value, request) : DONE;
@@ -161,6 +175,16 @@ static int check_request(const struct command *command, const struct request *re
 int parse_request(const struct command *command, char **words, size_t count, struct request *request)
 {
     *request = (struct request){.files = words, .memory = MOONBLEAT_MEMORY_MAX};
+    request->repeated = calloc(count + 1, sizeof request->repeated[0]);
+    if (request->repeated == NULL) {
+        complain(command->name);
+        return FAILED;
+    }
     int status = take_words(command, words, count, request);
     return status == DONE && !request->help ? check_request(command, request) : status;
+}
+
+void free_request(struct request *request)
+{
+    free(request->repeated);
 }

@@ -6,7 +6,23 @@
 #include <stddef.h>
 
 /* Every option that some command takes; its row is in options.c. */
-enum option { OPTION_MEMORY, OPTION_OUT, OPTION_REGISTERS, OPTION_JSON, OPTION_ASM, OPTION_MAN, OPTIONS };
+enum option {
+    OPTION_MEMORY,
+    OPTION_OUT,
+    OPTION_REGISTERS,
+    OPTION_JSON,
+    OPTION_ASM,
+    OPTION_MAN,
+    OPTION_CARD,
+    OPTION_CARD_REGISTERS,
+    OPTION_ALL,
+    OPTION_JOBS,
+    OPTION_CSV,
+    OPTION_HTML,
+    OPTION_SHARD,
+    OPTION_MERGE,
+    OPTIONS
+};
 
 /* An option in a set of options. */
 #define SET(option) (1u << (option))
@@ -15,15 +31,24 @@ struct option_form {
     const char *name;
     const char *value; /* what the help calls the word after it; NULL for a switch */
     const char *help;
+    bool repeats; /* may be given more than once */
 };
 
 extern const struct option_form option_forms[OPTIONS];
+
+/* An option that repeats, once. */
+struct repeated {
+    enum option option;
+    const char *word;
+};
 
 /* What the command line asks for. */
 struct request {
     char **files;
     size_t file_count;
-    const char *words[OPTIONS]; /* of each option that is given its word, of a switch its name */
+    const char *words[OPTIONS]; /* of each option that is given its (last) word, of a switch its name */
+    struct repeated *repeated;  /* all words of options that repeat, in order */
+    size_t repeated_count;
     size_t memory;              /* 65,536 where --memory is not given */
     bool help;                  /* --help: nothing else counts */
 };
@@ -37,5 +62,8 @@ int wrong_use(const struct command *command, const char *format, ...) __attribut
 /* Reads the words after a command's name; gives an exit status. The files are moved to the front
  * of `words`. */
 int parse_request(const struct command *command, char **words, size_t count, struct request *request);
+
+/* Frees what a request holds, whatever its parsing gave. */
+void free_request(struct request *request);
 
 #endif

@@ -10,6 +10,7 @@
 #include <unistd.h>
 
 #include "files.h"
+#include "spool.h"
 
 enum { OUTPUTS_MAX = 2 };
 
@@ -24,20 +25,12 @@ bool is_standard_output(const char *name)
     return name != NULL && strcmp(name, STANDARD_STREAM) == 0;
 }
 
-/* Writes all bytes to a descriptor, in as many pieces as it takes. */
-static bool write_all(int file, const uint8_t *bytes, size_t len)
+static bool put_output(const struct output *output, FILE *file)
 {
-    while (len > 0) {
-        ssize_t count = write(file, bytes, len);
-        if (count < 0 && errno != EINTR) {
-            return false;
-        }
-        if (count > 0) {
-            bytes += count;
-            len -= (size_t)count;
-        }
+    if (output->spool != NULL) {
+        return copy_spool(output->spool, file);
     }
-    return true;
+    return fwrite(output->bytes, 1, output->len, file) == output->len;
 }
 
 /* The mode that a new file would get: mkstemp makes files for their owner alone. */
@@ -69,11 +62,16 @@ static char *resolve(const char *name, mode_t *mode)
 }
 
 /* Fills the file that mkstemp opened. */
-static bool fill(int file, const struct output *output, mode_t mode)
+static bool fill(int descriptor, const struct output *output, mode_t mode)
 {
-    bool done = write_all(file, output->bytes, output->len) && fchmod(file, mode) == 0;
+    FILE *file = fdopen(descriptor, "wb");
+    if (file == NULL) {
+        close(descriptor);
+        return false;
+    }
+    bool done = put_output(output, file) && fflush(file) == 0 && fchmod(descriptor, mode) == 0;
     int reason = errno;
-    if (close(file) != 0 && done) {
+    if (fclose(file) != 0 && done) {
         return false;
     }
     errno = reason;
@@ -153,7 +151,7 @@ static bool finish(const struct output *outputs, size_t count, struct pending *p
 {
     for (size_t i = 0; i < count; i++) {
         if (is_standard_output(outputs[i].name)) {
-            fwrite(outputs[i].bytes, 1, outputs[i].len, stdout);
+            put_output(&outputs[i], stdout);
         } else if (pending[i].temporary != NULL) {
             if (rename(pending[i].temporary, pending[i].target) != 0) {
                 complain(outputs[i].name);

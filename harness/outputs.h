@@ -5,11 +5,13 @@
 #include <stdbool.h>
 #include <stddef.h>
 #include <stdint.h>
+#include <stdio.h>
 
 struct output {
     const char *name; /* NULL: nothing is to be written */
     const uint8_t *bytes;
     size_t len;
+    FILE *spool; /* if not NULL, what was written to it is written in place of the bytes */
 };
 
 /* Writes all of the outputs: each under another name beside its place first, so that a file that

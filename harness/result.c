@@ -18,6 +18,18 @@ void registers_bytes(const struct result *result, uint8_t bytes[REGISTERS_BYTES]
     }
 }
 
+void registers_result(const uint8_t bytes[REGISTERS_BYTES], struct result *result)
+{
+    memcpy(result->types, bytes, MOONBLEAT_TYPES);
+    const uint8_t *at = bytes + MOONBLEAT_TYPES;
+    for (size_t i = 0; i < MOONBLEAT_ELEMENTS; i++) {
+        result->elements[i] = 0;
+        for (unsigned shift = 0; shift < 32; shift += 8) {
+            result->elements[i] |= (uint32_t)*at++ << shift;
+        }
+    }
+}
+
 /* The width of the widest value. */
 static int value_width(uint8_t kind, const uint32_t *elements, size_t count)
 {

@@ -20,6 +20,9 @@ enum { REGISTERS_BYTES = MOONBLEAT_TYPES + 4 * MOONBLEAT_ELEMENTS };
 /* The registers as a file has them; elements are little-endian. */
 void registers_bytes(const struct result *result, uint8_t bytes[REGISTERS_BYTES]);
 
+/* The other way: types and elements of a file's bytes; the answer stays. */
+void registers_result(const uint8_t bytes[REGISTERS_BYTES], struct result *result);
+
 /* Prints how many elements had a byte. */
 void print_accepted(const uint32_t answer[4]);
 

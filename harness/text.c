@@ -14,3 +14,8 @@ void add_text(struct text *text, const char *format, ...)
         text->len += (size_t)len < room ? (size_t)len : room - 1;
     }
 }
+
+const char *plural(size_t count)
+{
+    return count == 1 ? "" : "s";
+}

@@ -14,4 +14,7 @@ struct text {
 
 void add_text(struct text *text, const char *format, ...) __attribute__((format(printf, 2, 3)));
 
+/* The end of a noun behind a count: "s", or nothing behind 1. */
+const char *plural(size_t count);
+
 #endif

@@ -5,14 +5,8 @@
 #
 #   tests/examples.sh FOLDER      FOLDER has the programs moonbleat and unhex
 
-set -u
-bin=$(cd "$1" && pwd) || exit 2
-root=$(cd "$(dirname "$0")/.." && pwd) || exit 2
-work=$(mktemp -d) || exit 2
-trap 'rm -rf "$work"' EXIT
-cd "$work" || exit 2
-passed=0
-failed=0
+# shellcheck source=tests/common.sh
+. "$(dirname "$0")/common.sh"
 
 # Each block into a file NUMBER.KIND.
 awk '/^```[a-z]+$/ { file = sprintf("%02d.%s", ++count, substr($0, 4)); next }
@@ -25,30 +19,20 @@ while [ "$i" -lt 256 ]; do
     i=$((i + 1))
 done > memory
 
-# fail NAME WHAT
-fail() {
-    failed=$((failed + 1))
-    echo "FAILED: docs/SHEETS.md, block $1: $2"
-}
-
 # gives NAME COMMAND..: the command must print the block.
 gives() {
     name=$1
     shift
     "$@" > printed 2>&1
-    if cmp -s printed "$name"; then
-        passed=$((passed + 1))
-    else
-        fail "$name" "$(diff printed "$name" | head -n 5)"
-    fi
+    same "docs/SHEETS.md, block $name" printed "$name"
 }
 
 # assembles NAME: the block must be a text without errors; a warning may come.
 assembles() {
     if "$bin/moonbleat" asm "$1" -o sheet > printed 2>&1; then
-        passed=$((passed + 1))
+        pass
     else
-        fail "$1" "$(head -n 5 printed)"
+        fail "docs/SHEETS.md, block $1: $(head -n 5 printed)"
     fi
 }
 
@@ -59,7 +43,7 @@ for block in [0-9]*; do
         *.tape) gives "$block" "$bin/moonbleat" tape sheet ;;
         *.hex) "$bin/unhex" < "$block" > bytes && gives bytes cat sheet ;;
         *.refusal) sed 's/^/moonbleat: /' "$block" > line && gives line "$bin/moonbleat" check sheet --memory 256 ;;
-        *) fail "$block" 'of no known kind' ;;
+        *) fail "docs/SHEETS.md, block $block: of no known kind" ;;
     esac
 done
 

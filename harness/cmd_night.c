@@ -1,0 +1,276 @@
+/* night: every card of a night's folder on every sheet, and the report of it. */
+#include <stdlib.h>
+#include <string.h>
+
+#include "command.h"
+#include "files.h"
+#include "folder.h"
+#include "merge.h"
+#include "numbers.h"
+#include "outputs.h"
+#include "page.h"
+#include "progress.h"
+#include "report.h"
+#include "spool.h"
+#include "workers.h"
+
+enum { JOBS_MAX = 1024 };
+
+/* Where the report goes. */
+struct report_out {
+    const struct form *form;
+    const char *name; /* NULL: standard output, as the sheets are judged */
+    FILE *file;
+    const char *page_name; /* NULL: no page */
+    struct page *page;
+};
+
+/* -- The command line ------------------------------------------------------------------------- */
+
+static bool parse_count(const char *word, size_t len, uint32_t limit, uint32_t *count)
+{
+    uint64_t number;
+    bool done = parse_number(word, len, &number) && number >= 1 && number <= limit;
+    *count = done ? (uint32_t)number : 0;
+    return done;
+}
+
+static int parse_jobs(const struct request *request, uint32_t *jobs)
+{
+    const char *word = request->words[OPTION_JOBS];
+    *jobs = 1;
+    if (word != NULL && !parse_count(word, strlen(word), JOBS_MAX, jobs)) {
+        return wrong_use(&night_command, "-j %s: not a number of processes, 1 to %d", word, JOBS_MAX);
+    }
+    return DONE;
+}
+
+static int parse_shard(const struct request *request, struct shard *shard)
+{
+    const char *word = request->words[OPTION_SHARD];
+    *shard = (struct shard){1, 1};
+    if (word == NULL) {
+        return DONE;
+    }
+    const char *slash = strchr(word, '/');
+    if (slash == NULL || !parse_count(slash + 1, strlen(slash + 1), UINT32_MAX, &shard->parts) ||
+        !parse_count(word, (size_t)(slash - word), shard->parts, &shard->part)) {
+        return wrong_use(&night_command, "--shard %s: not K/N, K from 1 to N", word);
+    }
+    return DONE;
+}
+
+/* What the options leave open: what each means together with the others. */
+static int check_night(const struct request *request)
+{
+    const char *const *words = request->words;
+    const char *out = words[OPTION_OUT];
+    if (words[OPTION_JSON] != NULL && words[OPTION_CSV] != NULL) {
+        return wrong_use(&night_command, "a report is --json or --csv, not both");
+    }
+    if (is_standard_output(words[OPTION_HTML]) && (out == NULL || is_standard_output(out))) {
+        return wrong_use(&night_command, "standard output can take only one of the report and --html");
+    }
+    if (words[OPTION_MERGE] != NULL && (words[OPTION_SHARD] != NULL || words[OPTION_JOBS] != NULL)) {
+        return wrong_use(&night_command, "--merge takes neither --shard nor -j");
+    }
+    if (words[OPTION_MERGE] == NULL && request->file_count > 1) {
+        return wrong_use(&night_command, "one folder is a night, and %s is one more", request->files[1]);
+    }
+    return DONE;
+}
+
+/* -- The report ------------------------------------------------------------------------------- */
+
+static void close_report_out(struct report_out *out)
+{
+    if (out->file != NULL && out->name != NULL) {
+        fclose(out->file);
+    }
+    free_page(out->page);
+}
+
+static bool open_report_out(const struct request *request, const struct night *night, struct report_out *out)
+{
+    const char *const *words = request->words;
+    const struct form *form = words[OPTION_JSON] != NULL ? &json_form : &text_form;
+    *out = (struct report_out){
+        .form = words[OPTION_CSV] != NULL ? &csv_form : form,
+        .name = words[OPTION_OUT],
+        .file = words[OPTION_OUT] == NULL ? stdout : open_spool(),
+        .page_name = words[OPTION_HTML],
+    };
+    out->page = out->page_name == NULL ? NULL : new_page();
+    if (out->file == NULL || (out->page_name != NULL && out->page == NULL)) {
+        close_report_out(out);
+        return false;
+    }
+    if (out->form->begin != NULL) {
+        out->form->begin(out->file, night);
+    }
+    return true;
+}
+
+static void report_sheet(struct report_out *out, struct night *night, const char *name,
+                         const struct finding *findings)
+{
+    out->form->sheet(out->file, night, name, findings);
+    if (out->page != NULL) {
+        put_page_sheet(out->page, night, name, findings);
+    }
+    count_findings(night, findings);
+}
+
+/* Writes the files that are named: all of them, or none. */
+static bool write_report(struct report_out *out, const struct night *night)
+{
+    FILE *page = NULL;
+    if (out->form->end != NULL) {
+        out->form->end(out->file, night);
+    }
+    if (out->page != NULL && (page = finish_page(out->page, night)) == NULL) {
+        return false;
+    }
+    const struct output outputs[] = {{.name = out->name, .spool = out->file}, {.name = out->page_name, .spool = page}};
+    return write_outputs(outputs, sizeof outputs / sizeof outputs[0]);
+}
+
+/* -- From a folder ---------------------------------------------------------------------------- */
+
+static bool report_folder(const struct folder *folder, const struct workers *workers, struct report_out *out,
+                          struct night *night)
+{
+    struct progress progress;
+    struct finding *findings = calloc(folder->cards.count, sizeof findings[0]);
+    bool done = findings != NULL;
+    start_progress(&progress, folder->sheets.count);
+    for (size_t i = 0; done && i < folder->sheets.count; i++) {
+        done = get_findings(workers, i, findings);
+        hide_progress(&progress);
+        if (done) {
+            report_sheet(out, night, folder->sheets.at[i], findings);
+            show_progress(&progress, i + 1);
+        }
+    }
+    hide_progress(&progress);
+    free(findings);
+    return done;
+}
+
+static bool judge_folder(const struct folder *folder, size_t jobs, struct report_out *out, struct night *night)
+{
+    struct workers workers;
+    size_t most = folder->sheets.count > 1 ? folder->sheets.count : 1;
+    if (!start_workers(folder, jobs < most ? jobs : most, &workers)) {
+        return false;
+    }
+    bool done = report_folder(folder, &workers, out, night);
+    stop_workers(&workers);
+    return done;
+}
+
+/* -- From reports ----------------------------------------------------------------------------- */
+
+static bool report_merge(const struct merge *merge, struct report_out *out, struct night *night)
+{
+    bool done = true;
+    for (struct report_in *next = next_report(merge); done && next != NULL; next = next_report(merge)) {
+        report_sheet(out, night, next->name, next->findings);
+        done = next_sheet(next);
+    }
+    return done;
+}
+
+/* -- Both ------------------------------------------------------------------------------------- */
+
+/* What a report is made of: a folder, or reports of its parts. */
+struct source {
+    const struct folder *folder;
+    size_t jobs;
+    const struct merge *merge;
+};
+
+static int make_report(const struct request *request, const struct source *source, const struct list *cards,
+                       const struct shard *shard)
+{
+    struct night night;
+    struct report_out out;
+    if (!begin_night(&night, cards, shard)) {
+        complain(request->files[0]);
+        return FAILED;
+    }
+    int status = FAILED;
+    if (open_report_out(request, &night, &out)) {
+        bool done = source->merge != NULL ? report_merge(source->merge, &out, &night)
+                                          : judge_folder(source->folder, source->jobs, &out, &night);
+        if (done && write_report(&out, &night)) {
+            status = tally_status(&night.total);
+        }
+        close_report_out(&out);
+    }
+    end_night(&night);
+    return status;
+}
+
+static int merge_night(const struct request *request)
+{
+    struct merge merge;
+    if (!open_merge(request->files, request->file_count, &merge)) {
+        return FAILED;
+    }
+    int status = make_report(request, &(struct source){.merge = &merge}, merged_cards(&merge), &(struct shard){1, 1});
+    close_merge(&merge);
+    return status;
+}
+
+static int judge_night(const struct request *request)
+{
+    uint32_t jobs;
+    struct shard shard;
+    struct folder folder;
+    int status = parse_jobs(request, &jobs);
+    if (status == DONE) {
+        status = parse_shard(request, &shard);
+    }
+    if (status != DONE) {
+        return status;
+    }
+    if (!open_folder(request->files[0], &shard, &folder)) {
+        return FAILED;
+    }
+    if (folder.cards.count > 0) {
+        status = make_report(request, &(struct source){.folder = &folder, .jobs = jobs}, &folder.cards, &shard);
+    } else {
+        fprintf(stderr, "moonbleat: %s: no card's file, NAME.CARD.after, is there: nothing to compare\n",
+                request->files[0]);
+        status = FAILED;
+    }
+    close_folder(&folder);
+    return status;
+}
+
+static int do_night(const struct request *request)
+{
+    int status = check_night(request);
+    if (status != DONE) {
+        return status;
+    }
+    return request->words[OPTION_MERGE] != NULL ? merge_night(request) : judge_night(request);
+}
+
+const struct command night_command = {
+    .name = "night",
+    .files = "DIR",
+    .files_min = 1,
+    .files_max = SIZE_MAX,
+    .takes = SET(OPTION_JOBS) | SET(OPTION_JSON) | SET(OPTION_CSV) | SET(OPTION_OUT) | SET(OPTION_HTML) |
+             SET(OPTION_SHARD) | SET(OPTION_MERGE),
+    .summary = "compare every card of a night's folder on every sheet",
+    .details = "DIR has files NAME.sheet (or NAME.txt, the text form), NAME.memory, NAME.CARD.after and, if the\n"
+               "card has them, NAME.CARD.registers. A line for each sheet and card: agrees, differs, missing,\n"
+               "refused or unreadable, then totals. With --merge the files are JSON reports of all parts that\n"
+               "--shard made, in place of DIR, and the report is that of one run.\n"
+               "Exit status: 1 some card differs; else 3 a file is missing or cannot be read; else 4 a sheet is\n"
+               "refused; else 0, all agree. 2 is wrong use.\n",
+    .perform = do_night,
+};

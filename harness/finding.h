@@ -1,0 +1,119 @@
+/* What is found when a card's files are held to the reference, and how it is said. */
+#ifndef FINDING_H
+#define FINDING_H
+
+#include <stdbool.h>
+#include <stddef.h>
+#include <stdint.h>
+
+#include "moonbleat.h"
+#include "names.h"
+#include "origins.h"
+#include "text.h"
+
+/* For one sheet and one card. Only the first two are of the card; the others say why it could not
+ * be judged. */
+enum verdict { VERDICT_AGREES, VERDICT_DIFFERS, VERDICT_MISSING, VERDICT_REFUSED, VERDICT_UNREADABLE, VERDICTS };
+
+/* The files that a verdict needs. */
+enum part { PART_SHEET, PART_TEXT, PART_MEMORY, PART_AFTER, PART_REGISTERS, PARTS };
+
+/* The bytes of memory that differ. */
+struct memory_difference {
+    uint32_t bytes; /* how many; if 0, the rest is 0 too */
+    uint32_t runs;
+    uint32_t byte; /* the first of them */
+    uint32_t wants;
+    uint32_t has;
+    uint32_t stored; /* 1 if some step stores to it: */
+    struct origin origin;
+};
+
+/* A register as its type and one element. */
+struct register_state {
+    uint32_t kind;
+    uint32_t rows;
+    uint32_t columns;
+    uint32_t use;
+    uint32_t bits; /* of the element, where the types agree */
+};
+
+/* The registers that differ. */
+struct register_difference {
+    uint32_t registers; /* how many; if 0, the rest is 0 too */
+    uint32_t reg;       /* the first of them */
+    uint32_t typed;     /* 1 if the types agree, and this is its first element that differs: */
+    uint32_t element;
+    uint32_t given; /* 1 if some step gives the register its matrix: */
+    uint32_t step;
+    uint32_t tag;
+    struct register_state wants;
+    struct register_state has;
+};
+
+/* The matrix of the first difference: of the store's, or of the register. */
+enum cell { CELL_ELSEWHERE = '.', CELL_AGREES = '=', CELL_DIFFERS = 'x' };
+struct map {
+    uint32_t rows; /* 0: there is none */
+    uint32_t columns;
+    char cells[MOONBLEAT_REGISTER_ELEMENTS];
+};
+
+struct finding {
+    uint32_t verdict;
+    uint32_t part; /* of a missing or unreadable file */
+    uint32_t refusal[3];
+    struct memory_difference memory;
+    struct register_difference registers;
+    struct map map;
+    char reason[TEXT_ROOM]; /* why a file is unreadable or the sheet refused */
+};
+
+/* How often each verdict was given. */
+struct tally {
+    size_t counts[VERDICTS];
+};
+
+/* "agrees", "differs", .. */
+const char *verdict_name(unsigned verdict);
+
+/* What follows the dots of a file's name, as "after". */
+const char *part_suffix(unsigned part);
+
+/* Whether a part is a file of the card's own; the others are the sheet's, and of all cards. */
+bool is_cards_part(unsigned part);
+
+/* The name of a file of the night: NAME.SUFFIX, or NAME.CARD.SUFFIX. */
+void add_part_name(struct text *text, const char *name, const char *card, unsigned part);
+
+/* Adds where a byte comes from: "step 6 store r2, element 11 (0, 11), byte 0 of 4", or "no step writes
+ * there" for NULL. */
+void add_origin(struct text *text, const struct origin *origin);
+
+/* Adds which step gives a register its matrix: "step 4 load r1", or "no step gives it". */
+void add_giver(struct text *text, const struct register_difference *difference);
+
+/* Adds one register's first difference: "register 1, element 3 (0, 3) wants 2, has 5; step 4 load r1". */
+void add_register(struct text *text, const struct register_difference *difference);
+
+/* Add the first difference, its origin and how much differs, "byte 300 wants 00, has 55; .."; nothing
+ * where nothing differs. */
+void add_memory_difference(struct text *text, const struct memory_difference *difference);
+void add_register_difference(struct text *text, const struct register_difference *difference);
+
+/* Adds what is wrong in words: the differences, or the reason; nothing for a card that agrees and a
+ * file that is missing. */
+void add_words(struct text *text, const struct finding *finding);
+
+/* Writes what was found for a card: "differs: byte 300 ..". `file` is the one that is missing or
+ * unreadable. */
+void put_finding(const struct sink *sink, const struct finding *finding, const char *file);
+
+/* The number of verdicts in a tally. */
+size_t tally_sum(const struct tally *tally);
+
+/* The exit status that a tally stands for: DIFFER if some card differs, else FAILED if a file is missing
+ * or unreadable, else SHEET_REFUSED if a sheet is refused, else DONE. */
+int tally_status(const struct tally *tally);
+
+#endif
