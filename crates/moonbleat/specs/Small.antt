@@ -10,7 +10,7 @@ use lib.Dec.{eqb, ltb, leb}
 use lib.IntN.{ℤ}
 use lib.ListN.{length}
 use Rattle.numbers.specs.Choice.{pick, pick-case}
-use Rattle.sheet.specs.Sheets.{emptySheet, writable}
+use Rattle.sheet.specs.Sheets.{emptySheet, noTensors, writable}
 use Rattle.sheet.specs.Steps.{theStep}
 use Rattle.refusals.specs.declared.Refusal.{Refusal}
 use Rattle.sheet.specs.declared.Tensors.{Tensors}
@@ -86,10 +86,10 @@ abbrev pub SmallSheet : Sheet → Type 0
 SmallSheet sh = (sh .tensors .layouts < 2 ^ 32) × (sh .tensors .views < 2 ^ 32) × (sh .steps < 2 ^ 32)
 
 pub counts-small : (s : List ℕ) → SmallSheet (readSheet s .sheet)
-unfolding refusedRead acceptedRead emptySheet
+unfolding refusedRead acceptedRead emptySheet noTensors
 counts-small s =
     reading s (λ (r : ReadAnswer). SmallSheet (r .sheet)) (λ n at h m l. (omega arith, omega arith, omega arith))
-    (λ sh g. let w = g .within in (omega (arith, w .tensors .layouts), omega (arith, w .tensors .views), omega (arith, within-places w)))
+    (λ sh g. let w = g .grown .within in (omega (arith, w .tensors .layouts), omega (arith, w .tensors .views), omega (arith, within-places w)))
 
 pub written-small : (sh : Sheet) (room : ℕ) → Small (written sh room .refusal) (written sh room .bytes)
 unfolding written
