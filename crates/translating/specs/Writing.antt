@@ -1,12 +1,13 @@
--- What the functions that count and write records begin with, and what they leave: a load, a store or a step that its check accepts, and
--- records written from one of a tape on.
+-- What the functions that count and write records begin with, and what they leave: a load, a store or a step that its check accepts, the
+-- entries of its survey, and records written from one of a tape on.
 use Prim.Native.Nat.{ℕ, _+_, _*_, _≤_}
 use mathlib.Core.Path.{_≡_}
 use mathlib.Core.Bool.{Bool, true}
 use mathlib.Core.List.{List}
 use lib.IntN.{ℤ}
-use lib.ListN.{length}
+use lib.ListN.{length, getD}
 use lib.Seq.{sets}
+use Rattle.outcomes.specs.declared.Outcome.{Outcome}
 use Rattle.sheet.specs.Steps.{windowOk, stepOk}
 use Rattle.sheet.specs.Laws.Within.{TensorsWithin}
 use Rattle.sheet.specs.declared.Window.{Window}
@@ -14,6 +15,7 @@ use Rattle.sheet.specs.declared.Tensors.{Tensors}
 use Rattle.sheet.specs.declared.Step.{Step}
 use Rattle.registers.specs.Sized.{SizedType, Sized}
 use Rattle.registers.specs.declared.MatrixType.{MatrixType}
+use Rattle.accesses.specs.Entries.{entryOutcome}
 use Rattle.checking.specs.Steps.{accessOf, checkedStep}
 use Rattle.checking.specs.Checking.{memoryLimit}
 use Rattle.checking.specs.Clear.{Clear}
@@ -36,6 +38,10 @@ pub record ClearStep (tensors : Tensors) (ts : List MatrixType) (len : ℕ) (ste
   pub edition : ℕ
   pub ok : stepOk edition (tensors .layouts) (tensors .views) step ≡ true
   pub clear : checkedStep edition tensors ts len step .stop .number ≡ 0
+
+-- the outcomes that the entries of a survey stand for, where filled elements take these bits
+abbrev pub entriesOutcome : List ℕ → ℕ → ℕ → Outcome
+entriesOutcome entries fill k = entryOutcome fill (getD entries k 0)
 
 -- a tape has room for records from record `at` on
 abbrev pub Room : List ℤ → ℕ → List Record → Type 0

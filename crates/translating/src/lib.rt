@@ -9,19 +9,14 @@ ghost use Rattle.sheet.specs.Sizes.{registerCount, stepPlaces, matrixPlaces};
 ghost use Rattle.sheet.specs.Steps.{objectOk};
 ghost use Rattle.sheet.specs.Laws.Within.{Within};
 ghost use Rattle.addressing.specs.Rules.{elementsOf};
-ghost use Rattle.addressing.specs.Plans.{planned};
-ghost use Rattle.addressing.specs.Valid.{Planned};
-ghost use Rattle.accesses.specs.Refusals.{accessRefusal};
 ghost use Rattle.transfers.specs.Transfers.{outcomeOf};
 ghost use Rattle.checking.specs.Steps.{accessOf};
 ghost use Rattle.checking.specs.Checking.{memoryLimit, checked};
 ghost use Rattle.records.specs.Records.{tapeNumbers};
-ghost use Rattle.runs.specs.Runs.{runs};
+ghost use Rattle.runs.specs.Runs.{runs, runsRecords};
 ghost use Rattle.translating.specs.Tapes.{copyRecords, accessRecords, stepRecords, tapeOf};
 ghost use Rattle.translating.specs.Translating.{translateAnswer, translated, translatedRoom};
-ghost use Rattle.translating.specs.Writing.{ClearWindow, ClearStep, Room, Wrote};
-use accesses::ELEMENTS;
-use addressing::Plan;
+ghost use Rattle.translating.specs.Writing.{ClearWindow, ClearStep, entriesOutcome, Room, Wrote};
 use checking::checks;
 use checking::windows;
 use records::Record;
@@ -34,6 +29,7 @@ use sheet::Sheet;
 use sheet::Step;
 use sheet::Tensors;
 use sheet::Window;
+use sheet::sizes::PLACES;
 use sheet::sizes::REGISTERS;
 
 // The answer of translating: a refusal, or how many elements of loads and stores have a byte and how many records were written.
@@ -43,15 +39,11 @@ pub struct TranslateAnswer {
     pub records: usize,
 }
 
-// How many runs a load or a store makes that is not refused. The entries are lent room.
-fn count_runs(entries: &mut [u32; ELEMENTS], p: Plan) -> usize
-    requires { ⌜ Planned p × (accessRefusal (p .access) .number ≡ 0) × (length (now entries) ≡ matrixPlaces) ⌝ }
-    ensures { λ _. ⌜ length (now (entries .exit)) ≡ matrixPlaces ⌝ }
-    ensures { λ r. ⌜ r ≡ length (runs (outcomeOf (p .access)) (elementsOf (p .access))) ⌝ }
+// How many runs the first `n` elements of a survey make.
+fn count_runs(entries: &[u32; PLACES], n: usize, fill: u32) -> usize
+    requires { ⌜ n ≤ matrixPlaces ⌝ }
+    ensures { λ r. ⌜ r ≡ length (runs (entriesOutcome (now (entries .entry)) fill) n) ⌝ }
 {
-    let n = p.count;
-    let fill = p.fill;
-    accesses::survey(entries, p);
     let mut held = Run::Idle;
     let mut records = 0;
     let mut k = 0;
@@ -69,20 +61,16 @@ fn count_runs(entries: &mut [u32; ELEMENTS], p: Plan) -> usize
 // Writes their records from record `start` of a tape on: the next record's number.
 fn write_runs(
     tape: &mut [i32],
-    entries: &mut [u32; ELEMENTS],
+    entries: &[u32; PLACES],
+    n: usize,
+    fill: u32,
     start: usize,
-    p: Plan,
+    load: bool,
     register: u8,
 ) -> usize
-    requires { ⌜ Planned p × (accessRefusal (p .access) .number ≡ 0) × (length (now entries) ≡ matrixPlaces) ⌝ }
-    requires { ⌜ (register < registerCount) × Room (now tape) start (accessRecords (p .access) register) ⌝ }
-    ensures { λ _. ⌜ length (now (entries .exit)) ≡ matrixPlaces ⌝ }
-    ensures { λ r. ⌜ Wrote (now (tape .entry)) (now (tape .exit)) start (accessRecords (p .access) register) r ⌝ }
+    requires { ⌜ (n ≤ matrixPlaces) × (register < registerCount) × Room (now tape) start (runsRecords load register (entriesOutcome (now entries) fill) n) ⌝ }
+    ensures { λ r. ⌜ Wrote (now (tape .entry)) (now (tape .exit)) start (runsRecords load register (entriesOutcome (now (entries .entry)) fill) n) r ⌝ }
 {
-    let load = p.access.load;
-    let n = p.count;
-    let fill = p.fill;
-    accesses::survey(entries, p);
     let mut held = Run::Idle;
     let mut at = start;
     let mut k = 0;
@@ -97,18 +85,9 @@ fn write_runs(
     runs::write_run(tape, at, load, register, held)
 }
 
-// The plan of a load or a store that its check accepts.
-fn plan_window(tensors: Tensors, load: bool, window: Window, t: MatrixType, memory: usize) -> Plan
-    requires { ⌜ ClearWindow tensors load window t memory ⌝ }
-    ensures { λ p. ⌜ (p ≡ planned (accessOf tensors load window t memory)) × Planned p ⌝ }
-{
-    let a = windows::access_of(tensors, load, window, t, memory);
-    addressing::plan_of(a)
-}
-
-// How many records the runs of a load or a store of a matrix of type t are.
+// How many records the runs of a load or a store of a matrix of type t are. The entries are lent room.
 fn count_window(
-    entries: &mut [u32; ELEMENTS],
+    entries: &mut [u32; PLACES],
     tensors: Tensors,
     load: bool,
     window: Window,
@@ -119,14 +98,15 @@ fn count_window(
     ensures { λ _. ⌜ length (now (entries .exit)) ≡ matrixPlaces ⌝ }
     ensures { λ r. ⌜ r ≡ length (runs (outcomeOf (accessOf tensors load window t memory)) (elementsOf (accessOf tensors load window t memory))) ⌝ }
 {
-    let p = plan_window(tensors, load, window, t, memory);
-    count_runs(entries, p)
+    let p = windows::plan_window(tensors, load, window, t, memory);
+    accesses::survey(entries, p);
+    count_runs(entries, p.count, p.fill)
 }
 
 // Writes them from record `at` of a tape on: the next record's number.
 fn write_window(
     tape: &mut [i32],
-    entries: &mut [u32; ELEMENTS],
+    entries: &mut [u32; PLACES],
     at: usize,
     tensors: Tensors,
     load: bool,
@@ -140,8 +120,9 @@ fn write_window(
     ensures { λ _. ⌜ length (now (entries .exit)) ≡ matrixPlaces ⌝ }
     ensures { λ r. ⌜ Wrote (now (tape .entry)) (now (tape .exit)) at (accessRecords (accessOf tensors load window t memory) register) r ⌝ }
 {
-    let p = plan_window(tensors, load, window, t, memory);
-    write_runs(tape, entries, at, p, register)
+    let p = windows::plan_window(tensors, load, window, t, memory);
+    accesses::survey(entries, p);
+    write_runs(tape, entries, p.count, p.fill, at, load, register)
 }
 
 // The copy of a load's object, none for its own register.
@@ -176,7 +157,7 @@ fn write_copy(tape: &mut [i32], at: usize, register: u8, object: Object) -> usiz
 
 // One step: how many records it becomes.
 fn count_step(
-    entries: &mut [u32; ELEMENTS],
+    entries: &mut [u32; PLACES],
     tensors: Tensors,
     types: [MatrixType; REGISTERS],
     memory: usize,
@@ -217,7 +198,7 @@ fn write_whole(tape: &mut [i32], at: usize, step: usize) -> usize
 // Writes the records of step k from record `at` of a tape on: the next record's number.
 fn write_step(
     tape: &mut [i32],
-    entries: &mut [u32; ELEMENTS],
+    entries: &mut [u32; PLACES],
     at: usize,
     tensors: Tensors,
     types: [MatrixType; REGISTERS],
@@ -270,7 +251,7 @@ fn write_step(
 }
 
 // How many records the tape of an accepted sheet has.
-fn count_tape(entries: &mut [u32; ELEMENTS], sheet: Sheet, memory: usize) -> usize
+fn count_tape(entries: &mut [u32; PLACES], sheet: Sheet, memory: usize) -> usize
     requires { ⌜ Within sheet × (memory ≤ memoryLimit) × (checked sheet memory .refusal .number ≡ 0) × (length (now entries) ≡ matrixPlaces) ⌝ }
     ensures { λ _. ⌜ length (now (entries .exit)) ≡ matrixPlaces ⌝ }
     ensures { λ r. ⌜ r ≡ length (tapeOf sheet memory) ⌝ }
@@ -293,7 +274,7 @@ fn count_tape(entries: &mut [u32; ELEMENTS], sheet: Sheet, memory: usize) -> usi
 }
 
 // Writes the tape of an accepted sheet from the start of the room on.
-fn write_tape(tape: &mut [i32], entries: &mut [u32; ELEMENTS], sheet: Sheet, memory: usize)
+fn write_tape(tape: &mut [i32], entries: &mut [u32; PLACES], sheet: Sheet, memory: usize)
     requires { ⌜ Within sheet × (memory ≤ memoryLimit) × (checked sheet memory .refusal .number ≡ 0) × (length (now entries) ≡ matrixPlaces) ⌝ }
     requires { ⌜ length (tapeOf sheet memory) * 6 ≤ length (now tape) ⌝ }
     ensures { λ _. ⌜ now (tape .exit) ≡ sets (now (tape .entry)) 0 (tapeNumbers (tapeOf sheet memory)) ⌝ }
@@ -336,7 +317,7 @@ pub fn translate(sheet: &[u8], memory_len: usize, tape: &mut [i32]) -> Translate
         return translate_refused(refused);
     }
     let model = judged.sheet;
-    let mut entries = [0u32; ELEMENTS];
+    let mut entries = accesses::no_entries();
     let records = count_tape(&mut entries, model, memory_len);
     if !records::records_fit(model.edition, tape.len(), records) {
         return translate_refused(refusals::refusal_at(TAPE_TOO_LONG, 0, 0));

@@ -1,49 +1,46 @@
-use mathlib.Core.Path.{_≡_, sym, ap, _∙_}
-use Prim.Native.Nat.{_-_, _≤_}
-use lib.ListN.{length}
-use Rattle.transfers.specs.Transfers.{outcomeOf}
-use Rattle.accesses.specs.Laws.Surveys.{surveyed-outcome}
+use denote.Ref.{now}
+use mathlib.Core.Path.{_≡_, sym, ap}
+use Prim.Native.Nat.{_-_, _^_, _<_, _≤_}
+use lib.ListN.{length, getD}
 use Rattle.runs.specs.declared.Run.{Run}
 use Rattle.runs.specs.Runs.{held as theHeld, ended, emit}
 use Rattle.runs.specs.Ranges.{held-small}
 use Rattle.runs.specs.Writing.{held-none, held-more, ending-is, count-none, count-more, count-few, count-all, emit-one}
-use Rattle.translating.proofs.Laws.{outcome-near}
+use Rattle.translating.specs.Writing.{entriesOutcome}
+use Rattle.translating.proofs.Laws.{entry-near}
 use borrow.Author.Needs.{needs}
 use native.Mathlib.Omega.{arith}
 use Rattle.translating.proofs.count_runs.Statement.{statement}
 use Rattle.translating.proofs.count_runs.Tie as tie
 
 abbrev Inv-loop : tie.InvT-loop
-Inv-loop p n entries held₀ records₀ k₀ held records k =
-    (k ≤ n) × (held ≡ theHeld (outcomeOf (p .access) (p .columns)) k) × (records ≡ length (ended (outcomeOf (p .access) (p .columns)) k))
+Inv-loop entries n fill held₀ records₀ k₀ held records k =
+    (k ≤ n) × (held ≡ theHeld (entriesOutcome entries fill) k) × (records ≡ length (ended (entriesOutcome entries fill) k))
 
 abbrev μ-loop : tie.MeasureT-loop
-μ-loop p n entries held₀ records₀ k₀ held records k = n - k
+μ-loop entries n fill held₀ records₀ k₀ held records k = n - k
 
 loop-holds : tie.Need-loop-holds Inv-loop μ-loop
 loop-holds c = (omega arith, sym (held-none _), sym (count-none _))
 
-survey-of-requires : tie.Need-survey-of-requires Inv-loop μ-loop
-survey-of-requires c κs = search needs
-
 mul-outcome-of : tie.Need-mul-outcome-of Inv-loop μ-loop
 mul-outcome-of c = search needs
 
-array-read-outcome-of : tie.Need-array-read-outcome-of Inv-loop μ-loop
-array-read-outcome-of c = search needs
+element-copy-out-outcome-of : tie.Need-element-copy-out-outcome-of Inv-loop μ-loop
+element-copy-out-outcome-of c = search needs
 
 outcome-of-requires : tie.Need-outcome-of-requires Inv-loop μ-loop
 outcome-of-requires c κs = search needs
 
 next-run-requires : tie.Need-next-run-requires Inv-loop μ-loop
 next-run-requires c κs =
-    let s = c .before .before .before .before .before in
-    let p = s .args .p in
-    let l = c .before .before .loop in
-    let o = c .outcome-of .ensures ∙ surveyed-outcome p (s .pre .0) (c .before .before .before .before .survey-of .ensures) (s .pre .4) (l .k) (c .before .loop-test .taken) in
-    let near = outcome-near (p .access) (s .pre .0 .valid .sized) (p .columns) in (
-      rw (l .inv .1) (held-small (outcomeOf (p .access) (p .columns)) (l .k) (λ i h. near i)),
-      (omega arith, rw o (near (l .k))),
+    let s = c .before .before .before .before in
+    let a = s .args in
+    let l = c .before .before .before .loop in
+    let small : a .fill < 2 ^ 32 = omega arith in
+    let near = entry-near (a .fill) small in (
+      rw (l .inv .1) (held-small (entriesOutcome (now (a .entries)) (a .fill)) (l .k) (λ i h. near (getD (now (a .entries)) i 0))),
+      (omega arith, rw (c .outcome-of .ensures) (near (getD (now (a .entries)) (l .k) 0))),
     )
 
 records-of-requires : tie.Need-records-of-requires Inv-loop μ-loop
@@ -51,9 +48,9 @@ records-of-requires c κs = search needs
 
 add-records : tie.Need-add-records Inv-loop μ-loop
 add-records c =
-    let l = c .before .before .before .before .loop in
-    let p = c .before .before .before .before .before .before .before .args .p in
-    omega (arith, l .inv .2, count-few (outcomeOf (p .access) (p .columns)) (l .k), c .records-of .ensures, emit-one (c .before .next-run .result .done))
+    let l = c .before .before .before .before .before .loop in
+    let a = c .before .before .before .before .before .before .args in
+    omega (arith, l .inv .2, count-few (entriesOutcome (now (a .entries)) (a .fill)) (l .k), c .records-of .ensures, emit-one (c .before .next-run .result .done))
 
 add-k : tie.Need-add-k Inv-loop μ-loop
 add-k c = search needs
@@ -63,12 +60,11 @@ loop-less c = omega arith
 
 loop-again : tie.Need-loop-again Inv-loop μ-loop
 loop-again c =
-    let s = c .before .before .before .before .before .before .before in
-    let p = s .args .p in
-    let l = c .before .before .before .before .loop in
+    let a = c .before .before .before .before .before .before .args in
+    let l = c .before .before .before .before .before .loop in
+    let f = entriesOutcome (now (a .entries)) (a .fill) in
+    let o = c .before .before .outcome-of .ensures in
     let t = c .before .next-run .ensures in
-    let f = outcomeOf (p .access) (p .columns) in
-    let o = c .before .before .outcome-of .ensures ∙ surveyed-outcome p (s .pre .0) (c .before .before .before .before .before .before .survey-of .ensures) (s .pre .4) (l .k) (c .before .before .before .loop-test .taken) in
     let d = ending-is f (l .k) (l .inv .1) o t in (
       omega arith,
       held-more f (l .k) (l .inv .1) o t,
@@ -81,16 +77,16 @@ records-of-requires-2 c κs = search needs
 add-result : tie.Need-add-result Inv-loop μ-loop
 add-result c =
     let l = c .before .before .loop in
-    let p = c .before .before .before .before .before .args .p in
-    omega (arith, l .inv .2, count-few (outcomeOf (p .access) (p .columns)) (l .k), c .records-of2 .ensures, emit-one (l .held))
+    let a = c .before .before .before .args in
+    omega (arith, l .inv .2, count-few (entriesOutcome (now (a .entries)) (a .fill)) (l .k), c .records-of2 .ensures, emit-one (l .held))
 
 returns : tie.Need-returns Inv-loop μ-loop
 returns c =
-    let a = c .before .before .before .before .before .args in
+    let a = c .before .before .before .args in
     let l = c .before .before .loop in
     let e : l .k ≡ a .n = omega arith in
     rw (← e)
-    (omega (arith, l .inv .2, c .records-of2 .ensures, count-all (outcomeOf (a .p .access) (a .p .columns)) (l .k), ap (λ (r : Run). length (emit r)) (l .inv .1)))
+    (omega (arith, l .inv .2, c .records-of2 .ensures, count-all (entriesOutcome (now (a .entries)) (a .fill)) (l .k), ap (λ (r : Run). length (emit r)) (l .inv .1)))
 
 pub count-runs-spec : {M : Type 1} → statement M
 count-runs-spec =
@@ -98,10 +94,9 @@ count-runs-spec =
     (tie.spec
     Inv-loop
     μ-loop
-    survey-of-requires
     loop-holds
     mul-outcome-of
-    array-read-outcome-of
+    element-copy-out-outcome-of
     outcome-of-requires
     next-run-requires
     records-of-requires

@@ -1,13 +1,8 @@
-use mathlib.Core.Path.{refl, sym, ap, _∙_}
-use mathlib.Core.Bool.{false}
-use Prim.Native.Nat.{_*_}
-use lib.ListN.{length}
-use Rattle.transfers.specs.Transfers.{outcomeOf}
-use Rattle.checking.specs.Steps.{accessOf}
-use Rattle.runs.specs.Writing.{count-records}
-use Rattle.checking.specs.Laws.Names.{store-names}
+use mathlib.Core.Path.{refl}
+use Rattle.checking.specs.Laws.Names.{load-object, store-register}
 use Rattle.translating.specs.Tapes.{stepRecords}
-use Rattle.translating.proofs.Laws.{store-records, store-clear}
+use Rattle.translating.proofs.Laws.{load-clear, store-clear, copy-few, window-few, load-count, store-count}
+use native.Mathlib.Omega.{arith}
 use borrow.Author.Needs.{needs}
 use Rattle.translating.proofs.count_step.Statement.{statement}
 use Rattle.translating.proofs.count_step.Tie as tie
@@ -18,57 +13,66 @@ enum-told c = search needs
 enum-known-step : tie.Need-enum-known-step
 enum-known-step c = search needs
 
-count-load-requires : tie.Need-count-load-requires
-count-load-requires c κs =
-    let s = c .before .before .before in
-    let e = c .before .step .given .1 in
-    ((s .pre .0 .0, s .pre .0 .1, s .pre .0 .2, rw e at (s .pre .0 .3)), rw e at (s .pre .1))
+object-register-requires : tie.Need-object-register-requires
+object-register-requires c κs = search needs
+
+the-type-requires : tie.Need-the-type-requires
+the-type-requires c κs =
+    rw (c .object-register .ensures) (load-object _ _ _ _ _ (rw (c .before .before .step .given .1) at (c .before .before .before .before .pre .0 .ok)))
+
+count-copy-requires : tie.Need-count-copy-requires
+count-copy-requires c κs = search needs
+
+count-window-requires : tie.Need-count-window-requires
+count-window-requires c κs =
+    let s = c .before .before .before .before .before .before .before in
+    (rw (c .before .before .the-type .ensures, c .before .before .before .object-register .ensures) (load-clear (rw (c .before .before .before .before .before .step .given .1) at (s .pre .0))), s .pre .1)
+
+add-result : tie.Need-add-result
+add-result c =
+    let s = c .before .before .before .before .before .before .before .before in
+    let g = c .before .before .before .before .before .before .step .given in
+    let w = rw (g .1) at (s .pre .0) in
+    let n = rw (c .before .before .before .the-type .ensures, c .before .before .before .before .object-register .ensures) at (c .count-window .ensures .1) in
+    omega (arith, c .before .before .count-copy .ensures 0, copy-few 0 (g .0 .1 .0), n, window-few (load-clear w))
 
 enum-known-step-2 : tie.Need-enum-known-step-2
 enum-known-step-2 c = search needs
 
-the-type-requires : tie.Need-the-type-requires
-the-type-requires c κs = store-names _ _ _ _ _ (rw (c .before .step2 .given .1) at (c .before .before .before .pre .0 .3)) .named
+the-type-requires-2 : tie.Need-the-type-requires-2
+the-type-requires-2 c κs = store-register _ _ _ _ (rw (c .before .step2 .given .1) at (c .before .before .before .pre .0 .ok))
 
-count-access-requires : tie.Need-count-access-requires
-count-access-requires c κs =
-    let s = c .before .before .before .before in
-    let a = s .args in
-    let g = c .before .before .step2 .given in
-    let n = store-names _ _ _ _ _ (rw (g .1) at (s .pre .0 .3)) in
-    let so = c .the-type .ensures in (
-      (s .pre .0 .0, n .given, n .option, s .pre .0 .1),
-      (
-        rw so (s .pre .0 .2 .each _),
-        store-clear (a .sheet) (a .types) (a .memory) (g .0 .0) (g .0 .1 .0) (g .0 .1 .1 .0) (g .0 .1 .1 .1 .0) (c .the-type .result) so (rw (g .1) at (s .pre .1)),
-      ),
-    )
+count-window-requires-2 : tie.Need-count-window-requires-2
+count-window-requires-2 c κs =
+    let s = c .before .before .before .before .before in
+    (rw (c .before .the-type2 .ensures) (store-clear (rw (c .before .before .before .step2 .given .1) at (s .pre .0))), s .pre .1)
 
 enum-told-2 : tie.Need-enum-told-2
 enum-told-2 c = search needs
 
 returns : tie.Need-returns
 unfolding stepRecords
-returns c = rw (c .enum-told .given .1) refl
+returns c = (c .before .before .pre .1, rw (c .enum-told .given .1) refl)
 
 returns-2 : tie.Need-returns-2
-returns-2 c = rw (c .before .before .step .given .1) (c .count-load .ensures)
+returns-2 c =
+    let s = c .before .before .before .before .before .before .before .before in
+    let a = s .args in
+    let g = c .before .before .before .before .before .before .step .given in
+    let n = rw (c .before .before .before .the-type .ensures, c .before .before .before .before .object-register .ensures) at (c .count-window .ensures .1) in
+    (c .count-window .ensures .0, rw (g .1) (load-count (a .tensors) (a .types) (a .memory) 0 (g .0 .0) (g .0 .1 .1 .0) (g .0 .1 .0) (c .before .before .count-copy .ensures (g .0 .0)) n))
 
 returns-3 : tie.Need-returns-3
 returns-3 c =
-    let s = c .before .before .before .before .before in
+    let s = c .before .before .before .before .before .before in
     let a = s .args in
-    let g = c .before .before .before .step2 .given in
-    let t = c .before .the-type .result in
-    let x = accessOf (a .sheet) false (g .0 .1 .0) (g .0 .1 .1 .0) (g .0 .1 .1 .1 .0) t (a .memory) in
-    rw (g .1)
-    (c .count-access .ensures
-    ∙ sym (count-records false (g .0 .0) (outcomeOf x (t .columns)) (t .rows * t .columns))
-    ∙ sym (ap length (store-records (a .sheet) (a .types) (a .memory) (g .0 .0) (g .0 .1 .0) (g .0 .1 .1 .0) (g .0 .1 .1 .1 .0) t (c .before .the-type .ensures) 0)))
+    let g = c .before .before .before .before .step2 .given in
+    let n = rw (c .before .before .the-type2 .ensures) at (c .count-window2 .ensures .1) in
+    (c .count-window2 .ensures .0, rw (g .1) (store-count (a .tensors) (a .types) (a .memory) 0 (g .0 .0) (g .0 .1 .0) n))
 
 returns-4 : tie.Need-returns-4
 unfolding stepRecords
-returns-4 c = rw (c .enum-told2 .given .1) refl
+returns-4 c = (c .before .before .pre .1, rw (c .enum-told2 .given .1) refl)
 
 pub count-step-spec : {M : Type 1} → statement M
 count-step-spec =
@@ -76,10 +80,14 @@ count-step-spec =
     (tie.spec
     enum-told
     enum-known-step
-    count-load-requires
-    enum-known-step-2
+    object-register-requires
     the-type-requires
-    count-access-requires
+    count-copy-requires
+    count-window-requires
+    add-result
+    enum-known-step-2
+    the-type-requires-2
+    count-window-requires-2
     enum-told-2
     returns
     returns-2

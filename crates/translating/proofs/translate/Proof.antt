@@ -5,6 +5,7 @@ use Rattle.records.specs.Records.{tapeNumbers}
 use Rattle.checking.specs.declared.CheckAnswer.{CheckAnswer}
 use Rattle.checking.specs.Laws.Readable.{sheet-readable}
 use Rattle.sheet.specs.declared.Sheet.{Sheet}
+use Rattle.refusals.specs.Refusals.{notRefused}
 use Rattle.refusals.specs.declared.Refusal.{Refusal}
 use Rattle.numbers.specs.Choice.{went-not, went-past}
 use lib.Seq.{sets}
@@ -24,20 +25,25 @@ translate-refused-requires : tie.Need-translate-refused-requires
 translate-refused-requires c κs = search needs
 
 returns : tie.Need-returns
-returns c = let a = c .before .before .before .before .before .before .before .args in
+returns c =
+    let a = c .before .before .before .before .before .before .before .args in
     let s = now (a .sheet) in
     let is = c .before .before .before .before .before .judge .ensures .0 in
     let n = c .before .if1 .taken in
     (c .translate-refused .ensures ∙ refused-answer s (a .memory-len) is (length (now (a .tape))) n, refused-room s (a .memory-len) is (now (a .tape)) n)
 
+no-entries-requires : tie.Need-no-entries-requires
+no-entries-requires c κs = search needs
+
 count-tape-requires : tie.Need-count-tape-requires
-count-tape-requires c κs = let j = c .before .before .before .before .before .judge in
-    let a = c .before .before .before .before .before .before .before .args in
+count-tape-requires c κs =
+    let j = c .before .before .before .before .before .before .before .judge in
+    let a = c .before .before .before .before .before .before .before .before .before .args in
     let s = now (a .sheet) in
-    let fine : j .result .answer .refusal .number ≡ 0 = omega (arith, c .before .if1 .left) in
+    let fine : j .result .answer .refusal .number ≡ 0 = omega (arith, c .before .before .before .if1 .left) in
     let model = j .ensures .1 fine in
     let r = sheet-readable s (a .memory-len) (ap (λ (x : CheckAnswer). x .refusal .number) (sym (j .ensures .0)) ∙ fine) in
-    rw model (r .within, r .few, r .clear)
+    rw model (r .within, r .few, r .clear, c .before .no-entries .ensures)
 
 records-fit-requires : tie.Need-records-fit-requires
 records-fit-requires c κs = search needs
@@ -49,12 +55,13 @@ translate-refused-requires-2 : tie.Need-translate-refused-requires-2
 translate-refused-requires-2 c κs = search needs
 
 returns-2 : tie.Need-returns-2
-returns-2 c = let j = c .before .before .before .before .before .before .before .before .before .before .judge in
-    let a = c .before .before .before .before .before .before .before .before .before .before .before .before .args in
+returns-2 c =
+    let j = c .before .before .before .before .before .before .before .before .before .before .before .before .judge in
+    let a = c .before .before .before .before .before .before .before .before .before .before .before .before .before .before .args in
     let s = now (a .sheet) in
-    let fine : j .result .answer .refusal .number ≡ 0 = omega (arith, c .before .before .before .before .before .before .if1 .left) in
+    let fine : j .result .answer .refusal .number ≡ 0 = omega (arith, c .before .before .before .before .before .before .before .before .if1 .left) in
     let model = j .ensures .1 fine in
-    let tested = room-tested s (a .memory-len) (length (now (a .tape))) model (c .before .before .before .before .count-tape .ensures) (c .before .before .before .records-fit .ensures) in
+    let tested = room-tested s (a .memory-len) (length (now (a .tape))) model (c .before .before .before .before .count-tape .ensures .1) (c .before .before .before .records-fit .ensures) in
     let long = went-not tested (c .before .before .if2 .taken) in (
       c .translate-refused2 .ensures
           ∙ ap (λ (x : Refusal). translateAnswer x 0 0) (c .before .refusal-at .ensures)
@@ -63,33 +70,37 @@ returns-2 c = let j = c .before .before .before .before .before .before .before 
     )
 
 write-tape-requires : tie.Need-write-tape-requires
-write-tape-requires c κs = let j = c .before .before .before .before .before .before .before .before .before .judge in
-    let a = c .before .before .before .before .before .before .before .before .before .before .before .args in
+write-tape-requires c κs =
+    let j = c .before .before .before .before .before .before .before .before .before .before .before .before .judge in
+    let a = c .before .before .before .before .before .before .before .before .before .before .before .before .before .before .args in
     let s = now (a .sheet) in
-    let fine : j .result .answer .refusal .number ≡ 0 = omega (arith, c .before .before .before .before .before .if1 .left) in
+    let fine : j .result .answer .refusal .number ≡ 0 = omega (arith, c .before .before .before .before .before .before .before .before .if1 .left) in
     let model = j .ensures .1 fine in
+    let counted = c .before .before .before .before .count-tape .ensures in
     let r = sheet-readable s (a .memory-len) (ap (λ (x : CheckAnswer). x .refusal .number) (sym (j .ensures .0)) ∙ fine) in
-    let tested = room-tested s (a .memory-len) (length (now (a .tape))) model (c .before .before .before .count-tape .ensures) (c .before .before .records-fit .ensures) in
-    let room = fits-room s (a .memory-len) (length (now (a .tape))) (went-past tested (c .before .if2 .left)) in
-    rw model ((r .within, r .few, r .clear), room)
+    let tested = room-tested s (a .memory-len) (length (now (a .tape))) model (counted .1) (c .before .before .before .records-fit .ensures) in
+    let room = fits-room s (a .memory-len) (length (now (a .tape))) (went-past tested (c .before .before .if2 .left)) in
+    rw model ((r .within, r .few, r .clear, counted .0), room)
 
-refusal-at-requires-2 : tie.Need-refusal-at-requires-2
-refusal-at-requires-2 c κs = search needs
+not-refused-requires : tie.Need-not-refused-requires
+not-refused-requires c κs = search needs
 
 same-length : tie.Need-same-length
 same-length c = search needs
 
 returns-3 : tie.Need-returns-3
-returns-3 c = let j = c .before .before .before .before .before .before .before .before .before .before .before .before .judge in
-    let a = c .before .before .before .before .before .before .before .before .before .before .before .before .before .before .args in
+returns-3 c =
+    let j = c .before .before .before .before .before .before .before .before .before .before .before .before .before .before .before .judge in
+    let a = c .before .before .before .before .before .before .before .before .before .before .before .before .before .before .before .before .before .args in
     let s = now (a .sheet) in
-    let fine : j .result .answer .refusal .number ≡ 0 = omega (arith, c .before .before .before .before .before .before .before .before .if1 .left) in
+    let fine : j .result .answer .refusal .number ≡ 0 = omega (arith, c .before .before .before .before .before .before .before .before .before .before .before .if1 .left) in
     let model = j .ensures .1 fine in
-    let tested = room-tested s (a .memory-len) (length (now (a .tape))) model (c .before .before .before .before .before .before .count-tape .ensures) (c .before .before .before .before .before .records-fit .ensures) in
-    let fits = went-past tested (c .before .before .before .before .if2 .left) in
-    let n = c .before .before .before .before .before .before .count-tape .ensures ∙ ap (λ (x : Sheet). length (tapeOf x (a .memory-len))) model in (
-      ap (λ (x : Refusal). translateAnswer x (j .result .answer .count) (c .before .before .before .before .before .before .count-tape .result)) (c .refusal-at2 .ensures)
-          ∙ ap (λ (x : ℕ). translateAnswer (record { number = 0; place = 0; element = 0 }) (j .result .answer .count) x) n
+    let counted = c .before .before .before .before .before .before .before .count-tape in
+    let tested = room-tested s (a .memory-len) (length (now (a .tape))) model (counted .ensures .1) (c .before .before .before .before .before .before .records-fit .ensures) in
+    let fits = went-past tested (c .before .before .before .before .before .if2 .left) in
+    let n = counted .ensures .1 ∙ ap (λ (x : Sheet). length (tapeOf x (a .memory-len))) model in (
+      ap (λ (x : Refusal). translateAnswer x (j .result .answer .count) (counted .result)) (c .not-refused .ensures)
+          ∙ ap (λ (x : ℕ). translateAnswer notRefused (j .result .answer .count) x) n
           ∙ tape-answer s (a .memory-len) (j .ensures .0) fine (length (now (a .tape))) fits,
       c .before .before .write-tape .ensures
           ∙ ap (λ (x : Sheet). sets (now (a .tape)) 0 (tapeNumbers (tapeOf x (a .memory-len)))) model
@@ -103,12 +114,13 @@ translate-spec =
     judge-requires
     translate-refused-requires
     returns
+    no-entries-requires
     count-tape-requires
     records-fit-requires
     refusal-at-requires
     translate-refused-requires-2
     returns-2
     write-tape-requires
-    refusal-at-requires-2
+    not-refused-requires
     same-length
     returns-3)

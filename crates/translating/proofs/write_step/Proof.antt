@@ -1,7 +1,8 @@
+use denote.Ref.{now}
 use mathlib.Core.Path.{refl}
-use Rattle.checking.specs.Laws.Names.{store-names}
+use Rattle.checking.specs.Laws.Names.{load-register, load-object-ok, load-object, store-register}
 use Rattle.translating.specs.Tapes.{stepRecords}
-use Rattle.translating.proofs.Laws.{store-records, store-clear}
+use Rattle.translating.proofs.Laws.{load-clear, store-clear, load-records, store-records, copy-room, runs-room, wrote-both}
 use native.Mathlib.Omega.{arith}
 use borrow.Author.Needs.{needs}
 use Rattle.translating.proofs.write_step.Statement.{statement}
@@ -13,37 +14,52 @@ enum-told c = search needs
 enum-known-step : tie.Need-enum-known-step
 enum-known-step c = search needs
 
-write-load-requires : tie.Need-write-load-requires
-unfolding stepRecords
-write-load-requires c κs =
-    let s = c .before .before .before .before in
-    let e = c .before .before .step .given .1 in
-    ((s .pre .0 .0, s .pre .0 .1, s .pre .0 .2, rw e at (s .pre .0 .3)), (rw e at (s .pre .1 .0 .0), rw e at (s .pre .1 .1)))
+object-register-requires : tie.Need-object-register-requires
+object-register-requires c κs = search needs
+
+the-type-requires : tie.Need-the-type-requires
+the-type-requires c κs =
+    rw (c .object-register .ensures) (load-object _ _ _ _ _ (rw (c .before .before .step .given .1) at (c .before .before .before .before .pre .0 .0 .ok)))
+
+write-copy-requires : tie.Need-write-copy-requires
+write-copy-requires c κs =
+    let s = c .before .before .before .before .before .before in
+    let a = s .args in
+    let g = c .before .before .before .before .step .given in
+    let ok = rw (g .1) at (s .pre .0 .0 .ok) in
+    (load-register _ _ _ _ _ ok, load-object-ok _ _ _ _ _ ok, copy-room (a .tensors) (a .types) (a .memory) (a .k) (g .0 .0) (g .0 .1 .1 .0) (g .0 .1 .0) (now (a .tape)) (a .at) (rw (g .1) at (s .pre .1 .1)))
+
+write-window-requires : tie.Need-write-window-requires
+write-window-requires c κs =
+    let s = c .before .before .before .before .before .before .before .before .before .before in
+    let a = s .args in
+    let g = c .before .before .before .before .before .before .before .before .step .given in
+    let d = c .before .before .before .before .before in
+    let w = c .before .before .before .write-copy in
+    rw (d .the-type .ensures, d .before .object-register .ensures) (
+      (load-clear (rw (g .1) at (s .pre .0 .0)), s .pre .0 .1),
+      (
+        load-register _ _ _ _ _ (rw (g .1) at (s .pre .0 .0 .ok)),
+        runs-room (a .tensors) (a .types) (a .memory) (a .k) (g .0 .0) (g .0 .1 .1 .0) (g .0 .1 .0) (now (a .tape)) (a .at) (rw (g .1) at (s .pre .1 .1)) (w .last .0) (w .kept .0) (w .ensures .next),
+      ),
+    )
 
 enum-known-step-2 : tie.Need-enum-known-step-2
 enum-known-step-2 c = search needs
 
-the-type-requires : tie.Need-the-type-requires
-the-type-requires c κs = store-names _ _ _ _ _ (rw (c .before .step2 .given .1) at (c .before .before .before .pre .0 .3)) .named
+the-type-requires-2 : tie.Need-the-type-requires-2
+the-type-requires-2 c κs = store-register _ _ _ _ (rw (c .before .step2 .given .1) at (c .before .before .before .pre .0 .0 .ok))
 
-write-access-requires : tie.Need-write-access-requires
-write-access-requires c κs =
-    let s = c .before .before .before .before .before in
+write-window-requires-2 : tie.Need-write-window-requires-2
+write-window-requires-2 c κs =
+    let s = c .before .before .before .before .before .before in
     let a = s .args in
-    let g = c .before .before .before .step2 .given in
-    let n = store-names _ _ _ _ _ (rw (g .1) at (s .pre .0 .3)) in
-    let so = c .before .the-type .ensures in
-    let t = c .before .the-type .result in (
-      (s .pre .0 .0, n .given, n .option, s .pre .0 .1),
+    let g = c .before .before .before .before .step2 .given in
+    rw (c .before .before .the-type2 .ensures) (
+      (store-clear (rw (g .1) at (s .pre .0 .0)), s .pre .0 .1),
       (
-        (
-          rw so (s .pre .0 .2 .each _),
-          store-clear (a .sheet) (a .types) (a .memory) (g .0 .0) (g .0 .1 .0) (g .0 .1 .1 .0) (g .0 .1 .1 .1 .0) t so (rw (g .1) at (s .pre .1 .0 .0)),
-        ),
-        (
-          n .named,
-          rw (g .1, store-records (a .sheet) (a .types) (a .memory) (g .0 .0) (g .0 .1 .0) (g .0 .1 .1 .0) (g .0 .1 .1 .1 .0) t so (a .k)) at (s .pre .1 .1),
-        ),
+        store-register _ _ _ _ (rw (g .1) at (s .pre .0 .0 .ok)),
+        rw (g .1, store-records (a .tensors) (a .types) (a .memory) (a .k) (g .0 .0) (g .0 .1 .0)) at (s .pre .1 .1),
       ),
     )
 
@@ -52,38 +68,44 @@ enum-told-2 c = search needs
 
 write-whole-requires : tie.Need-write-whole-requires
 unfolding stepRecords
-write-whole-requires c κs =
-    let s = c .before .before .before in (rw (c .before .enum-told2 .given .1) at (s .pre .1 .1), s .pre .1 .0 .1)
+write-whole-requires c κs = let s = c .before .before .before in (s .pre .1 .0, rw (c .before .enum-told2 .given .1) at (s .pre .1 .1))
 
 returns : tie.Need-returns
 unfolding stepRecords
-returns c = rw (c .enum-told .given .1) (omega arith, refl)
+returns c = (c .before .before .pre .0 .1, rw (c .enum-told .given .1) (record { next = omega arith; numbers = refl }))
 
 same-length : tie.Need-same-length
 same-length c = search needs
 
 returns-2 : tie.Need-returns-2
-unfolding stepRecords
-returns-2 c = rw (c .before .before .before .before .step .given .1) (c .before .write-load .ensures)
+returns-2 c =
+    let s = c .before .before .before .before .before .before .before .before .before .before .before .before in
+    let a = s .args in
+    let g = c .before .before .before .before .before .before .before .before .before .before .step .given in
+    let d = c .before .before .before .before .before .before .before in
+    let w = c .before .write-window .ensures in (
+      w .0,
+      rw (g .1, load-records (a .tensors) (a .types) (a .memory) (a .k) (g .0 .0) (g .0 .1 .1 .0) (g .0 .1 .0))
+          (wrote-both (now (a .tape)) (a .at) _ _ (c .before .before .before .before .before .write-copy .ensures) (rw (d .the-type .ensures, d .before .object-register .ensures) at (w .1))),
+    )
 
 same-length-2 : tie.Need-same-length-2
 same-length-2 c = search needs
 
 returns-3 : tie.Need-returns-3
 returns-3 c =
-    let s = c .before .before .before .before .before .before .before in
+    let s = c .before .before .before .before .before .before .before .before in
     let a = s .args in
-    let g = c .before .before .before .before .before .step2 .given in
-    let d = c .before .before .before in
-    rw (g .1, store-records (a .sheet) (a .types) (a .memory) (g .0 .0) (g .0 .1 .0) (g .0 .1 .1 .0) (g .0 .1 .1 .1 .0) (d .the-type .result) (d .the-type .ensures) (a .k))
-    (c .before .write-access .ensures)
+    let g = c .before .before .before .before .before .before .step2 .given in
+    let w = c .before .write-window2 .ensures in
+    (w .0, rw (g .1, store-records (a .tensors) (a .types) (a .memory) (a .k) (g .0 .0) (g .0 .1 .0)) (rw (c .before .before .before .before .the-type2 .ensures) at (w .1)))
 
 same-length-3 : tie.Need-same-length-3
 same-length-3 c = search needs
 
 returns-4 : tie.Need-returns-4
 unfolding stepRecords
-returns-4 c = rw (c .before .before .before .enum-told2 .given .1) (c .before .write-whole .ensures)
+returns-4 c = (c .before .before .before .before .before .pre .0 .1, rw (c .before .before .before .enum-told2 .given .1) (c .before .write-whole .ensures))
 
 pub write-step-spec : {M : Type 1} → statement M
 write-step-spec =
@@ -91,10 +113,13 @@ write-step-spec =
     (tie.spec
     enum-told
     enum-known-step
-    write-load-requires
-    enum-known-step-2
+    object-register-requires
     the-type-requires
-    write-access-requires
+    write-copy-requires
+    write-window-requires
+    enum-known-step-2
+    the-type-requires-2
+    write-window-requires-2
     enum-told-2
     write-whole-requires
     returns
