@@ -2,7 +2,7 @@
 use Prim.Native.Nat.{ℕ, zero, suc, _+_, _^_, _<_, _≤_}
 use mathlib.Core.Path.{_≡_}
 use mathlib.Core.Bool.{Bool, true, false}
-use mathlib.Core.List.{List, [], _∷_}
+use mathlib.Core.List.{List}
 use native.Mathlib.Omega.{arith}
 use borrow.Author.Tests.{ltb-true}
 use Rattle.kinds.specs.Widths.{width, fits}
@@ -30,7 +30,6 @@ use Rattle.checking.specs.Checking.{memoryLimit}
 use Rattle.checking.specs.Laws.Names.{load-register, load-object-ok, store-register}
 use Rattle.checking.specs.Laws.Steps.{check-sized}
 use Rattle.checking.specs.Laws.Turns.{within-step}
-use Rattle.records.specs.declared.Record.the-variants.{Copy}
 use Rattle.records.specs.Laws.{AllWithin, all-append}
 use Rattle.records.specs.Ranges as ranges
 use Rattle.runs.specs.Ranges.{Near, runs-within}

@@ -38,7 +38,7 @@ use Rattle.carrying.specs.Steps.{Machine, stateOf, machineOf, withObject, objec
 use Rattle.carrying.specs.Machines.{checkOn, Accepted}
 use Rattle.carrying.specs.Laws.Types.{object-type}
 use Rattle.records.specs.declared.Record.{Record}
-use Rattle.records.specs.declared.Record.the-variants.{Copy, Whole}
+use Rattle.records.specs.declared.Record.the-variants.{Whole}
 use Rattle.runs.specs.States.{performAll, performAll-append}
 use Rattle.translating.specs.Tapes.{copyRecords, accessRecords, stepRecords}
 use Rattle.judging.specs.Records.{wholeRecordOk, recordOk}
