@@ -38,7 +38,8 @@ pub fn bench(archive: &dyn Jobs, reference: &dyn Jobs, samples: usize) {
 fn bench_sheet(name: &str, sheet: &[u8], archive: &dyn Jobs, reference: &dyn Jobs, samples: usize) {
     let mut bench = Bench::new(sheet, reference);
     for (job, call) in [
-        ("carry_out", Bench::carry_out as fn(&mut Bench, &dyn Jobs)),
+        ("read", Bench::read as fn(&mut Bench, &dyn Jobs)),
+        ("carry_out", Bench::carry_out),
         ("translate", Bench::translate),
         ("run_tape", Bench::run),
     ] {
@@ -76,6 +77,11 @@ impl Bench {
         let tape = room[..records[0] as usize * RECORD_NUMBERS].to_vec();
         let memory = (0..MEMORY_MAX).map(|i| (i * 7 + i / 251) as u8).collect();
         Bench { sheet: sheet.to_vec(), memory, room, tape, state: State::EMPTY, answer }
+    }
+
+    fn read(&mut self, jobs: &dyn Jobs) {
+        let mut counts = [0; 3];
+        jobs.read(&self.sheet, &mut counts, &mut self.answer);
     }
 
     fn carry_out(&mut self, jobs: &dyn Jobs) {
