@@ -8,6 +8,7 @@ use borrow.Author.Tests.{le-leb, lt-leb, eq-eqb, ne-eqb}
 use lib.Dec.{eqb}
 use Rattle.numbers.specs.Choice.{pick}
 use Rattle.sheet.specs.Steps.{theStep}
+use Rattle.sheet.specs.Sheets.{emptySheet}
 use Rattle.refusals.specs.declared.Refusal.{Refusal}
 use Rattle.sheet.specs.declared.Sheet.{Sheet}
 use Rattle.sheet_reader.specs.Reading.{readSheet}
@@ -15,7 +16,7 @@ use Rattle.registers.specs.Registers.{emptyRegisters}
 use Rattle.registers.specs.declared.MatrixType.{MatrixType}
 use Rattle.checking.specs.Steps.{checkedStep}
 use Rattle.refusals.specs.Refusals.{memoryTooLarge, refusalAt, notRefused}
-use Rattle.checking.specs.Checking.{memoryLimit, checkRefused, checkedFrom, checked, checkedSheet}
+use Rattle.checking.specs.Checking.{memoryLimit, checkRefused, checkedFrom, checked, checkedSheet, judgedSheet}
 use Rattle.checking.specs.Laws.Turns.{one-less}
 use Rattle.checking.specs.declared.StepCheck.{StepCheck}
 use Rattle.checking.specs.declared.CheckAnswer.{CheckAnswer}
@@ -54,6 +55,10 @@ module _ (s : List ℕ) (len : ℕ) where
   unfolding checkedSheet pick
   readable h n = rw (le-leb len memoryLimit h, eq-eqb (readSheet s .refusal .number) 0 n)
 
--- a refusal is none with number 0
-pub refused-not : {c : CheckAnswer} {r : Refusal} → c ≡ checkRefused r → 0 < r .number → c .refusal .number ≡ 0 → ⊥
-refused-not {r = r} e n z = let q : r .number ≡ 0 = rw e at z in omega arith
+  pub large-sheet : memoryLimit < len → judgedSheet s len ≡ emptySheet
+  unfolding judgedSheet pick
+  large-sheet h = rw (lt-leb len memoryLimit h)
+
+  pub few-sheet : len ≤ memoryLimit → judgedSheet s len ≡ readSheet s .sheet
+  unfolding judgedSheet pick
+  few-sheet h = rw (le-leb len memoryLimit h)

@@ -4,6 +4,7 @@ use mathlib.Core.List.{List}
 use lib.Dec.{eqb, leb}
 use Rattle.numbers.specs.Choice.{pick}
 use Rattle.sheet.specs.Steps.{theStep}
+use Rattle.sheet.specs.Sheets.{emptySheet}
 use Rattle.sheet.specs.declared.Sheet.{Sheet}
 use Rattle.refusals.specs.Refusals.{memoryTooLarge, refusalAt, notRefused}
 use Rattle.refusals.specs.declared.Refusal.{Refusal}
@@ -41,3 +42,7 @@ checkedSheet s len =
     (checked (readSheet s .sheet) len)
     (checkRefused (readSheet s .refusal)))
     (checkRefused (refusalAt memoryTooLarge 0 0))
+
+-- the sheet of a check: what was read, and none where 18 comes first
+unfoldable pub judgedSheet : List ℕ → ℕ → Sheet
+judgedSheet s len = pick (leb len memoryLimit) (readSheet s .sheet) emptySheet

@@ -3,8 +3,7 @@ pub mod checks;
 pub mod windows;
 
 ghost use mathlib.Core.Path.{_≡_};
-ghost use Rattle.sheet_reader.specs.Reading.{readSheet};
-ghost use Rattle.checking.specs.Checking.{checkRefused, checkedSheet};
+ghost use Rattle.checking.specs.Checking.{checkRefused, checkedSheet, judgedSheet};
 use refusals::MEMORY_TOO_LARGE;
 use refusals::Refusal;
 use refusals::Stop;
@@ -29,35 +28,39 @@ pub struct CheckAnswer {
     pub count: usize,
 }
 
-// A sheet read and checked: the check's answer, and where it is not refused the sheet.
+// A sheet read and checked: the check's answer, and the sheet.
 pub struct Judged {
     pub answer: CheckAnswer,
     pub sheet: Sheet,
 }
 
-fn judged_refused(refusal: Refusal) -> Judged
+fn judged_refused(refusal: Refusal, sheet: Sheet) -> Judged
     ensures { λ r. ⌜ r .answer ≡ checkRefused refusal ⌝ }
+    ensures { λ r. ⌜ r .sheet ≡ sheet ⌝ }
 {
     Judged {
         answer: checks::check_refused(refusal),
-        sheet: sheets::empty_sheet(),
+        sheet,
     }
 }
 
 // 18, the sheet's reading, and its check: what carrying out and translating begin with.
 pub fn judge(sheet: &[u8], memory_len: usize) -> Judged
     ensures { λ r. ⌜ r .answer ≡ checkedSheet (now (sheet .entry)) «memory_len» ⌝ }
-    ensures { λ r. ⌜ (r .answer .refusal .number ≡ 0 → r .sheet ≡ readSheet (now (sheet .entry)) .sheet) ⌝ }
+    ensures { λ r. ⌜ r .sheet ≡ judgedSheet (now (sheet .entry)) «memory_len» ⌝ }
 {
     if MEMORY_LIMIT < memory_len {
-        return judged_refused(refusals::refusal_at(MEMORY_TOO_LARGE, 0, 0));
+        return judged_refused(
+            refusals::refusal_at(MEMORY_TOO_LARGE, 0, 0),
+            sheets::empty_sheet(),
+        );
     }
     let read = sheet_reader::read_sheet(sheet);
     let refusal = read.refusal;
-    if 0 < refusal.number {
-        return judged_refused(refusal);
-    }
     let model = read.sheet;
+    if 0 < refusal.number {
+        return judged_refused(refusal, model);
+    }
     let answer = checks::check(model, memory_len);
     Judged {
         answer,

@@ -1,5 +1,5 @@
 use Rattle.carrying.proofs.Laws.{carried-refused, memory-refused, carried-accepted, memory-accepted}
-use Rattle.checking.specs.Laws.Readable.{sheet-readable}
+use Rattle.checking.specs.Laws.Readable.{sheet-readable, judged-read}
 use Rattle.checking.specs.declared.CheckAnswer.{CheckAnswer}
 use Rattle.carrying.specs.Carrying.{started, performed, carryAnswer}
 use Rattle.sheet.specs.declared.Sheet.{Sheet}
@@ -29,7 +29,7 @@ perform-requires c κs = let j = c .before .before .before .before .before .befo
     let a = c .before .before .before .before .before .before .before .before .before .args in
     let z : j .result .answer .refusal .number ≡ 0 = omega (arith, c .before .before .if1 .left) in
     let r = sheet-readable (now (a .sheet)) (length (now (a .memory))) (ap (λ (x : CheckAnswer). x .refusal .number) (sym (j .ensures .0)) ∙ z) in
-    rw (j .ensures .1 z) (r .within, r .few, r .clear)
+    rw (judged-read (now (a .sheet)) (length (now (a .memory))) (j .ensures .0) (j .ensures .1) z) (r .within, r .few, r .clear)
 
 not-refused-requires : tie.Need-not-refused-requires
 not-refused-requires c κs = search needs
@@ -45,7 +45,7 @@ returns-2 c = let j = c .before .before .before .before .before .before .before 
     let z : j .result .answer .refusal .number ≡ 0 = omega (arith, c .before .before .before .before .before .before .before .if1 .left) in
     let n = ap (λ (x : CheckAnswer). x .refusal .number) (sym (j .ensures .0)) ∙ z in
     let g = c .before .before .before .before .perform in
-    let p = g .ensures ∙ ap (λ (x : Sheet). performed x (started m)) (j .ensures .1 z) in
+    let p = g .ensures ∙ ap (λ (x : Sheet). performed x (started m)) (judged-read s (length m) (j .ensures .0) (j .ensures .1) z) in
     (ap (λ (r : Refusal). carryAnswer r (g .result .registers) (g .result .count)) (c .not-refused .ensures) ∙ carried-accepted s m n p, memory-accepted s m n p)
 
 pub carry-out-spec : {M : Type 1} → statement M

@@ -3,7 +3,7 @@ use Rattle.translating.specs.Translating.{translateAnswer}
 use Rattle.translating.specs.Tapes.{tapeOf}
 use Rattle.records.specs.Records.{tapeNumbers}
 use Rattle.checking.specs.declared.CheckAnswer.{CheckAnswer}
-use Rattle.checking.specs.Laws.Readable.{sheet-readable}
+use Rattle.checking.specs.Laws.Readable.{sheet-readable, judged-read}
 use Rattle.sheet.specs.declared.Sheet.{Sheet}
 use Rattle.refusals.specs.Refusals.{notRefused}
 use Rattle.refusals.specs.declared.Refusal.{Refusal}
@@ -41,7 +41,7 @@ count-tape-requires c κs =
     let a = c .before .before .before .before .before .before .before .before .before .args in
     let s = now (a .sheet) in
     let fine : j .result .answer .refusal .number ≡ 0 = omega (arith, c .before .before .before .if1 .left) in
-    let model = j .ensures .1 fine in
+    let model = judged-read s (a .memory-len) (j .ensures .0) (j .ensures .1) fine in
     let r = sheet-readable s (a .memory-len) (ap (λ (x : CheckAnswer). x .refusal .number) (sym (j .ensures .0)) ∙ fine) in
     rw model (r .within, r .few, r .clear, c .before .no-entries .ensures)
 
@@ -60,7 +60,7 @@ returns-2 c =
     let a = c .before .before .before .before .before .before .before .before .before .before .before .before .before .before .args in
     let s = now (a .sheet) in
     let fine : j .result .answer .refusal .number ≡ 0 = omega (arith, c .before .before .before .before .before .before .before .before .if1 .left) in
-    let model = j .ensures .1 fine in
+    let model = judged-read s (a .memory-len) (j .ensures .0) (j .ensures .1) fine in
     let tested = room-tested s (a .memory-len) (length (now (a .tape))) model (c .before .before .before .before .count-tape .ensures .1) (c .before .before .before .records-fit .ensures) in
     let long = went-not tested (c .before .before .if2 .taken) in (
       c .translate-refused2 .ensures
@@ -75,7 +75,7 @@ write-tape-requires c κs =
     let a = c .before .before .before .before .before .before .before .before .before .before .before .before .before .before .args in
     let s = now (a .sheet) in
     let fine : j .result .answer .refusal .number ≡ 0 = omega (arith, c .before .before .before .before .before .before .before .before .if1 .left) in
-    let model = j .ensures .1 fine in
+    let model = judged-read s (a .memory-len) (j .ensures .0) (j .ensures .1) fine in
     let counted = c .before .before .before .before .count-tape .ensures in
     let r = sheet-readable s (a .memory-len) (ap (λ (x : CheckAnswer). x .refusal .number) (sym (j .ensures .0)) ∙ fine) in
     let tested = room-tested s (a .memory-len) (length (now (a .tape))) model (counted .1) (c .before .before .before .records-fit .ensures) in
@@ -94,7 +94,7 @@ returns-3 c =
     let a = c .before .before .before .before .before .before .before .before .before .before .before .before .before .before .before .before .before .args in
     let s = now (a .sheet) in
     let fine : j .result .answer .refusal .number ≡ 0 = omega (arith, c .before .before .before .before .before .before .before .before .before .before .before .if1 .left) in
-    let model = j .ensures .1 fine in
+    let model = judged-read s (a .memory-len) (j .ensures .0) (j .ensures .1) fine in
     let counted = c .before .before .before .before .before .before .before .count-tape in
     let tested = room-tested s (a .memory-len) (length (now (a .tape))) model (counted .ensures .1) (c .before .before .before .before .before .before .records-fit .ensures) in
     let fits = went-past tested (c .before .before .before .before .before .if2 .left) in
