@@ -65,7 +65,7 @@
  * Stack
  * -----
  * MOONBLEAT_STACK bytes of stack are enough for a call. This is measured, on 20,000 sheets and their
- * tapes, and tested, not proved: moonbleat_carry_out took 22,344 bytes, every other function less.
+ * tapes, and tested, not proved: moonbleat_carry_out took 28,872 bytes, every other function less.
  * What a thread needs for itself comes on top.
  *
  * docs/SHEETS.md describes sheets and tapes field by field.

@@ -1,4 +1,4 @@
-//! The strips of the scope: sheets and memories from the files under `strips/`, and what the
+//! The strips of the scope and one beside them: sheets and memories from the files under `strips/`, and what the
 //! scope says that they give.
 
 use crate::jobs::{Jobs, State};
@@ -33,7 +33,7 @@ macro_rules! strip {
     };
 }
 
-/// Every strip, in the scope's order.
+/// Every strip, in the scope's order; the last is none of the scope's.
 pub fn strips() -> Vec<Strip> {
     use Expected::*;
     vec![
@@ -50,6 +50,7 @@ pub fn strips() -> Vec<Strip> {
         strip!("10-stride-zero-single", Memory(&[5])),
         strip!("10-stride-zero-pair", Refusal([15, 1, 1])),
         strip!("11-two-by-two-add", Register(1, [1, 1], &[47])),
+        strip!("12-blocks-of-two", Register(1, [1, 8], &[0, 0, 1, 1, 2, 2, 3, 3])),
     ]
 }
 
@@ -141,6 +142,6 @@ mod tests {
 
     #[test]
     fn the_reference_gives_what_the_scope_says() {
-        assert_eq!(check_strips(&Reference::default()), Ok(13));
+        assert_eq!(check_strips(&Reference::default()), Ok(14));
     }
 }
