@@ -18,11 +18,10 @@ use Rattle.outcomes.specs.declared.Outcome.the-variants.{Skipped, Filled, Disca
 use Rattle.addressing.specs.declared.Access.{Access}
 use Rattle.addressing.specs.declared.Located.{Located}
 use Rattle.addressing.specs.Rules.{elementsOf}
-use Rattle.refusals.specs.Refusals as refusal
-use Rattle.refusals.specs.Refusals.{stopAt}
+use Rattle.refusals.specs.Refusals.{unalignedBase, ranksDiffer, blockedStore, byteTwice, stopAt}
 use Rattle.refusals.specs.declared.Stop.{Stop}
 use Rattle.accesses.specs.declared.Tally.{Tally}
-use Rattle.accesses.specs.Refusals.{elementOutcome, firstRefused, sameByte, sameAt, meets, clashFrom, apart, clashRefusal, elementsRefusal, placedOne, placedCount, checkedBy, checked, misplaced, ranksDiffer, storeBlocked, accessRefusal, checkedAccess}
+use Rattle.accesses.specs.Refusals.{elementOutcome, firstRefused, sameByte, sameAt, meets, clashFrom, apart, clashRefusal, elementsRefusal, placedOne, placedCount, checkedBy, checked, misplaced, otherRank, storeBlocked, accessRefusal, checkedAccess}
 use Rattle.accesses.specs.Entries.{Near, entryOf, hasByte, hits, sameEntry, Surveyed}
 use Rattle.sheet.specs.Sizes.{matrixPlaces}
 
@@ -220,7 +219,7 @@ module _ (load : Bool) (f : ℕ → Located) (m : ℕ) {s : Stop} (e : s ≡ fir
     checked-load t c = rw (← e, z, t) (ap (checkedBy (stopAt 0 0)) c)
 
     module _ (i : ℕ) (t : load ≡ false) (clash : i ≡ clashFrom (sameAt f) 0 m) where
-      pub checked-clash : i < m → checkedBy (stopAt refusal.byteTwice i) 0 ≡ checked f m (elementsRefusal load f m)
+      pub checked-clash : i < m → checkedBy (stopAt byteTwice i) 0 ≡ checked f m (elementsRefusal load f m)
       unfolding checked elementsRefusal clashRefusal pick
       checked-clash h = rw (← e, z, t, ← clash, lt-ltb i m h)
 
@@ -230,17 +229,17 @@ module _ (load : Bool) (f : ℕ → Located) (m : ℕ) {s : Stop} (e : s ≡ fir
 
 -- Refusals 9 to 11
 module _ (a : Access) where
-  pub access-nine : misplaced a ≡ true → checkedBy (stopAt refusal.unalignedBase 0) 0 ≡ checkedAccess a
+  pub access-nine : misplaced a ≡ true → checkedBy (stopAt unalignedBase 0) 0 ≡ checkedAccess a
   unfolding accessRefusal checked pick
   access-nine e = rw e
 
   module _ (nine : misplaced a ≡ false) where
-    pub access-ten : ranksDiffer a ≡ true → checkedBy (stopAt refusal.ranksDiffer 0) 0 ≡ checkedAccess a
+    pub access-ten : otherRank a ≡ true → checkedBy (stopAt ranksDiffer 0) 0 ≡ checkedAccess a
     unfolding accessRefusal checked pick
     access-ten e = rw (nine, e)
 
-    module _ (ten : ranksDiffer a ≡ false) where
-      pub access-eleven : storeBlocked a ≡ true → checkedBy (stopAt refusal.blockedStore 0) 0 ≡ checkedAccess a
+    module _ (ten : otherRank a ≡ false) where
+      pub access-eleven : storeBlocked a ≡ true → checkedBy (stopAt blockedStore 0) 0 ≡ checkedAccess a
       unfolding accessRefusal checked pick
       access-eleven e = rw (nine, ten, e)
 

@@ -11,8 +11,7 @@ use Rattle.outcomes.specs.declared.Outcome.the-variants.{Skipped, Filled, Disca
 use Rattle.addressing.specs.declared.Access.{Access}
 use Rattle.addressing.specs.declared.Located.{Located}
 use Rattle.addressing.specs.Rules.{elementsOf, located}
-use Rattle.refusals.specs.Refusals as refusal
-use Rattle.refusals.specs.Refusals.{stopAt}
+use Rattle.refusals.specs.Refusals.{unalignedBase, ranksDiffer, blockedStore, byteTwice, stopAt}
 use Rattle.refusals.specs.declared.Stop.{Stop}
 use Rattle.accesses.specs.declared.Checked.{Checked}
 
@@ -25,8 +24,8 @@ abbrev pub misplaced : Access → Bool
 misplaced a = not (eqb (a .base % 16) 0)
 
 -- Refusal 10: view without dimensions and another dimension count than the layout's
-unfoldable pub ranksDiffer : Access → Bool
-ranksDiffer a = both (a .viewed) (both (not (a .view .sized)) (not (eqb (a .view .rank) (a .layout .rank))))
+unfoldable pub otherRank : Access → Bool
+otherRank a = both (a .viewed) (both (not (a .view .sized)) (not (eqb (a .view .rank) (a .layout .rank))))
 
 -- no block size is above 1
 unfoldable pub blocksOne : Layout → Bool
@@ -71,7 +70,7 @@ sameAt f j i = sameByte (f j .outcome) (f i .outcome)
 
 -- Refusal 15: a store where a later element has an earlier one's byte, at the first such later element
 unfoldable pub clashRefusal : ℕ → ℕ → Stop
-clashRefusal m i = pick (ltb i m) (stopAt refusal.byteTwice i) (stopAt 0 0)
+clashRefusal m i = pick (ltb i m) (stopAt byteTwice i) (stopAt 0 0)
 
 -- Refusals 12 to 15 of m elements: 12, 13, 14 element by element, 15 after all
 unfoldable pub elementsRefusal : Bool → (ℕ → Located) → ℕ → Stop
@@ -83,9 +82,9 @@ elementsRefusal load f m =
 -- Refusals 9 to 15
 unfoldable pub accessRefusal : Access → Stop
 accessRefusal a =
-    pick (misplaced a) (stopAt refusal.unalignedBase 0)
-    (pick (ranksDiffer a) (stopAt refusal.ranksDiffer 0)
-    (pick (storeBlocked a) (stopAt refusal.blockedStore 0)
+    pick (misplaced a) (stopAt unalignedBase 0)
+    (pick (otherRank a) (stopAt ranksDiffer 0)
+    (pick (storeBlocked a) (stopAt blockedStore 0)
     (elementsRefusal (a .load) (elementOutcome a) (elementsOf a))))
 
 -- 1 for an element with a byte

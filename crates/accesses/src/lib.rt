@@ -8,7 +8,7 @@ ghost use Rattle.sheet.specs.Layouts.{theDimension, layoutOk};
 ghost use Rattle.addressing.specs.Rules.{elementsOf};
 ghost use Rattle.addressing.specs.Valid.{SizedAccess, Planned};
 ghost use Rattle.sheet.specs.Sizes.{rankPlaces, matrixPlaces};
-ghost use Rattle.accesses.specs.Refusals.{elementOutcome, ranksDiffer, blocksOne, storeBlocked, elementsRefusal, placedOne, checkedBy, checked, checkedAccess};
+ghost use Rattle.accesses.specs.Refusals.{elementOutcome, otherRank, blocksOne, storeBlocked, elementsRefusal, placedOne, checkedBy, checked, checkedAccess};
 ghost use Rattle.accesses.specs.Entries.{Near, entryOf, entryOutcome, Surveyed};
 ghost use Rattle.accesses.specs.Marks.{Scratch};
 
@@ -174,8 +174,8 @@ fn check_elements(entries: &mut [u32; PLACES], marks: &mut [u32; MARKS], p: Plan
 }
 
 // Refusal 10.
-fn ranks_differ(a: Access) -> bool
-    ensures { λ r. ⌜ r ≡ ranksDiffer a ⌝ }
+fn other_rank(a: Access) -> bool
+    ensures { λ r. ⌜ r ≡ otherRank a ⌝ }
 {
     if !a.viewed {
         return false;
@@ -232,7 +232,7 @@ pub fn check_access(entries: &mut [u32; PLACES], marks: &mut [u32; MARKS], a: Ac
     if a.base % 16 != 0 {
         return refuse(UNALIGNED_BASE, 0);
     }
-    if ranks_differ(a) {
+    if other_rank(a) {
         return refuse(RANKS_DIFFER, 0);
     }
     if store_blocked(a) {

@@ -11,7 +11,7 @@ use Rattle.refusals.specs.Refusals.{recordOutOfRange, refusalAt, notRefused}
 use Rattle.refusals.specs.declared.Refusal.{Refusal}
 use Rattle.registers.specs.Registers.{emptyRegisters}
 use Rattle.registers.specs.declared.MatrixType.{MatrixType}
-use Rattle.records.specs.Records.{recordAt}
+use Rattle.records.specs.Records.{recordLength, recordAt}
 use Rattle.records.specs.declared.Decoded.{Decoded}
 use Rattle.records.specs.declared.Decoded.the-variants.{Good, Bad}
 use Rattle.records.specs.Room.{recordsFit}
@@ -19,7 +19,7 @@ use Rattle.judging.specs.Records.{stepNamed, placeOf, recordOkWith, reco
 
 -- record k of a tape, by its six numbers
 abbrev pub tapeRecord : List ℤ → ℕ → Decoded
-tapeRecord tape k = recordAt tape (k * 6)
+tapeRecord tape k = recordAt tape (k * recordLength)
 
 -- the place where the step that it names is looked up
 abbrev pub placeNamed : ℕ → Decoded → ℕ

@@ -6,6 +6,7 @@ ghost use lib.ListN.{length};
 ghost use Rattle.sheet.specs.Sizes.{matrixPlaces, recordPlaces};
 ghost use Rattle.registers.specs.Sized.{Sized, SizedType};
 ghost use Rattle.sheet.specs.Laws.Within.{Within};
+ghost use Rattle.records.specs.Records.{recordLength};
 ghost use Rattle.records.specs.Ranges.{Bytes, Sound};
 ghost use Rattle.records.specs.declared.Decoded.the-variants.{Good};
 ghost use Rattle.records.specs.declared.Record.the-variants.{Whole};
@@ -301,7 +302,7 @@ pub fn place_named(steps: usize, d: Decoded) -> usize
 
 // The first record out of range, from empty registers.
 fn range(sheet: Sheet, tape: &[i32], records: usize, len: usize) -> Refusal
-    requires { ⌜ Within sheet × (records ≤ recordPlaces) × (records * 6 ≤ length (now tape)) ⌝ }
+    requires { ⌜ Within sheet × (records ≤ recordPlaces) × (records * recordLength ≤ length (now tape)) ⌝ }
     ensures { λ r. ⌜ r ≡ rangeRefusal records sheet len (tapeRecord (now (tape .entry))) ⌝ }
 {
     let none = registers::no_type();

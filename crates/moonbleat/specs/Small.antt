@@ -37,7 +37,7 @@ use Rattle.addressing.specs.Rules.{elementsOf}
 use Rattle.addressing.specs.declared.Access.{Access}
 use Rattle.addressing.specs.declared.Located.{Located}
 use Rattle.accesses.specs.Refusals as accesses
-use Rattle.accesses.specs.Refusals.{elementOutcome, misplaced, ranksDiffer, storeBlocked, firstRefused, sameAt, clashFrom, clashRefusal, elementsRefusal, accessRefusal}
+use Rattle.accesses.specs.Refusals.{elementOutcome, misplaced, otherRank, storeBlocked, firstRefused, sameAt, clashFrom, clashRefusal, elementsRefusal, accessRefusal}
 use Rattle.refusals.specs.declared.Stop.{Stop}
 use Rattle.whole_steps.specs.Laws.Within.{refusal-element}
 use Rattle.checking.specs.Steps.{accessOf, objectRegister, accessCheck, checkedStep}
@@ -121,7 +121,7 @@ access-among a =
     let f = elementOutcome a in
     let m = elementsOf a in
     pick-case P (misplaced a) _ _ (λ e. omega arith)
-    (λ e. pick-case P (ranksDiffer a) _ _ (λ e. omega arith)
+    (λ e. pick-case P (otherRank a) _ _ (λ e. omega arith)
     (λ e. pick-case P (storeBlocked a) _ _ (λ e. omega arith)
     (λ e. pick-case P (eqb (firstRefused f 0 m .number) 0) _ _
     (λ e. pick-case P (a .load) _ _ (λ e. omega arith) (λ e. clash-among m (clashFrom (sameAt f) 0 m)))

@@ -8,6 +8,7 @@ use lib.ListN.{set}
 use lib.Seq.{sets}
 use lib.IntN.{ℤ}
 use Rattle.numbers.specs.Choice.{both-left, both-right}
+use Rattle.sheet.specs.Sizes.{registerCount}
 use Rattle.signed.specs.Numbers.{rise, fall}
 use Rattle.signed.specs.Laws.{one-way, spans-rise, spans-fall, least-rise}
 use Rattle.records.specs.Records.{registerOk, stepOk, countOk, copyOk, bytesOk, fillOk}
@@ -43,7 +44,7 @@ module _ (a b c d e : ℤ) where
   fill-count h = both-left _ _ (both-right _ _ (both-right _ _ h))
 
 -- elements that were read
-pub elements-read : (c : ℤ) → countOk c ≡ true → {r f n : ℕ} → r < 4 → f < 2 ^ 31 → n ≡ rise c → n < 2 ^ 31 → Elements r f n
+pub elements-read : (c : ℤ) → countOk c ≡ true → {r f n : ℕ} → r < registerCount → f < 2 ^ 31 → n ≡ rise c → n < 2 ^ 31 → Elements r f n
 elements-read c h p q e s = record { register = p; first = q; some = rw e (least-rise 1 c h); count = s }
 
 -- a byte and a step that were read

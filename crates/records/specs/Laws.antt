@@ -1,5 +1,5 @@
 -- What is written reads back: the six numbers of a record within its ranges say that record.
-use Prim.Native.Nat.{ℕ, zero, suc, _+_, _*_, _≤_, _<_, _^_}
+use Prim.Native.Nat.{ℕ, zero, suc, _+_, _*_, _-_, _≤_, _<_, _^_}
 use mathlib.Core.Path.{_≡_, refl, _∙_}
 use mathlib.Core.Bool.{Bool, true, false}
 use mathlib.Core.List.{List, [], _∷_, _++_, append-assoc}
@@ -10,7 +10,7 @@ use borrow.Author.Tests.{le-leb, leb-true}
 use lib.ListN.{length, getD, length-append}
 use lib.IntN.{ℤ, pos}
 use Rattle.numbers.specs.Choice.{pick, both-true, both-left, both-right}
-use Rattle.sheet.specs.Sizes.{recordPlaces}
+use Rattle.sheet.specs.Sizes.{registerCount, recordPlaces}
 use Rattle.sheet.specs.Editions.{limits}
 use Rattle.sheet.specs.Laws.Editions.{limits-records}
 use Rattle.signed.specs.Numbers.{rise, fall, is, atLeast, difference, signedOf}
@@ -18,12 +18,12 @@ use Rattle.signed.specs.Laws.{spans-true, rise-difference, fall-difference, bit
 use Rattle.records.specs.declared.Record.{Record}
 use Rattle.records.specs.declared.Record.the-variants.{Copy, Take, Put, Fill, Whole}
 use Rattle.records.specs.declared.Decoded.the-variants.{Good}
-use Rattle.records.specs.Records.{recordNumbers, tapeNumbers, moved, registerOk, stepOk, copyOk, bytesOk, fillOk, wholeOk, copyOf, bytesOf, fillOf, wholeOf, recordOf, recordAt}
+use Rattle.records.specs.Records.{recordLength, recordNumbers, tapeNumbers, moved, registerOk, stepOk, copyOk, bytesOk, fillOk, wholeOk, copyOf, bytesOf, fillOf, wholeOf, recordOf, recordAt}
 use Rattle.records.specs.Ranges.{Elements, Bytes, Within}
 use Rattle.records.specs.Room.{recordsFit}
 
-register-true : (r : ℕ) → r < 4 → registerOk (pos r) ≡ true
-register-true r h = spans-true 0 3 (pos r) (omega arith) (omega arith)
+register-true : (r : ℕ) → r < registerCount → registerOk (pos r) ≡ true
+register-true r h = spans-true 0 (registerCount - 1) (pos r) (omega arith) (omega arith)
 
 least-true : (low n : ℕ) → low ≤ n → atLeast low (pos n) ≡ true
 unfolding atLeast
@@ -43,7 +43,7 @@ module _ (b u d : ℕ) (h : Bytes b u d) where
   step-true : stepOk (difference u d) ≡ true
   step-true = spans-true 65535 65535 (difference u d) (rw down-back (h .down)) (rw up-back (h .up))
 
-copy-back : (r o : ℕ) → r < 4 → o < 4 → copyOf (pos r) (pos o) (pos 0) (pos 0) (pos 0) ≡ Good (Copy r o)
+copy-back : (r o : ℕ) → r < registerCount → o < registerCount → copyOf (pos r) (pos o) (pos 0) (pos 0) (pos 0) ≡ Good (Copy r o)
 unfolding copyOf copyOk pick
 copy-back r o p q =
     rw (both-true _ _ (register-true r p) (both-true _ _ (register-true o q) (both-true _ _ none-true (both-true _ _ none-true none-true))))
@@ -74,10 +74,10 @@ record-back (Put r f n b u d) t h = bytes-back false r f n b u d (h .0) (h .1)
 record-back (Fill r f n v) t h = fill-back r f n v (h .0) (h .1)
 record-back (Whole s) t h = whole-back s
 
-past : (a b c d e f : ℤ) (t : List ℤ) (at : ℕ) → recordAt (a ∷ b ∷ c ∷ d ∷ e ∷ f ∷ t) (at + 6) ≡ recordAt t at
+past : (a b c d e f : ℤ) (t : List ℤ) (at : ℕ) → recordAt (a ∷ b ∷ c ∷ d ∷ e ∷ f ∷ t) (at + recordLength) ≡ recordAt t at
 past a b c d e f t at = simp towards-suc
 
-pub record-past : (r : Record) (t : List ℤ) (at : ℕ) → recordAt (recordNumbers r ++ t) (at + 6) ≡ recordAt t at
+pub record-past : (r : Record) (t : List ℤ) (at : ℕ) → recordAt (recordNumbers r ++ t) (at + recordLength) ≡ recordAt t at
 record-past (Copy r o) t at = past _ _ _ _ _ _ t at
 record-past (Take r f n b u d) t at = past _ _ _ _ _ _ t at
 record-past (Put r f n b u d) t at = past _ _ _ _ _ _ t at
@@ -97,12 +97,12 @@ AllWithin rs = AllRecords Within rs
 
 -- record k of a written tape
 pub tape-back : (rs : List Record) (t : List ℤ) (k : ℕ) → AllWithin rs → k < length rs
-    → recordAt (tapeNumbers rs ++ t) (k * 6) ≡ Good (getD rs k (Whole 0))
+    → recordAt (tapeNumbers rs ++ t) (k * recordLength) ≡ Good (getD rs k (Whole 0))
 tape-back [] t k h l = absurd (not-suc-le-zero l)
 tape-back (r ∷ rs) t zero h l = rw append-assoc (record-back r (tapeNumbers rs ++ t) (h .0))
 tape-back (r ∷ rs) t (suc k) h l =
-    let e : suc k * 6 ≡ k * 6 + 6 = omega arith in
-    rw (e, append-assoc, record-past r (tapeNumbers rs ++ t) (k * 6)) (tape-back rs t k (h .1) (omega arith))
+    let e : suc k * recordLength ≡ k * recordLength + recordLength = omega arith in
+    rw (e, append-assoc, record-past r (tapeNumbers rs ++ t) (k * recordLength)) (tape-back rs t k (h .1) (omega arith))
 
 -- ---- ranges and lengths
 
@@ -111,14 +111,14 @@ unfolding moved
 moved-within true p q = (p, q)
 moved-within false p q = (p, q)
 
-pub length-numbers : (r : Record) → length (recordNumbers r) ≡ 6
+pub length-numbers : (r : Record) → length (recordNumbers r) ≡ recordLength
 length-numbers (Copy r o) = refl
 length-numbers (Take r f n b u d) = refl
 length-numbers (Put r f n b u d) = refl
 length-numbers (Fill r f n v) = refl
 length-numbers (Whole s) = refl
 
-pub length-tape : (rs : List Record) → length (tapeNumbers rs) ≡ length rs * 6
+pub length-tape : (rs : List Record) → length (tapeNumbers rs) ≡ length rs * recordLength
 length-tape [] = refl
 length-tape (r ∷ rs) = length-append (recordNumbers r) (tapeNumbers rs) ∙ omega (arith, length-numbers r, length-tape rs)
 
@@ -134,6 +134,6 @@ module _ (edition room records : ℕ) (e : recordsFit edition room records ≡ t
       let h : records ≤ limits edition .records = leb-true _ _ (both-left _ _ e) in
       omega (arith, h, limits-records edition)
 
-  pub fit-room : records * 6 ≤ room
+  pub fit-room : records * recordLength ≤ room
   unfolding recordsFit
   fit-room = leb-true _ _ (both-right _ _ e)

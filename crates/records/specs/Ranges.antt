@@ -1,6 +1,7 @@
 -- The ranges of a record's numbers: those that six signed 32-bit numbers can say, and that are not out of range.
 use Prim.Native.Nat.{ℕ, _≤_, _<_, _^_, min}
 use mathlib.Core.Path.{_≡_}
+use Rattle.sheet.specs.Sizes.{registerCount}
 use Rattle.records.specs.declared.Record.{Record}
 use Rattle.records.specs.declared.Record.the-variants.{Copy, Take, Put, Fill, Whole}
 use Rattle.records.specs.declared.Decoded.{Decoded}
@@ -8,7 +9,7 @@ use Rattle.records.specs.declared.Decoded.the-variants.{Good, Bad}
 
 -- elements of a register
 pub record Elements (r f n : ℕ) : Type 0 where
-  pub register : r < 4
+  pub register : r < registerCount
   pub first : f < 2 ^ 31
   pub some : 1 ≤ n
   pub count : n < 2 ^ 31
@@ -21,7 +22,7 @@ pub record Bytes (b u d : ℕ) : Type 0 where
   pub way : min u d ≡ 0
 
 abbrev pub Within : Record → Type 0
-Within (Copy register object) = (register < 4) × (object < 4)
+Within (Copy register object) = (register < registerCount) × (object < registerCount)
 Within (Take register first count byte up down) = Elements register first count × Bytes byte up down
 Within (Put register first count byte up down) = Elements register first count × Bytes byte up down
 Within (Fill register first count value) = Elements register first count × (value < 2 ^ 32)

@@ -1,9 +1,10 @@
 -- The records of a tape and their six numbers, both ways.
-use Prim.Native.Nat.{ℕ, _+_}
+use Prim.Native.Nat.{ℕ, _+_, _-_}
 use mathlib.Core.Bool.{Bool, true, false}
 use mathlib.Core.List.{List, [], _∷_, _++_}
 use lib.IntN.{ℤ, pos, _+ℤ_, _*ℤ_}
 use Rattle.numbers.specs.Choice.{pick, both}
+use Rattle.sheet.specs.Sizes.{registerCount}
 use Rattle.signed.specs.Numbers.{number, rise, fall, is, atLeast, spans, difference, signedOf, bitsOf}
 use Rattle.records.specs.declared.Record.{Record}
 use Rattle.records.specs.declared.Record.the-variants.{Copy, Take, Put, Fill, Whole}
@@ -11,6 +12,10 @@ use Rattle.records.specs.declared.Decoded.{Decoded}
 use Rattle.records.specs.declared.Decoded.the-variants.{Good, Bad}
 
 -- ---- from records to numbers: the op first
+
+-- the numbers of a record
+abbrev pub recordLength : ℕ
+recordLength = 6
 
 -- 1 take and 2 put: register, first, count, byte, step
 abbrev pub bytesNumbers : ℕ → ℕ → ℕ → ℕ → ℕ → ℕ → ℕ → List ℤ
@@ -43,7 +48,7 @@ moved false register first count byte up down = Put register first count byte up
 
 -- a register outside 0 to 3
 abbrev pub registerOk : ℤ → Bool
-registerOk = spans 0 3
+registerOk = spans 0 (registerCount - 1)
 
 -- a first element below 0
 abbrev pub firstOk : ℤ → Bool

@@ -6,11 +6,13 @@ ghost use Prim.Native.Nat.{_+_, _<_, _≤_, _^_};
 ghost use lib.ListN.{length};
 ghost use lib.Seq.{sets};
 ghost use lib.IntN.{pos};
+ghost use Rattle.sheet.specs.Sizes.{registerCount};
 ghost use Rattle.signed.specs.Numbers.{number, rise};
-ghost use Rattle.records.specs.Records.{registerOk, moved, bytesNumbers, recordNumbers, fields, copyOk, bytesOk, fillOk, wholeOk, copyOf, bytesOf, fillOf, wholeOf, recordAt};
+ghost use Rattle.records.specs.Records.{recordLength, registerOk, moved, bytesNumbers, recordNumbers, fields, copyOk, bytesOk, fillOk, wholeOk, copyOf, bytesOf, fillOf, wholeOf, recordAt};
 ghost use Rattle.records.specs.Ranges.{Elements, Bytes, Within, Sound};
 ghost use Rattle.records.specs.Room.{recordsFit};
 use sheet::editions;
+use sheet::sizes::REGISTERS;
 
 // The byte step of a take or a put is up - down, of which one is 0.
 pub enum Record {
@@ -55,7 +57,7 @@ pub enum Decoded {
 pub const NUMBERS: usize = 6;
 
 // The greatest register and the greatest byte step.
-const REGISTER: usize = 3;
+const REGISTER: usize = REGISTERS - 1;
 
 const STEP: usize = 65_535;
 
@@ -71,7 +73,7 @@ pub fn records_fit(edition: u8, room: usize, records: usize) -> bool
 }
 
 fn copy_ok(tape: &[i32], at: usize) -> bool
-    requires { ⌜ at + 6 ≤ length (now tape) ⌝ }
+    requires { ⌜ at + recordLength ≤ length (now tape) ⌝ }
     ensures { λ r. ⌜ r ≡ fields copyOk (now (tape .entry)) at ⌝ }
 {
     if !signed::spans(tape, at + 1, 0, REGISTER) {
@@ -90,7 +92,7 @@ fn copy_ok(tape: &[i32], at: usize) -> bool
 }
 
 fn bytes_ok(tape: &[i32], at: usize) -> bool
-    requires { ⌜ at + 6 ≤ length (now tape) ⌝ }
+    requires { ⌜ at + recordLength ≤ length (now tape) ⌝ }
     ensures { λ r. ⌜ r ≡ fields bytesOk (now (tape .entry)) at ⌝ }
 {
     if !signed::spans(tape, at + 1, 0, REGISTER) {
@@ -109,7 +111,7 @@ fn bytes_ok(tape: &[i32], at: usize) -> bool
 }
 
 fn fill_ok(tape: &[i32], at: usize) -> bool
-    requires { ⌜ at + 6 ≤ length (now tape) ⌝ }
+    requires { ⌜ at + recordLength ≤ length (now tape) ⌝ }
     ensures { λ r. ⌜ r ≡ fields fillOk (now (tape .entry)) at ⌝ }
 {
     if !signed::spans(tape, at + 1, 0, REGISTER) {
@@ -125,7 +127,7 @@ fn fill_ok(tape: &[i32], at: usize) -> bool
 }
 
 fn whole_ok(tape: &[i32], at: usize) -> bool
-    requires { ⌜ at + 6 ≤ length (now tape) ⌝ }
+    requires { ⌜ at + recordLength ≤ length (now tape) ⌝ }
     ensures { λ r. ⌜ r ≡ fields wholeOk (now (tape .entry)) at ⌝ }
 {
     if !signed::at_least(tape, at + 1, 0) {
@@ -145,13 +147,13 @@ fn whole_ok(tape: &[i32], at: usize) -> bool
 
 fn register_at(tape: &[i32], at: usize) -> u8
     requires { ⌜ (at < length (now tape)) × (registerOk (number (now tape) at) ≡ true) ⌝ }
-    ensures { λ r. ⌜ (r ≡ rise (number (now (tape .entry)) at)) × (r < 4) ⌝ }
+    ensures { λ r. ⌜ (r ≡ rise (number (now (tape .entry)) at)) × (r < registerCount) ⌝ }
 {
     signed::rise(tape, at) as u8
 }
 
 fn copy_record(tape: &[i32], at: usize) -> Decoded
-    requires { ⌜ at + 6 ≤ length (now tape) ⌝ }
+    requires { ⌜ at + recordLength ≤ length (now tape) ⌝ }
     ensures { λ r. ⌜ (r ≡ fields copyOf (now (tape .entry)) at) × Sound r ⌝ }
 {
     if !copy_ok(tape, at) {
@@ -195,7 +197,7 @@ pub fn moved(
 }
 
 fn bytes_record(tape: &[i32], at: usize, take: bool) -> Decoded
-    requires { ⌜ at + 6 ≤ length (now tape) ⌝ }
+    requires { ⌜ at + recordLength ≤ length (now tape) ⌝ }
     ensures { λ r. ⌜ (r ≡ fields (bytesOf take) (now (tape .entry)) at) × Sound r ⌝ }
 {
     if !bytes_ok(tape, at) {
@@ -211,7 +213,7 @@ fn bytes_record(tape: &[i32], at: usize, take: bool) -> Decoded
 }
 
 fn fill_record(tape: &[i32], at: usize) -> Decoded
-    requires { ⌜ at + 6 ≤ length (now tape) ⌝ }
+    requires { ⌜ at + recordLength ≤ length (now tape) ⌝ }
     ensures { λ r. ⌜ (r ≡ fields fillOf (now (tape .entry)) at) × Sound r ⌝ }
 {
     if !fill_ok(tape, at) {
@@ -230,7 +232,7 @@ fn fill_record(tape: &[i32], at: usize) -> Decoded
 }
 
 fn whole_record(tape: &[i32], at: usize) -> Decoded
-    requires { ⌜ at + 6 ≤ length (now tape) ⌝ }
+    requires { ⌜ at + recordLength ≤ length (now tape) ⌝ }
     ensures { λ r. ⌜ (r ≡ fields wholeOf (now (tape .entry)) at) × Sound r ⌝ }
 {
     if !whole_ok(tape, at) {
@@ -242,7 +244,7 @@ fn whole_record(tape: &[i32], at: usize) -> Decoded
 
 // The record whose numbers begin at a place of a tape.
 pub fn read_record(tape: &[i32], at: usize) -> Decoded
-    requires { ⌜ at + 6 ≤ length (now tape) ⌝ }
+    requires { ⌜ at + recordLength ≤ length (now tape) ⌝ }
     ensures { λ r. ⌜ (r ≡ recordAt (now (tape .entry)) at) × Sound r ⌝ }
 {
     if signed::is(tape, at, 0) {
@@ -265,7 +267,7 @@ pub fn read_record(tape: &[i32], at: usize) -> Decoded
 
 // The op and the three numbers after it.
 fn put_four(tape: &mut [i32], at: usize, op: usize, a: usize, b: usize, c: usize)
-    requires { ⌜ at + 6 ≤ length (now tape) ⌝ }
+    requires { ⌜ at + recordLength ≤ length (now tape) ⌝ }
     requires { ⌜ (op < 2 ^ 31) × (a < 2 ^ 31) × (b < 2 ^ 31) × (c < 2 ^ 31) ⌝ }
     ensures { λ _. ⌜ now (tape .exit) ≡ sets (now (tape .entry)) at (pos op ∷ pos a ∷ pos b ∷ pos c ∷ []) ⌝ }
 {
@@ -277,7 +279,7 @@ fn put_four(tape: &mut [i32], at: usize, op: usize, a: usize, b: usize, c: usize
 
 // A record of naturals, the last two of them unused.
 fn put_plain(tape: &mut [i32], at: usize, op: usize, a: usize, b: usize)
-    requires { ⌜ at + 6 ≤ length (now tape) ⌝ }
+    requires { ⌜ at + recordLength ≤ length (now tape) ⌝ }
     requires { ⌜ (op < 2 ^ 31) × (a < 2 ^ 31) × (b < 2 ^ 31) ⌝ }
     ensures { λ _. ⌜ now (tape .exit) ≡ sets (now (tape .entry)) at (pos op ∷ pos a ∷ pos b ∷ pos 0 ∷ pos 0 ∷ pos 0 ∷ []) ⌝ }
 {
@@ -297,7 +299,7 @@ fn put_bytes(
     up: usize,
     down: usize,
 )
-    requires { ⌜ at + 6 ≤ length (now tape) ⌝ }
+    requires { ⌜ at + recordLength ≤ length (now tape) ⌝ }
     requires { ⌜ (op < 3) × Elements register first count × Bytes byte up down ⌝ }
     ensures { λ _. ⌜ now (tape .exit) ≡ sets (now (tape .entry)) at (bytesNumbers op register first count byte up down) ⌝ }
 {
@@ -307,7 +309,7 @@ fn put_bytes(
 }
 
 fn put_fill(tape: &mut [i32], at: usize, register: u8, first: usize, count: usize, value: u32)
-    requires { ⌜ at + 6 ≤ length (now tape) ⌝ }
+    requires { ⌜ at + recordLength ≤ length (now tape) ⌝ }
     requires { ⌜ Elements register first count ⌝ }
     ensures { λ _. ⌜ now (tape .exit) ≡ sets (now (tape .entry)) at (recordNumbers (Record.Fill register first count value)) ⌝ }
 {
@@ -317,7 +319,7 @@ fn put_fill(tape: &mut [i32], at: usize, register: u8, first: usize, count: usiz
 }
 
 pub fn put_record(tape: &mut [i32], at: usize, r: Record)
-    requires { ⌜ at + 6 ≤ length (now tape) ⌝ }
+    requires { ⌜ at + recordLength ≤ length (now tape) ⌝ }
     requires { ⌜ Within r ⌝ }
     ensures { λ _. ⌜ now (tape .exit) ≡ sets (now (tape .entry)) at (recordNumbers r) ⌝ }
 {

@@ -12,6 +12,7 @@ ghost use Rattle.registers.specs.Sized.{Sized};
 ghost use Rattle.transfers.specs.Acts.{state};
 ghost use Rattle.carrying.specs.Steps.{machine, machineOf, performedStep};
 ghost use Rattle.carrying.specs.Carrying.{started};
+ghost use Rattle.records.specs.Records.{recordLength};
 ghost use Rattle.records.specs.Ranges.{Sound};
 ghost use Rattle.records.specs.declared.Decoded.the-variants.{Good};
 ghost use Rattle.judging.specs.Records.{wholeClear, recordOkWith};
@@ -172,7 +173,7 @@ fn run_decoded(
 
 // The records in order, from empty registers and the lent memory.
 fn run_records(sheet: Sheet, tape: &[i32], records: usize, memory: &mut [u8]) -> Performed
-    requires { ⌜ Within sheet × (records ≤ recordPlaces) × (records * 6 ≤ length (now tape)) ⌝ }
+    requires { ⌜ Within sheet × (records ≤ recordPlaces) × (records * recordLength ≤ length (now tape)) ⌝ }
     requires { ⌜ rangeRefusal records sheet (length (now memory)) (tapeRecord (now tape)) .number ≡ 0 ⌝ }
     ensures { λ r. ⌜ machine (r .registers) (now (memory .exit)) (r .count) ≡ ran records sheet (tapeRecord (now (tape .entry))) (started (now (memory .entry))) ⌝ }
 {

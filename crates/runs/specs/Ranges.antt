@@ -6,6 +6,7 @@ use native.Mathlib.Omega.{arith}
 use Rattle.numbers.specs.Lists.{each}
 use Rattle.outcomes.specs.declared.Outcome.{Outcome}
 use Rattle.outcomes.specs.declared.Outcome.the-variants.{Skipped, Filled, Discarded, Placed}
+use Rattle.sheet.specs.Sizes.{registerCount}
 use Rattle.records.specs.declared.Record.{Record}
 use Rattle.records.specs.declared.Record.the-variants.{Fill}
 use Rattle.records.specs.Records.{moved}
@@ -112,7 +113,7 @@ module _ (P : Record → Type 0) (load : Bool) (register : ℕ) (f : ℕ → Out
       all-append P (endedRecords load register f n) (runRecords load register (held f n)) (ended-all n (omega arith)) (held-all n (omega arith))
 
 -- the records of a step's runs are within their ranges
-module _ (load : Bool) (register : ℕ) (few : register < 4) (f : ℕ → Outcome) (n : ℕ) (l : n < 2 ^ 31) (near : (i : ℕ) → i < n → Near (f i)) where
+module _ (load : Bool) (register : ℕ) (few : register < registerCount) (f : ℕ → Outcome) (n : ℕ) (l : n < 2 ^ 31) (near : (i : ℕ) → i < n → Near (f i)) where
   elements : {k e m : ℕ} → k ≤ n → e + m ≡ k → 1 ≤ m → Elements register e m
   elements h e s = record { register = few; first = omega arith; some = s; count = omega arith }
 

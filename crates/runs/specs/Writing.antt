@@ -10,7 +10,7 @@ use lib.ListN.{length, length-append}
 use lib.Seq.{sets, length-sets}
 use Rattle.numbers.specs.Lists.{each, each-more, each-fits, length-each-more, puts-after}
 use Rattle.outcomes.specs.declared.Outcome.{Outcome}
-use Rattle.records.specs.Records.{tapeNumbers}
+use Rattle.records.specs.Records.{recordLength, tapeNumbers}
 use Rattle.records.specs.Laws.{length-tape, tape-append}
 use Rattle.runs.specs.declared.Run.{Run}
 use Rattle.runs.specs.declared.Run.the-variants.{Idle, Bytes, Fills}
@@ -81,7 +81,7 @@ count-all f n = length-append (ended f n) (emit (held f n))
 
 pub record Written (load : Bool) (register : ℕ) (f : ℕ → Outcome) (start : ℕ) (out₀ : List ℤ) (k : ℕ) (out : List ℤ) (at : ℕ) : Type 0 where
   pub place : at ≡ start + length (ended f k)
-  pub same : out ≡ sets out₀ (start * 6) (tapeNumbers (endedRecords load register f k))
+  pub same : out ≡ sets out₀ (start * recordLength) (tapeNumbers (endedRecords load register f k))
 
 module _ (load : Bool) (register : ℕ) (f : ℕ → Outcome) (start : ℕ) (out₀ : List ℤ) where
   abbrev Upto : ℕ → List ℤ → ℕ → Type 0
@@ -93,20 +93,20 @@ module _ (load : Bool) (register : ℕ) (f : ℕ → Outcome) (start : ℕ) (out
 
   module _ (k : ℕ) (out : List ℤ) (at : ℕ) (w : Upto k out at) where
     pub written-length : length out ≡ length out₀
-    written-length = ap length (w .same) ∙ length-sets out₀ (start * 6) (tapeNumbers (endedRecords load register f k))
+    written-length = ap length (w .same) ∙ length-sets out₀ (start * recordLength) (tapeNumbers (endedRecords load register f k))
 
-    here : at * 6 ≡ start * 6 + length (tapeNumbers (endedRecords load register f k))
+    here : at * recordLength ≡ start * recordLength + length (tapeNumbers (endedRecords load register f k))
     here = rw (length-tape (endedRecords load register f k), ended-each load register f k) (omega (arith, w .place))
 
     -- one run's records after the others
-    after : (r : Run) {out₁ : List ℤ} → out₁ ≡ sets out (at * 6) (tapeNumbers (runRecords load register r))
-        → out₁ ≡ sets out₀ (start * 6) (tapeNumbers (endedRecords load register f k ++ runRecords load register r))
+    after : (r : Run) {out₁ : List ℤ} → out₁ ≡ sets out (at * recordLength) (tapeNumbers (runRecords load register r))
+        → out₁ ≡ sets out₀ (start * recordLength) (tapeNumbers (endedRecords load register f k ++ runRecords load register r))
     after r e =
         rw (tape-append (endedRecords load register f k) (runRecords load register r))
-        (puts-after out₀ (start * 6) (tapeNumbers (endedRecords load register f k)) (tapeNumbers (runRecords load register r)) (w .same) (rw here at e))
+        (puts-after out₀ (start * recordLength) (tapeNumbers (endedRecords load register f k)) (tapeNumbers (runRecords load register r)) (w .same) (rw here at e))
 
     pub written-more : (out₁ : List ℤ) (at₁ : ℕ) → at₁ ≡ at + length (emit (ending f k))
-        → out₁ ≡ sets out (at * 6) (tapeNumbers (runRecords load register (ending f k))) → Upto (k + 1) out₁ at₁
+        → out₁ ≡ sets out (at * recordLength) (tapeNumbers (runRecords load register (ending f k))) → Upto (k + 1) out₁ at₁
     written-more out₁ at₁ p q =
         record {
           place = omega (arith, p, w .place, count-more f k);
@@ -114,18 +114,18 @@ module _ (load : Bool) (register : ℕ) (f : ℕ → Outcome) (start : ℕ) (out
         }
 
     -- the room that writing wants, for the run that element k ends and for the last
-    pub room-more : (n : ℕ) → k < n → (start + length (runs f n)) * 6 ≤ length out₀ → (at + length (emit (ending f k))) * 6 ≤ length out
+    pub room-more : (n : ℕ) → k < n → (start + length (runs f n)) * recordLength ≤ length out₀ → (at + length (emit (ending f k))) * recordLength ≤ length out
     room-more n h l =
         omega (arith, w .place, written-length, count-all f n, each-fits n (λ (i : ℕ). emit (ending f i)) k h)
 
-    pub room-last : (start + length (runs f k)) * 6 ≤ length out₀ → (at + length (emit (held f k))) * 6 ≤ length out
+    pub room-last : (start + length (runs f k)) * recordLength ≤ length out₀ → (at + length (emit (held f k))) * recordLength ≤ length out
     room-last l = omega (arith, w .place, written-length, count-all f k)
 
     pub written-place : (at₁ : ℕ) → at₁ ≡ at + length (emit (held f k)) → at₁ ≡ start + length (runs f k)
     written-place at₁ p = omega (arith, p, w .place, count-all f k)
 
-    pub written-all : (out₁ : List ℤ) → out₁ ≡ sets out (at * 6) (tapeNumbers (runRecords load register (held f k)))
-        → out₁ ≡ sets out₀ (start * 6) (tapeNumbers (runsRecords load register f k))
+    pub written-all : (out₁ : List ℤ) → out₁ ≡ sets out (at * recordLength) (tapeNumbers (runRecords load register (held f k)))
+        → out₁ ≡ sets out₀ (start * recordLength) (tapeNumbers (runsRecords load register f k))
     unfolding runsRecords
     written-all out₁ q = after (held f k) q
 

@@ -3,7 +3,7 @@ ghost use mathlib.Core.Path.{_≡_};
 ghost use Prim.Native.Nat.{_+_, _*_, _-_, _<_, _≤_};
 ghost use lib.ListN.{length};
 ghost use lib.Seq.{sets};
-ghost use Rattle.records.specs.Records.{tapeNumbers};
+ghost use Rattle.records.specs.Records.{recordLength, tapeNumbers};
 ghost use Rattle.records.specs.Laws.{AllWithin};
 ghost use Rattle.runs.specs.Runs.{turn, lone, meetByte, meetFill, next, emit, runRecords};
 ghost use Rattle.runs.specs.Ranges.{Near, Steady, Small};
@@ -241,9 +241,9 @@ pub fn records_of(r: Run) -> usize
 
 // Writes the record of a run as record `at` of a tape: the next record's number.
 pub fn write_run(tape: &mut [i32], at: usize, load: bool, register: u8, r: Run) -> usize
-    requires { ⌜ (at + length (emit r)) * 6 ≤ length (now tape) ⌝ }
+    requires { ⌜ (at + length (emit r)) * recordLength ≤ length (now tape) ⌝ }
     requires { ⌜ AllWithin (runRecords load register r) ⌝ }
-    ensures { λ n. ⌜ (n ≡ at + length (emit r)) × (now (tape .exit) ≡ sets (now (tape .entry)) (at * 6) (tapeNumbers (runRecords load register r))) ⌝ }
+    ensures { λ n. ⌜ (n ≡ at + length (emit r)) × (now (tape .exit) ≡ sets (now (tape .entry)) (at * recordLength) (tapeNumbers (runRecords load register r))) ⌝ }
 {
     match r {
         Run::Idle => at,

@@ -50,7 +50,7 @@ use Rattle.checking.specs.Laws.Steps.{check-types, check-sized}
 use Rattle.checking.specs.Laws.Turns.{first-clear, rest-clear, one-less, within-step}
 use Rattle.checking.specs.declared.CheckAnswer.{CheckAnswer}
 use Rattle.records.specs.Laws.{length-tape, tape-append, fit-room}
-use Rattle.records.specs.Records.{tapeNumbers}
+use Rattle.records.specs.Records.{recordLength, tapeNumbers}
 use Rattle.records.specs.Room.{recordsFit}
 use Rattle.records.specs.declared.Record.{Record}
 use Rattle.runs.specs.Ranges.{Near}
@@ -193,10 +193,10 @@ module _ (tensors : Tensors) (ts : List MatrixType) (len k register : ℕ) (wind
 -- ---- records written one after the other
 
 pub records-after : (out : List ℤ) (at : ℕ) (rs qs : List Record) {out₁ : List ℤ} {at₁ : ℕ} → Wrote out out₁ at rs at₁
-    → sets out₁ (at₁ * 6) (tapeNumbers qs) ≡ sets out (at * 6) (tapeNumbers (rs ++ qs))
+    → sets out₁ (at₁ * recordLength) (tapeNumbers qs) ≡ sets out (at * recordLength) (tapeNumbers (rs ++ qs))
 records-after out at rs qs {out₁} {at₁} w =
-    let here : at₁ * 6 ≡ at * 6 + length (tapeNumbers rs) = omega (arith, length-tape rs, w .next) in
-    rw (tape-append rs qs, here) (puts-after out (at * 6) (tapeNumbers rs) (tapeNumbers qs) (w .numbers) refl)
+    let here : at₁ * recordLength ≡ at * recordLength + length (tapeNumbers rs) = omega (arith, length-tape rs, w .next) in
+    rw (tape-append rs qs, here) (puts-after out (at * recordLength) (tapeNumbers rs) (tapeNumbers qs) (w .numbers) refl)
 
 pub wrote-both : (out : List ℤ) (at : ℕ) (rs qs : List Record) {out₁ out₂ : List ℤ} {at₁ at₂ : ℕ} → Wrote out out₁ at rs at₁ → Wrote out₁ out₂ at₁ qs at₂
     → Wrote out out₂ at (rs ++ qs) at₂
@@ -299,7 +299,7 @@ module _ (s : List ℕ) (len : ℕ) where
       tape-room tape e = rw (← is, eq-eqb (c .refusal .number) 0 fine, e) refl
 
   -- the numbers of a tape that fits
-  pub fits-room : (room : ℕ) → fitsRoom s len room ≡ true → length (tapeOf (readSheet s .sheet) len) * 6 ≤ room
+  pub fits-room : (room : ℕ) → fitsRoom s len room ≡ true → length (tapeOf (readSheet s .sheet) len) * recordLength ≤ room
   unfolding fitsRoom
   fits-room room e = fit-room _ _ _ e
 

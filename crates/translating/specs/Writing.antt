@@ -19,7 +19,7 @@ use Rattle.accesses.specs.Entries.{entryOutcome}
 use Rattle.checking.specs.Steps.{accessOf, checkedStep}
 use Rattle.checking.specs.Checking.{memoryLimit}
 use Rattle.checking.specs.Clear.{Clear}
-use Rattle.records.specs.Records.{tapeNumbers}
+use Rattle.records.specs.Records.{recordLength, tapeNumbers}
 use Rattle.records.specs.declared.Record.{Record}
 
 -- a load or a store of a matrix of type t through a window
@@ -45,9 +45,9 @@ entriesOutcome entries fill k = entryOutcome fill (getD entries k 0)
 
 -- a tape has room for records from record `at` on
 abbrev pub Room : List ℤ → ℕ → List Record → Type 0
-Room tape at rs = (at + length rs) * 6 ≤ length tape
+Room tape at rs = (at + length rs) * recordLength ≤ length tape
 
 -- they are written there, and the next record's number is told
 pub record Wrote (before after : List ℤ) (at : ℕ) (rs : List Record) (n : ℕ) : Type 0 where
   pub next : n ≡ at + length rs
-  pub numbers : after ≡ sets before (at * 6) (tapeNumbers rs)
+  pub numbers : after ≡ sets before (at * recordLength) (tapeNumbers rs)

@@ -12,7 +12,7 @@ ghost use Rattle.addressing.specs.Rules.{elementsOf};
 ghost use Rattle.transfers.specs.Transfers.{outcomeOf};
 ghost use Rattle.checking.specs.Steps.{accessOf};
 ghost use Rattle.checking.specs.Checking.{memoryLimit, checked};
-ghost use Rattle.records.specs.Records.{tapeNumbers};
+ghost use Rattle.records.specs.Records.{recordLength, tapeNumbers};
 ghost use Rattle.runs.specs.Runs.{runs, runsRecords};
 ghost use Rattle.translating.specs.Tapes.{copyRecords, accessRecords, stepRecords, tapeOf};
 ghost use Rattle.translating.specs.Translating.{translateAnswer, translated, translatedRoom};
@@ -276,7 +276,7 @@ fn count_tape(entries: &mut [u32; PLACES], sheet: Sheet, memory: usize) -> usize
 // Writes the tape of an accepted sheet from the start of the room on.
 fn write_tape(tape: &mut [i32], entries: &mut [u32; PLACES], sheet: Sheet, memory: usize)
     requires { ⌜ Within sheet × (memory ≤ memoryLimit) × (checked sheet memory .refusal .number ≡ 0) × (length (now entries) ≡ matrixPlaces) ⌝ }
-    requires { ⌜ length (tapeOf sheet memory) * 6 ≤ length (now tape) ⌝ }
+    requires { ⌜ length (tapeOf sheet memory) * recordLength ≤ length (now tape) ⌝ }
     ensures { λ _. ⌜ now (tape .exit) ≡ sets (now (tape .entry)) 0 (tapeNumbers (tapeOf sheet memory)) ⌝ }
 {
     let none = registers::no_type();

@@ -13,8 +13,8 @@ refuse-requires c κs = search needs
 returns : tie.Need-returns
 returns c = (c .before .before .before .pre .1, c .refuse .ensures ∙ access-nine _ (search tests))
 
-ranks-differ-requires : tie.Need-ranks-differ-requires
-ranks-differ-requires c κs = search needs
+other-rank-requires : tie.Need-other-rank-requires
+other-rank-requires c κs = search needs
 
 refuse-requires-2 : tie.Need-refuse-requires-2
 refuse-requires-2 c κs = search needs
@@ -35,7 +35,7 @@ plan-of-requires : tie.Need-plan-of-requires
 plan-of-requires c κs =
     record {
       sized = c .before .before .before .before .before .before .pre .0;
-      ranks = ranks-agree _ (went (c .before .before .before .ranks-differ .ensures) (c .before .before .if2 .left));
+      ranks = ranks-agree _ (went (c .before .before .before .other-rank .ensures) (c .before .before .if2 .left));
     }
 
 check-elements-requires : tie.Need-check-elements-requires
@@ -50,7 +50,7 @@ check-access-spec =
     (tie.spec
     refuse-requires
     returns
-    ranks-differ-requires
+    other-rank-requires
     refuse-requires-2
     returns-2
     store-blocked-requires

@@ -17,10 +17,9 @@ use Rattle.addressing.specs.Rules.{elementsOf}
 use Rattle.addressing.specs.Valid.{SizedAccess, ValidAccess}
 use Rattle.addressing.specs.Sound.{Sound}
 use Rattle.addressing.specs.Laws.Sound.{located-sound, low-bits-fit}
-use Rattle.refusals.specs.Refusals as refusal
-use Rattle.refusals.specs.Refusals.{stopAt}
+use Rattle.refusals.specs.Refusals.{unalignedBase, ranksDiffer, blockedStore, byteTwice, stopAt}
 use Rattle.refusals.specs.declared.Stop.{Stop}
-use Rattle.accesses.specs.Refusals.{elementOutcome, misplaced, ranksDiffer, storeBlocked, firstRefused, sameAt, meets, clashFrom, clashRefusal, elementsRefusal, accessRefusal, placedOne, placedCount}
+use Rattle.accesses.specs.Refusals.{elementOutcome, misplaced, otherRank, storeBlocked, firstRefused, sameAt, meets, clashFrom, clashRefusal, elementsRefusal, accessRefusal, placedOne, placedCount}
 
 pub element-sound : (a : Access) (k : ℕ) → Sound a (elementOutcome a k .outcome)
 unfolding elementOutcome
@@ -97,8 +96,8 @@ none-clash same i (suc m) e k h l =
 below : (base size : ℕ) {t u x y : ℕ} → t < u → x ≡ base + t * size → y ≡ base + u * size → x + size ≤ y
 below base size {t} {u} h ex ey = let m : suc t * size ≤ u * size = mul-le-mul-right size h in omega arith
 
-pub ranks-agree : (a : Access) → ranksDiffer a ≡ false → a .viewed ≡ true → a .view .sized ≡ false → a .view .rank ≡ a .layout .rank
-unfolding ranksDiffer both pick
+pub ranks-agree : (a : Access) → otherRank a ≡ false → a .viewed ≡ true → a .view .sized ≡ false → a .view .rank ≡ a .layout .rank
+unfolding otherRank both pick
 ranks-agree a e v s = eqb-true (a .view .rank) (a .layout .rank) (not-false _ (rw (v, s) at e))
 
 -- Of an access that is not refused:
@@ -106,15 +105,15 @@ module _ (a : Access) (ok : accessRefusal a .number ≡ 0) where
   abbrev count : ℕ
   count = elementsOf a
 
-  past-nine : pick (ranksDiffer a) (stopAt refusal.ranksDiffer 0) (pick (storeBlocked a) (stopAt refusal.blockedStore 0) (elementsRefusal (a .load) (elementOutcome a) count)) .number ≡ 0
+  past-nine : pick (otherRank a) (stopAt ranksDiffer 0) (pick (storeBlocked a) (stopAt blockedStore 0) (elementsRefusal (a .load) (elementOutcome a) count)) .number ≡ 0
   unfolding accessRefusal
-  past-nine = past (misplaced a) (stopAt refusal.unalignedBase 0) _ (λ e. omega arith) ok .1
+  past-nine = past (misplaced a) (stopAt unalignedBase 0) _ (λ e. omega arith) ok .1
 
-  ranks-same : ranksDiffer a ≡ false
-  ranks-same = past (ranksDiffer a) (stopAt refusal.ranksDiffer 0) _ (λ e. omega arith) past-nine .0
+  ranks-same : otherRank a ≡ false
+  ranks-same = past (otherRank a) (stopAt ranksDiffer 0) _ (λ e. omega arith) past-nine .0
 
   past-eleven : elementsRefusal (a .load) (elementOutcome a) count .number ≡ 0
-  past-eleven = past (storeBlocked a) (stopAt refusal.blockedStore 0) _ (λ e. omega arith) (past (ranksDiffer a) (stopAt refusal.ranksDiffer 0) _ (λ e. omega arith) past-nine .1) .1
+  past-eleven = past (storeBlocked a) (stopAt blockedStore 0) _ (λ e. omega arith) (past (otherRank a) (stopAt ranksDiffer 0) _ (λ e. omega arith) past-nine .1) .1
 
   first-clear : firstRefused (elementOutcome a) 0 count .number ≡ 0
   unfolding elementsRefusal pick
@@ -135,7 +134,7 @@ module _ (a : Access) (ok : accessRefusal a .number ≡ 0) where
     unfolding elementsRefusal clashRefusal pick
     search-clear =
         by-test (ltb (clashFrom (sameAt (elementOutcome a)) 0 count) count)
-        (λ t. let z : _≡_ {A = ℕ} 15 0 = rw (t, first-clear, store) at past-eleven in absurd (omega arith)) (λ t. ltb-false _ _ t)
+        (λ t. let z : byteTwice ≡ 0 = rw (t, first-clear, store) at past-eleven in absurd (omega arith)) (λ t. ltb-false _ _ t)
 
     other-byte : (i j x y : ℕ) → j < i → i < count → elementOutcome a i .outcome ≡ Placed x → elementOutcome a j .outcome ≡ Placed y
         → x ≡ y → ⊥

@@ -19,7 +19,7 @@ use Rattle.carrying.specs.Laws.Types.{started-formed}
 use Rattle.records.specs.declared.Record.the-variants.{Whole}
 use Rattle.records.specs.declared.Decoded.{Decoded}
 use Rattle.records.specs.declared.Decoded.the-variants.{Good}
-use Rattle.records.specs.Records.{tapeNumbers}
+use Rattle.records.specs.Records.{recordLength, tapeNumbers}
 use Rattle.records.specs.Laws.{tape-back, length-tape}
 use Rattle.records.specs.Room.{recordsFit}
 use Rattle.translating.specs.Tapes.{tapeOf}
@@ -55,9 +55,9 @@ module _ (sh : Sheet) (w : Within sh) (memory : List ℕ) (h : checked sh (lengt
     unfolding recordsFit
     numbers-fit =
         let n = length (tapeOf sh (length memory)) in
-        let long : length numbers ≡ n * 6 + length rest =
+        let long : length numbers ≡ n * recordLength + length rest =
         ap length is ∙ length-append (tapeNumbers (tapeOf sh (length memory))) rest ∙ rw (length-tape (tapeOf sh (length memory))) in
-        both-true _ _ (le-leb n (limits (sh .edition) .records) few) (le-leb (n * 6) (length numbers) (omega arith))
+        both-true _ _ (le-leb n (limits (sh .edition) .records) few) (le-leb (n * recordLength) (length numbers) (omega arith))
 
     pub agreement-numbers : NumbersAgree sh memory (length (tapeOf sh (length memory))) numbers
     unfolding tapeRefusal

@@ -1,12 +1,13 @@
-use Prim.Native.Nat.{_≤_}
+use Prim.Native.Nat.{_≤_, _-_}
+use Rattle.sheet.specs.Sizes.{registerCount}
 use Rattle.signed.specs.Laws.{spans-rise}
 use native.Mathlib.Omega.{arith}
 use borrow.Author.Needs.{needs}
 use Rattle.records.proofs.register_at.Statement.{statement}
 use Rattle.records.proofs.register_at.Tie as tie
 
-low : (c : tie.After-rise) → c .rise .result ≤ 3
-low c = rw (c .rise .ensures .0) (spans-rise 0 3 _ (c .before .pre .1))
+low : (c : tie.After-rise) → c .rise .result ≤ registerCount - 1
+low c = rw (c .rise .ensures .0) (spans-rise 0 (registerCount - 1) _ (c .before .pre .1))
 
 rise-requires : tie.Need-rise-requires
 rise-requires c κs = search needs

@@ -4,7 +4,7 @@ use mathlib.Core.List.{List, [], _∷_, append-nil}
 use lib.IntN.{ℤ}
 use lib.ListN.{length}
 use lib.Seq.{sets}
-use Rattle.records.specs.Records.{recordNumbers, tapeNumbers}
+use Rattle.records.specs.Records.{recordLength, recordNumbers, tapeNumbers}
 use Rattle.records.specs.declared.Record.{Record}
 use Rattle.records.specs.Laws.{AllWithin}
 use Rattle.runs.specs.declared.Run.{Run}
@@ -34,7 +34,7 @@ put-record-requires : tie.Need-put-record-requires
 put-record-requires c κs =
     let s = c .before .before .before .before .before in
     let e = c .before .before .before .r .given .1 in
-    let room = subst (λ (r : Run). (s .args .at + length (emit r)) * 6 ≤ length (s .args .tape .now)) e (s .pre .0) in
+    let room = subst (λ (r : Run). (s .args .at + length (emit r)) * recordLength ≤ length (s .args .tape .now)) e (s .pre .0) in
     let w = subst (λ (r : Run). AllWithin (runRecords (s .args .load) (s .args .register) r)) e (s .pre .1) in
     (omega arith, rw (c .before .moved .ensures) (w .0))
 
@@ -51,7 +51,7 @@ put-record-requires-2 : tie.Need-put-record-requires-2
 put-record-requires-2 c κs =
     let s = c .before .before .before .before in
     let e = c .before .before .r2 .given .1 in
-    let room = subst (λ (r : Run). (s .args .at + length (emit r)) * 6 ≤ length (s .args .tape .now)) e (s .pre .0) in
+    let room = subst (λ (r : Run). (s .args .at + length (emit r)) * recordLength ≤ length (s .args .tape .now)) e (s .pre .0) in
     let w = subst (λ (r : Run). AllWithin (runRecords (s .args .load) (s .args .register) r)) e (s .pre .1) in
     (omega arith, w .0)
 
@@ -69,7 +69,7 @@ returns-2 c =
     let a = c .before .before .before .before .before .before .before .args in
     rw (c .before .before .before .before .before .r .given .1) (
       refl,
-      alone (a .tape .now) (a .at * 6) (c .before .before .before .moved .ensures) (c .before .put-record .ensures),
+      alone (a .tape .now) (a .at * recordLength) (c .before .before .before .moved .ensures) (c .before .put-record .ensures),
     )
 
 same-length-2 : tie.Need-same-length-2

@@ -9,7 +9,7 @@ use Rattle.sheet.specs.Laws.Within.{within-places}
 use Rattle.checking.specs.Steps.{stepTypes}
 use Rattle.checking.specs.Laws.Turns.{within-step, empty-types}
 use Rattle.records.specs.declared.Record.{Record}
-use Rattle.records.specs.Records.{tapeNumbers}
+use Rattle.records.specs.Records.{recordLength, tapeNumbers}
 use Rattle.translating.specs.Tapes.{stepRecords, tapeOf}
 use Rattle.translating.specs.Writing.{Room}
 use Rattle.translating.proofs.Laws.{tapeRest, Rest, rest-start, rest-step, rest-next, tape-start, tape-go, tape-end, records-after}
@@ -21,7 +21,7 @@ use Rattle.translating.proofs.write_tape.Tie as tie
 abbrev Inv-loop : tie.InvT-loop
 Inv-loop tape₀ entries₀ memory sheet tensors steps types₀ at₀ k₀ tape entries types at k =
     (k ≤ sheet .steps) × Rest sheet memory k types × (length tape ≡ length tape₀) × Room tape₀ at (tapeRest sheet memory k types)
-    × (sets tape (at * 6) (tapeNumbers (tapeRest sheet memory k types)) ≡ sets tape₀ 0 (tapeNumbers (tapeOf sheet memory))) × (length entries ≡ matrixPlaces)
+    × (sets tape (at * recordLength) (tapeNumbers (tapeRest sheet memory k types)) ≡ sets tape₀ 0 (tapeNumbers (tapeOf sheet memory))) × (length entries ≡ matrixPlaces)
 
 abbrev μ-loop : tie.MeasureT-loop
 μ-loop tape₀ entries₀ memory sheet tensors steps types₀ at₀ k₀ tape entries types at k = sheet .steps - k
@@ -95,7 +95,7 @@ loop-again c =
       w .kept .0 ∙ l .inv .2,
       omega (arith, l .inv .3, w .ensures .1 .next, n, both),
       records-after (l .tape) (l .at) rs rest (w .ensures .1)
-          ∙ ap (λ (x : List Record). sets (l .tape) (l .at * 6) (tapeNumbers x)) (sym go)
+          ∙ ap (λ (x : List Record). sets (l .tape) (l .at * recordLength) (tapeNumbers x)) (sym go)
           ∙ l .inv .4,
       w .ensures .0,
     )

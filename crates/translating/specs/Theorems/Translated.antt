@@ -12,7 +12,7 @@ use lib.Seq.{sets}
 use Rattle.numbers.specs.Choice.{pick, pick-case}
 use Rattle.sheet_reader.specs.Reading.{readSheet}
 use Rattle.checking.specs.Checking.{checkedSheet}
-use Rattle.records.specs.Records.{tapeNumbers}
+use Rattle.records.specs.Records.{recordLength, tapeNumbers}
 use Rattle.records.specs.Laws.{length-tape}
 use Rattle.translating.specs.Tapes.{tapeOf}
 use Rattle.translating.specs.GivenTape.{GivenTape}
@@ -51,8 +51,8 @@ module _ (s : List ℕ) (len : ℕ) (room : List ℤ) (h : translated s len (len
   pub translated-given : (xs : List ℤ) → GivenTape (readSheet s .sheet) len xs → translatedRoom s len room ≡ sets room 0 xs
   translated-given xs g = room-is s len room h ∙ ap (sets room 0) (sym (tape-only (readSheet s .sheet) len xs g))
 
-  pub translated-count : (xs : List ℤ) → GivenTape (readSheet s .sheet) len xs → translated s len (length room) .records * 6 ≡ length xs
+  pub translated-count : (xs : List ℤ) → GivenTape (readSheet s .sheet) len xs → translated s len (length room) .records * recordLength ≡ length xs
   translated-count xs g =
-      ap (λ (n : ℕ). n * 6) (told s len room h .records)
+      ap (λ (n : ℕ). n * recordLength) (told s len room h .records)
       ∙ sym (length-tape (tapeOf (readSheet s .sheet) len))
       ∙ ap length (sym (tape-only (readSheet s .sheet) len xs g))
