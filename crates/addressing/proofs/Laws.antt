@@ -16,7 +16,7 @@ use Rattle.numbers.specs.Choice.{pick, pick-case}
 use Rattle.sheet.specs.Laws.Facts.{InSize, layout-span, view-most, view-size}
 use Rattle.sheet.specs.Views.{theViewDimension}
 use Rattle.addressing.specs.Valid.{ValidAccess, Planned}
-use Rattle.addressing.specs.Laws.Remainder.{remainder-lt}
+use Rattle.numbers.specs.Remainders.{remainder, remainder-lt}
 use Rattle.addressing.specs.declared.Plan.{Plan}
 use Rattle.sheet.specs.declared.ClampMode.{ClampMode}
 use Rattle.sheet.specs.declared.ClampMode.the-variants.{Undefined, Constant, ClampToEdge, Repeat, MirrorRepeat}
@@ -30,7 +30,7 @@ use Rattle.addressing.specs.declared.Clamped.{Clamped}
 use Rattle.addressing.specs.declared.Clamped.the-variants.{Refused, Discarded, Filled, At}
 use Rattle.sheet.specs.Sizes.{rankPlaces, matrixPlaces}
 use Rattle.addressing.specs.Plans.{dimensionNumbers, layoutNumbers, dimensionAt, sizesOf, stridesOf, planned}
-use Rattle.addressing.specs.Rules.{outsideClip, outsideView, clipWidth, five, rowMajor, viewSizes, viewStrides, coordinates, twos, remainder, folded, mirrored, onLoad, onStore, outside, clamped, scaled, part, tensorIndex, spanOf, spanCoordinates, refused, settled, reached}
+use Rattle.addressing.specs.Rules.{outsideClip, outsideView, clipWidth, five, rowMajor, viewSizes, viewStrides, coordinates, twos, folded, mirrored, onLoad, onStore, outside, clamped, scaled, part, tensorIndex, spanOf, spanCoordinates, refused, settled, reached}
 
 -- Rule 1: inside the clip the offset can be subtracted
 pub clip-low : (c : Clip) (x : ℕ) → outsideClip c x ≡ false → c .offset ≤ x

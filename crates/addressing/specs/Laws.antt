@@ -1,3 +1,2 @@
-pub mod Remainder
 pub mod Plans
 pub mod Sound

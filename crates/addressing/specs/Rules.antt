@@ -6,6 +6,7 @@ use lib.Dec.{ltb, leb, eqb}
 use lib.ListN.{getD, set, replicate}
 use lib.IntN.{ℤ, pos, negsuc, _+ℤ_}
 use Rattle.numbers.specs.Choice.{pick}
+use Rattle.numbers.specs.Remainders.{remainder}
 use Rattle.refusals.specs.Refusals.{indexTooLarge, outsideUndefined, outsideMemory}
 use Rattle.sheet.specs.Layouts.{theDimension}
 use Rattle.sheet.specs.Views.{theViewDimension}
@@ -94,11 +95,6 @@ spanCoordinates l index = coordinates (λ (d : ℕ). d) (spanOf l) (l .rank) ind
 -- sixteen bits read as a signed number, two's complement
 unfoldable pub twos : ℕ → ℤ
 twos x = pick (ltb x 32768) (pos x) (negsuc (65535 - x))
-
--- Rule 4: a remainder takes the divisor's sign: -1 leaves n - 1
-abbrev pub remainder : ℤ → ℕ → ℕ
-remainder (pos a) n = a % n
-remainder (negsuc a) n = n - 1 - a % n
 
 -- Rule 4, ClampToEdge of a coordinate outside: 0 or n-1
 abbrev pub edge : ℤ → ℕ → ℕ

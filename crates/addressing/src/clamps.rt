@@ -2,8 +2,9 @@
 ghost use mathlib.Core.Path.{_≡_};
 ghost use Prim.Native.Nat.{_≤_, _<_};
 ghost use lib.IntN.{ℤ, pos, _+ℤ_};
+ghost use Rattle.numbers.specs.Remainders.{remainder};
 ghost use Rattle.addressing.specs.Plans.{integer};
-ghost use Rattle.addressing.specs.Rules.{twos, remainder, edge, mirrored, onLoad, onStore, outside, clamped};
+ghost use Rattle.addressing.specs.Rules.{twos, edge, mirrored, onLoad, onStore, outside, clamped};
 use super::Clamped;
 use super::Coordinate;
 use sheet::ClampMode;

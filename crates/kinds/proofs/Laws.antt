@@ -13,8 +13,8 @@ use Rattle.numbers.specs.Choice.{pick-case}
 use Rattle.kinds.specs.Widths.{width}
 use Rattle.kinds.specs.Values.{negative, taken, value}
 use Rattle.kinds.specs.Laws.{width-le}
-use Rattle.kinds.specs.Modulo.{modZ}
-use Rattle.kinds.specs.ModuloLaws.{modZ-sub}
+use Rattle.numbers.specs.Remainders.{remainder}
+use Rattle.kinds.specs.ModuloLaws.{remainder-sub}
 
 pub taken-le : (kind x : ℕ) → taken kind x ≤ 2 ^ 32
 unfolding taken
@@ -68,9 +68,9 @@ pub raised-ordered : (kind a b x y : ℕ) → x ≡ a + (2 ^ 32 - taken kind a) 
 raised-ordered kind a b x y e f = ap₂ leb e f ∙ raised-order kind a b
 
 -- the value plus 2 ^ 32, its low 32 bits
-pub raised-low : (kind x r : ℕ) → r ≡ x + (2 ^ 32 - taken kind x) → bitAnd r 4294967295 ≡ modZ (value kind x) (2 ^ 32)
+pub raised-low : (kind x r : ℕ) → r ≡ x + (2 ^ 32 - taken kind x) → bitAnd r 4294967295 ≡ remainder (value kind x) (2 ^ 32)
 unfolding value
-raised-low kind x r e = and-mask r 32 ∙ ap (λ (n : ℕ). n % 2 ^ 32) e ∙ sym (modZ-sub (2 ^ 32) (omega arith) x (taken kind x) (taken-le kind x))
+raised-low kind x r e = and-mask r 32 ∙ ap (λ (n : ℕ). n % 2 ^ 32) e ∙ sym (remainder-sub (2 ^ 32) (omega arith) x (taken kind x) (taken-le kind x))
 
 pub low-lt : (n : ℕ) → bitAnd n 4294967295 < 2 ^ 32
 low-lt n = mask-lt n 32

@@ -1,5 +1,4 @@
 pub mod Widths
 pub mod Values
-pub mod Modulo
 pub mod Laws
 pub mod ModuloLaws

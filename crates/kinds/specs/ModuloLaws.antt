@@ -9,15 +9,11 @@ use native.Mathlib.Decide.{decLt}
 use lib.Dec.{ltb}
 use lib.IntN.{ℤ, pos, negsuc, sucℤ, subℕ, _+ℤ_, _*ℤ_, +ℤ-sucℤ, +ℤ-idr, -ℤ-+ℤ-cancel, sucℤ-*ℤ, zero-*ℤ}
 use borrow.Author.Tests.{ltb-true, ltb-false}
-use Rattle.kinds.specs.Modulo.{modZ}
+use Rattle.numbers.specs.Remainders.{remainder, remainder-lt}
 
 module _ (m : ℕ) (some : 0 < m) where
-  pub modZ-lt : (z : ℤ) → modZ z m < m
-  modZ-lt (pos n) = mod-lt n some
-  modZ-lt (negsuc n) = omega arith
-
-  modZ-mod : (z : ℤ) → modZ z m % m ≡ modZ z m
-  modZ-mod z = mod-eq-of-lt (modZ-lt z)
+  remainder-mod : (z : ℤ) → remainder z m % m ≡ remainder z m
+  remainder-mod z = mod-eq-of-lt (remainder-lt z some)
 
   down : (n : ℕ) → Dec (n % m + 1 < m) → (m - 1) - n % m ≡ ((m - 1) - suc n % m + 1) % m
   down n (yes l) =
@@ -32,21 +28,21 @@ module _ (m : ℕ) (some : 0 < m) where
       let z : (m - 1) - n % m ≡ 0 = omega arith in
       z ∙ sym (ap (λ (x : ℕ). x % m) f ∙ mod-self m)
 
-  modZ-suc : (z : ℤ) → modZ (sucℤ z) m ≡ (modZ z m + 1) % m
-  modZ-suc (pos n) = suc-mod n m ∙ ap (λ (x : ℕ). x % m) (sym (add-one (n % m)))
-  modZ-suc (negsuc zero) =
+  remainder-suc : (z : ℤ) → remainder (sucℤ z) m ≡ (remainder z m + 1) % m
+  remainder-suc (pos n) = suc-mod n m ∙ ap (λ (x : ℕ). x % m) (sym (add-one (n % m)))
+  remainder-suc (negsuc zero) =
       let e : (m - 1) - 0 % m + 1 ≡ m = omega (arith, zero-mod m) in
       zero-mod m ∙ sym (ap (λ (x : ℕ). x % m) e ∙ mod-self m)
-  modZ-suc (negsuc (suc n)) = down n (decLt (n % m + 1) m)
+  remainder-suc (negsuc (suc n)) = down n (decLt (n % m + 1) m)
 
   -- z + n, for a natural n
-  modZ-pos : (z : ℤ) (n : ℕ) → modZ (z +ℤ pos n) m ≡ (modZ z m + n) % m
-  modZ-pos z zero = ap (λ (x : ℤ). modZ x m) (+ℤ-idr z) ∙ sym (ap (λ (x : ℕ). x % m) (omega arith) ∙ modZ-mod z)
-  modZ-pos z (suc n) =
-      ap (λ (x : ℤ). modZ x m) (+ℤ-sucℤ z (pos n))
-      ∙ modZ-suc (z +ℤ pos n)
-      ∙ ap (λ (x : ℕ). (x + 1) % m) (modZ-pos z n)
-      ∙ mod-add-mod (modZ z m + n) m 1
+  remainder-pos : (z : ℤ) (n : ℕ) → remainder (z +ℤ pos n) m ≡ (remainder z m + n) % m
+  remainder-pos z zero = ap (λ (x : ℤ). remainder x m) (+ℤ-idr z) ∙ sym (ap (λ (x : ℕ). x % m) (omega arith) ∙ remainder-mod z)
+  remainder-pos z (suc n) =
+      ap (λ (x : ℤ). remainder x m) (+ℤ-sucℤ z (pos n))
+      ∙ remainder-suc (z +ℤ pos n)
+      ∙ ap (λ (x : ℕ). (x + 1) % m) (remainder-pos z n)
+      ∙ mod-add-mod (remainder z m + n) m 1
       ∙ ap (λ (x : ℕ). x % m) (omega arith)
 
   -- what is added to both sides goes
@@ -62,17 +58,17 @@ module _ (m : ℕ) (some : 0 < m) where
           ∙ ap (λ (x : ℕ). x % m) (let h : b ≤ m * b = le in omega arith)
           ∙ add-mul-mod-self-left w m b
 
-  pub modZ-sum : (z y : ℤ) → modZ (z +ℤ y) m ≡ (modZ z m + modZ y m) % m
-  modZ-sum z (pos n) = modZ-pos z n ∙ sym (add-mod-mod (modZ z m) n m)
-  modZ-sum z (negsuc n) =
-      let u : ℕ = modZ (z +ℤ negsuc n) m in
-      let v : ℕ = modZ z m + ((m - 1) - n % m) in
+  pub remainder-sum : (z y : ℤ) → remainder (z +ℤ y) m ≡ (remainder z m + remainder y m) % m
+  remainder-sum z (pos n) = remainder-pos z n ∙ sym (add-mod-mod (remainder z m) n m)
+  remainder-sum z (negsuc n) =
+      let u : ℕ = remainder (z +ℤ negsuc n) m in
+      let v : ℕ = remainder z m + ((m - 1) - n % m) in
       let r : n % m < m = mod-lt n some in
-      let left : (u + suc n) % m ≡ modZ z m = sym (modZ-pos (z +ℤ negsuc n) (suc n)) ∙ ap (λ (x : ℤ). modZ x m) (-ℤ-+ℤ-cancel z (pos (suc n))) in
-      let whole : v + suc n ≡ (modZ z m + m * (n / m)) + m = omega (arith, mod-add-div n m) in
-      let right : (v + suc n) % m ≡ modZ z m =
-      ap (λ (x : ℕ). x % m) whole ∙ add-mod-right (modZ z m + m * (n / m)) m ∙ add-mul-mod-self-left (modZ z m) m (n / m) ∙ modZ-mod z in
-      sym (modZ-mod (z +ℤ negsuc n)) ∙ cancel u v (suc n) (left ∙ sym right)
+      let left : (u + suc n) % m ≡ remainder z m = sym (remainder-pos (z +ℤ negsuc n) (suc n)) ∙ ap (λ (x : ℤ). remainder x m) (-ℤ-+ℤ-cancel z (pos (suc n))) in
+      let whole : v + suc n ≡ (remainder z m + m * (n / m)) + m = omega (arith, mod-add-div n m) in
+      let right : (v + suc n) % m ≡ remainder z m =
+      ap (λ (x : ℕ). x % m) whole ∙ add-mod-right (remainder z m + m * (n / m)) m ∙ add-mul-mod-self-left (remainder z m) m (n / m) ∙ remainder-mod z in
+      sym (remainder-mod (z +ℤ negsuc n)) ∙ cancel u v (suc n) (left ∙ sym right)
 
   mod-mul : (a b : ℕ) → (a % m * b) % m ≡ (a * b) % m
   mod-mul a b =
@@ -82,28 +78,28 @@ module _ (m : ℕ) (some : 0 < m) where
       ∙ add-mul-mod-self-left (a % m * b) m (a / m * b))
 
   abbrev Times : ℤ → ℤ → Type 0
-  Times x y = modZ (x *ℤ y) m ≡ (modZ x m * modZ y m) % m
+  Times x y = remainder (x *ℤ y) m ≡ (remainder x m * remainder y m) % m
 
-  one-more-l : (x y : ℤ) → modZ (sucℤ x *ℤ y) m ≡ (modZ (x *ℤ y) m + modZ y m) % m
-  one-more-l x y = ap (λ (z : ℤ). modZ z m) (sucℤ-*ℤ x y) ∙ modZ-sum (x *ℤ y) y
+  one-more-l : (x y : ℤ) → remainder (sucℤ x *ℤ y) m ≡ (remainder (x *ℤ y) m + remainder y m) % m
+  one-more-l x y = ap (λ (z : ℤ). remainder z m) (sucℤ-*ℤ x y) ∙ remainder-sum (x *ℤ y) y
 
-  one-more-r : (x y : ℤ) → (modZ (sucℤ x) m * modZ y m) % m ≡ (modZ x m * modZ y m + modZ y m) % m
+  one-more-r : (x y : ℤ) → (remainder (sucℤ x) m * remainder y m) % m ≡ (remainder x m * remainder y m + remainder y m) % m
   one-more-r x y =
-      ap (λ (n : ℕ). n * modZ y m % m) (modZ-suc x)
-      ∙ mod-mul (modZ x m + 1) (modZ y m)
-      ∙ ap (λ (n : ℕ). n % m) (add-mul (modZ x m) 1 (modZ y m) ∙ ap (λ (n : ℕ). modZ x m * modZ y m + n) (one-mul (modZ y m)))
+      ap (λ (n : ℕ). n * remainder y m % m) (remainder-suc x)
+      ∙ mod-mul (remainder x m + 1) (remainder y m)
+      ∙ ap (λ (n : ℕ). n % m) (add-mul (remainder x m) 1 (remainder y m) ∙ ap (λ (n : ℕ). remainder x m * remainder y m + n) (one-mul (remainder y m)))
 
   up : (x y : ℤ) → Times x y → Times (sucℤ x) y
-  up x y h = one-more-l x y ∙ ap (λ (n : ℕ). (n + modZ y m) % m) h ∙ mod-add-mod (modZ x m * modZ y m) m (modZ y m) ∙ sym (one-more-r x y)
+  up x y h = one-more-l x y ∙ ap (λ (n : ℕ). (n + remainder y m) % m) h ∙ mod-add-mod (remainder x m * remainder y m) m (remainder y m) ∙ sym (one-more-r x y)
 
   dn : (x y : ℤ) → Times (sucℤ x) y → Times x y
   dn x y h =
-      sym (modZ-mod (x *ℤ y))
-      ∙ cancel (modZ (x *ℤ y) m) (modZ x m * modZ y m) (modZ y m) (sym (one-more-l x y) ∙ h ∙ one-more-r x y)
+      sym (remainder-mod (x *ℤ y))
+      ∙ cancel (remainder (x *ℤ y) m) (remainder x m * remainder y m) (remainder y m) (sym (one-more-l x y) ∙ h ∙ one-more-r x y)
 
   times-zero : (y : ℤ) → Times (pos zero) y
   times-zero y =
-      ap (λ (z : ℤ). modZ z m) (zero-*ℤ y) ∙ sym (ap (λ (n : ℕ). n * modZ y m % m) (zero-mod m) ∙ ap (λ (n : ℕ). n % m) (zero-mul (modZ y m)))
+      ap (λ (z : ℤ). remainder z m) (zero-*ℤ y) ∙ sym (ap (λ (n : ℕ). n * remainder y m % m) (zero-mod m) ∙ ap (λ (n : ℕ). n % m) (zero-mul (remainder y m)))
 
   times-pos : (n : ℕ) (y : ℤ) → Times (pos n) y
   times-pos zero y = times-zero y
@@ -113,26 +109,26 @@ module _ (m : ℕ) (some : 0 < m) where
   times-neg zero y = dn (negsuc zero) y (times-zero y)
   times-neg (suc n) y = dn (negsuc (suc n)) y (times-neg n y)
 
-  pub modZ-mul : (x y : ℤ) → modZ (x *ℤ y) m ≡ (modZ x m * modZ y m) % m
-  modZ-mul (pos n) y = times-pos n y
-  modZ-mul (negsuc n) y = times-neg n y
+  pub remainder-mul : (x y : ℤ) → remainder (x *ℤ y) m ≡ (remainder x m * remainder y m) % m
+  remainder-mul (pos n) y = times-pos n y
+  remainder-mul (negsuc n) y = times-neg n y
 
   -- a sum and a product added to it
-  pub dot-more : (s x y : ℕ) (S A B : ℤ) → s ≡ modZ S m → x ≡ modZ A m → y ≡ modZ B m → (s + x * y) % m ≡ modZ (S +ℤ A *ℤ B) m
+  pub dot-more : (s x y : ℕ) (S A B : ℤ) → s ≡ remainder S m → x ≡ remainder A m → y ≡ remainder B m → (s + x * y) % m ≡ remainder (S +ℤ A *ℤ B) m
   dot-more s x y S A B e f g =
       ap₂ (λ (p q : ℕ). (p + q) % m) e (ap₂ _*_ f g)
-      ∙ sym (add-mod-mod (modZ S m) (modZ A m * modZ B m) m)
-      ∙ sym (ap (λ (q : ℕ). (modZ S m + q) % m) (modZ-mul A B))
-      ∙ sym (modZ-sum S (A *ℤ B))
+      ∙ sym (add-mod-mod (remainder S m) (remainder A m * remainder B m) m)
+      ∙ sym (ap (λ (q : ℕ). (remainder S m + q) % m) (remainder-mul A B))
+      ∙ sym (remainder-sum S (A *ℤ B))
 
-  pub sum-more : (s x : ℕ) (S A : ℤ) → s ≡ modZ S m → x ≡ modZ A m → (s + x) % m ≡ modZ (S +ℤ A) m
-  sum-more s x S A e f = ap₂ (λ (p q : ℕ). (p + q) % m) e f ∙ sym (modZ-sum S A)
+  pub sum-more : (s x : ℕ) (S A : ℤ) → s ≡ remainder S m → x ≡ remainder A m → (s + x) % m ≡ remainder (S +ℤ A) m
+  sum-more s x S A e f = ap₂ (λ (p q : ℕ). (p + q) % m) e f ∙ sym (remainder-sum S A)
 
   -- x less p, with p at most m
-  pub modZ-sub : (x p : ℕ) → p ≤ m → modZ (subℕ x p) m ≡ (x + (m - p)) % m
-  modZ-sub x p l = go (ltb x p) refl
+  pub remainder-sub : (x p : ℕ) → p ≤ m → remainder (subℕ x p) m ≡ (x + (m - p)) % m
+  remainder-sub x p l = go (ltb x p) refl
     where
-      go : (s : Bool) → ltb x p ≡ s → modZ (cond s (negsuc (p - suc x)) (pos (x - p))) m ≡ (x + (m - p)) % m
+      go : (s : Bool) → ltb x p ≡ s → remainder (cond s (negsuc (p - suc x)) (pos (x - p))) m ≡ (x + (m - p)) % m
       go true e =
           let h : x < p = ltb-true x p e in
           ap (λ (n : ℕ). (m - 1) - n) (mod-eq-of-lt (omega arith)) ∙ sym (mod-eq-of-lt (omega arith) ∙ omega arith)

@@ -4,7 +4,7 @@ ghost use Prim.Native.Nat.{_+_, _-_, _*_, _<_, _%_, _^_};
 ghost use lib.Signed.{leZ};
 ghost use Rattle.kinds.specs.Widths.{kindOk, width, bytesOf, fits};
 ghost use Rattle.kinds.specs.Values.{signed, negative, taken, value};
-ghost use Rattle.kinds.specs.Modulo.{modZ};
+ghost use Rattle.numbers.specs.Remainders.{remainder};
 
 pub fn kind_ok(kind: u8) -> bool
     ensures { λ r. ⌜ r ≡ kindOk kind ⌝ }
@@ -87,7 +87,7 @@ pub fn ordered(kind: u8, a: u32, b: u32) -> bool
 
 // The value of raw bits modulo 2^32.
 pub fn residue(kind: u8, x: u32) -> u32
-    ensures { λ r. ⌜ r ≡ modZ (value kind x) (2 ^ 32) ⌝ }
+    ensures { λ r. ⌜ r ≡ remainder (value kind x) (2 ^ 32) ⌝ }
 {
     (raised(kind, x) & 4294967295) as u32
 }

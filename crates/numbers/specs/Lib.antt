@@ -5,3 +5,4 @@ pub mod Lists
 pub mod Lines
 pub mod Places
 pub mod Joins
+pub mod Remainders

@@ -8,7 +8,7 @@ use native.Mathlib.Numerals.{add-one}
 use native.Mathlib.Omega.{arith}
 use lib.IntN.{ℤ, _*ℤ_}
 use lib.ListN.{getD}
-use Rattle.kinds.specs.Modulo.{modZ}
+use Rattle.numbers.specs.Remainders.{remainder}
 use Rattle.kinds.specs.ModuloLaws.{dot-more, sum-more}
 use Rattle.registers.specs.Sized.{SizedType}
 use Rattle.registers.specs.Laws.Sized.{sized-places}
@@ -39,8 +39,8 @@ unfolding residuesOf
 residues-at es s t z e l = blank-given (residueAt es s t) (t .rows * t .columns) (sized-places t z) e l
 
 -- sums of products of residues are residues of the sum of products
-dot-sum : (x y : List ℕ) (p q n : ℕ) (a b : ℕ → ℤ) (count : ℕ) → ((t : ℕ) → t < count → getD x (p + t) 0 ≡ modZ (a t) (2 ^ 32))
-    → ((t : ℕ) → t < count → getD y (q + t * n) 0 ≡ modZ (b t) (2 ^ 32)) → dotOf x y p q n count ≡ modZ (sumZ (λ (t : ℕ). a t *ℤ b t) count) (2 ^ 32)
+dot-sum : (x y : List ℕ) (p q n : ℕ) (a b : ℕ → ℤ) (count : ℕ) → ((t : ℕ) → t < count → getD x (p + t) 0 ≡ remainder (a t) (2 ^ 32))
+    → ((t : ℕ) → t < count → getD y (q + t * n) 0 ≡ remainder (b t) (2 ^ 32)) → dotOf x y p q n count ≡ remainder (sumZ (λ (t : ℕ). a t *ℤ b t) count) (2 ^ 32)
 unfolding dotOf sumZ
 dot-sum x y p q n a b zero f g = refl
 dot-sum x y p q n a b (suc t) f g =
@@ -59,7 +59,7 @@ multiplied-at es a ta b tb c tc sa sb sc e i j l h =
     (λ t k. column t k))
     (residues-at es c tc sc (i * tc .columns + j) (row-end i (tc .rows) (tc .columns) j l h))
   where
-    column : (t : ℕ) → t < ta .columns → getD (residuesOf es b tb) (j + t * tc .columns) 0 ≡ modZ (valueAt es b tb t j) (2 ^ 32)
+    column : (t : ℕ) → t < ta .columns → getD (residuesOf es b tb) (j + t * tc .columns) 0 ≡ remainder (valueAt es b tb t j) (2 ^ 32)
     column t k =
         let n : tb .columns ≡ tc .columns = columns-agree ta tb tc e in
         let q : j + t * tc .columns ≡ t * tb .columns + j = rw n (add-comm j (t * tc .columns)) in

@@ -3,7 +3,7 @@ use mathlib.Core.List.{List}
 use Prim.Native.Nat.{ℕ, zero, suc, _^_}
 use lib.IntN.{ℤ, pos, _+ℤ_, _*ℤ_}
 use Rattle.kinds.specs.Values.{value}
-use Rattle.kinds.specs.Modulo.{modZ}
+use Rattle.numbers.specs.Remainders.{remainder}
 use Rattle.registers.specs.Grids.{matrixAt}
 use Rattle.registers.specs.declared.MatrixType.{MatrixType}
 
@@ -21,4 +21,4 @@ abbrev pub productAt : List ℕ → ℕ → MatrixType → ℕ → MatrixType �
 productAt es a ta b tb i j = sumZ (λ (t : ℕ). valueAt es a ta i t *ℤ valueAt es b tb t j) (ta .columns)
 
 unfoldable pub multiplied : List ℕ → ℕ → MatrixType → ℕ → MatrixType → ℕ → MatrixType → ℕ → ℕ → ℕ
-multiplied es a ta b tb c tc i j = modZ (productAt es a ta b tb i j +ℤ valueAt es c tc i j) (2 ^ 32)
+multiplied es a ta b tb c tc i j = remainder (productAt es a ta b tb i j +ℤ valueAt es c tc i j) (2 ^ 32)

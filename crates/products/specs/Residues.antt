@@ -4,14 +4,14 @@ use Prim.Native.Nat.{ℕ, zero, suc, _+_, _*_, _%_, _^_}
 use lib.ListN.{getD}
 use Rattle.numbers.specs.Lists.{line}
 use Rattle.kinds.specs.Values.{value}
-use Rattle.kinds.specs.Modulo.{modZ}
+use Rattle.numbers.specs.Remainders.{remainder}
 use Rattle.registers.specs.Registers.{elementOf}
 use Rattle.registers.specs.Grids.{blank}
 use Rattle.registers.specs.declared.MatrixType.{MatrixType}
 
 -- the value of element number e modulo 2^32
 abbrev pub residueAt : List ℕ → ℕ → MatrixType → ℕ → ℕ
-residueAt es s t e = modZ (value (t .kind) (elementOf es s e)) (2 ^ 32)
+residueAt es s t e = remainder (value (t .kind) (elementOf es s e)) (2 ^ 32)
 
 unfoldable pub residuesOf : List ℕ → ℕ → MatrixType → List ℕ
 residuesOf es s t = line blank 0 (residueAt es s t) (t .rows * t .columns)

@@ -5,7 +5,7 @@ use lib.ListN.{getD}
 use borrow.Author.Needs.{needs}
 use Rattle.numbers.specs.Lines.{line-same}
 use Rattle.numbers.specs.Lists.{line, line-none, line-step}
-use Rattle.kinds.specs.Modulo.{modZ}
+use Rattle.numbers.specs.Remainders.{remainder}
 use Rattle.kinds.specs.Values.{value}
 use Rattle.sheet.specs.Sizes.{matrixPlaces}
 use Rattle.registers.specs.Registers.{placeOf}
@@ -16,7 +16,7 @@ use Rattle.products.proofs.residues.Statement.{statement}
 use Rattle.products.proofs.residues.Tie as tie
 
 abbrev Inv-loop : tie.InvT-loop
-Inv-loop elements source count first kind out₀ e₀ out e = (e ≤ count) × (count ≤ matrixPlaces) × (out ≡ line blank 0 (λ (k : ℕ). modZ (value kind (getD elements (first + k) 0)) (2 ^ 32)) e)
+Inv-loop elements source count first kind out₀ e₀ out e = (e ≤ count) × (count ≤ matrixPlaces) × (out ≡ line blank 0 (λ (k : ℕ). remainder (value kind (getD elements (first + k) 0)) (2 ^ 32)) e)
 
 abbrev μ-loop : tie.MeasureT-loop
 μ-loop elements source count first kind out₀ e₀ out e = count - e
@@ -64,7 +64,7 @@ loop-again : tie.Need-loop-again Inv-loop μ-loop
 loop-again c = (
   search needs,
   c .before .before .before .loop .inv .1,
-  line-step _ _ _ (c .before .before .before .loop .inv .2) (c .residue .ensures ∙ ap (λ (x : ℕ). modZ (value (c .before .before .before .before .before .before .before .before .args .t .kind) x) (2 ^ 32)) (c .before .at .ensures)),
+  line-step _ _ _ (c .before .before .before .loop .inv .2) (c .residue .ensures ∙ ap (λ (x : ℕ). remainder (value (c .before .before .before .before .before .before .before .before .args .t .kind) x) (2 ^ 32)) (c .before .at .ensures)),
 )
 
 returns : tie.Need-returns Inv-loop μ-loop
@@ -76,7 +76,7 @@ returns c =
     rw e at (c .before .loop .inv .2)
     ∙ line-same _ _ _ _ _ (λ k l.
     let q : p .result + k ≡ placeOf (a .source) k = omega (arith, p .ensures) in
-    ap (λ (x : ℕ). modZ (value (a .t .kind) (getD (a .elements .now) x 0)) (2 ^ 32)) q)
+    ap (λ (x : ℕ). remainder (value (a .t .kind) (getD (a .elements .now) x 0)) (2 ^ 32)) q)
 
 pub residues-spec : {M : Type 1} → statement M
 residues-spec =

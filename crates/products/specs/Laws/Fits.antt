@@ -8,7 +8,7 @@ use lib.IntN.{_+ℤ_}
 use borrow.Author.Tests.{le-ltb}
 use Rattle.numbers.specs.Choice.{pick, between, both-right, between-low}
 use Rattle.kinds.specs.Widths.{width}
-use Rattle.kinds.specs.ModuloLaws.{modZ-lt}
+use Rattle.numbers.specs.Remainders.{remainder-lt}
 use Rattle.registers.specs.declared.MatrixType.{MatrixType}
 use Rattle.products.specs.Shapes.{multiplyAgrees}
 use Rattle.products.specs.Multiplying.{valueAt, productAt, multiplied}
@@ -23,4 +23,4 @@ pub multiplied-fits : (es : List ℕ) (a : ℕ) (ta : MatrixType) (b : ℕ) (tb 
     → (i j : ℕ) → multiplied es a ta b tb c tc i j < 2 ^ width (tc .kind)
 unfolding multiplied multiplyAgrees
 multiplied-fits es a ta b tb c tc e i j =
-    rw (width-of (tc .kind) (both-right _ _ (both-right _ _ (both-right _ _ e)))) (modZ-lt (2 ^ 32) (omega arith) (productAt es a ta b tb i j +ℤ valueAt es c tc i j))
+    rw (width-of (tc .kind) (both-right _ _ (both-right _ _ (both-right _ _ e)))) (remainder-lt (productAt es a ta b tb i j +ℤ valueAt es c tc i j) {n = 2 ^ 32} (omega arith))

@@ -3,7 +3,7 @@ use mathlib.Core.Path.{refl}
 use native.Mathlib.Omega.{arith}
 use borrow.Author.Needs.{needs}
 use Rattle.numbers.specs.Choice.{taken, left, tests}
-use Rattle.addressing.specs.Laws.Remainder.{remainder-lt}
+use Rattle.numbers.specs.Remainders.{remainder-lt}
 use Rattle.addressing.specs.Rules.{mirrored, folded}
 use Rattle.addressing.specs.Plans.{integer}
 use Rattle.addressing.proofs.clamps.mirror.Statement.{statement}

@@ -1,11 +1,14 @@
--- The remainder of rule 4 is the one with the divisor's sign: every c is a multiple of n and a remainder from 0 to n - 1.
+-- A remainder takes the divisor's sign: it is the number below n that differs from an integer by a multiple of n, so that -1 leaves n - 1.
 use Prim.Native.Nat.{ℕ, zero, suc, _+_, _-_, _*_, _/_, _%_, _<_}
 use mathlib.Core.Path.{_≡_, ap}
 use native.Mathlib.Nat.{mod-lt, div-add-mod', suc-mul}
 use native.Mathlib.Omega.{arith}
 use lib.IntN.{ℤ, pos, negsuc, negℤ, _+ℤ_, _*ℤ_}
 use borrow.Author.Tests.{lt-ltb}
-use Rattle.addressing.specs.Rules.{remainder}
+
+abbrev pub remainder : ℤ → ℕ → ℕ
+remainder (pos a) n = a % n
+remainder (negsuc a) n = n - 1 - a % n
 
 -- the quotient, rounded down
 abbrev pub quotient : ℤ → ℕ → ℤ
