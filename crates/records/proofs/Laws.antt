@@ -11,44 +11,44 @@ use Rattle.numbers.specs.Choice.{both-left, both-right}
 use Rattle.sheet.specs.Sizes.{registerCount}
 use Rattle.signed.specs.Numbers.{rise, fall}
 use Rattle.signed.specs.Laws.{one-way, spans-rise, spans-fall, least-rise}
-use Rattle.records.specs.Records.{registerOk, stepOk, countOk, copyOk, bytesOk, fillOk}
+use Rattle.records.specs.Records.{registerInRange, stepInRange, countInRange, copyInRange, bytesInRange, fillInRange}
 use Rattle.records.specs.Ranges.{Elements, Bytes}
 
 module _ (a b c d e : ℤ) where
-  pub copy-register : copyOk a b c d e ≡ true → registerOk a ≡ true
-  unfolding copyOk
+  pub copy-register : copyInRange a b c d e ≡ true → registerInRange a ≡ true
+  unfolding copyInRange
   copy-register h = both-left _ _ h
 
-  pub copy-object : copyOk a b c d e ≡ true → registerOk b ≡ true
-  unfolding copyOk
+  pub copy-object : copyInRange a b c d e ≡ true → registerInRange b ≡ true
+  unfolding copyInRange
   copy-object h = both-left _ _ (both-right _ _ h)
 
-  pub bytes-register : bytesOk a b c d e ≡ true → registerOk a ≡ true
-  unfolding bytesOk
+  pub bytes-register : bytesInRange a b c d e ≡ true → registerInRange a ≡ true
+  unfolding bytesInRange
   bytes-register h = both-left _ _ h
 
-  pub bytes-count : bytesOk a b c d e ≡ true → countOk c ≡ true
-  unfolding bytesOk
+  pub bytes-count : bytesInRange a b c d e ≡ true → countInRange c ≡ true
+  unfolding bytesInRange
   bytes-count h = both-left _ _ (both-right _ _ (both-right _ _ h))
 
-  pub bytes-step : bytesOk a b c d e ≡ true → stepOk e ≡ true
-  unfolding bytesOk
+  pub bytes-step : bytesInRange a b c d e ≡ true → stepInRange e ≡ true
+  unfolding bytesInRange
   bytes-step h = both-right _ _ (both-right _ _ (both-right _ _ (both-right _ _ h)))
 
-  pub fill-register : fillOk a b c d e ≡ true → registerOk a ≡ true
-  unfolding fillOk
+  pub fill-register : fillInRange a b c d e ≡ true → registerInRange a ≡ true
+  unfolding fillInRange
   fill-register h = both-left _ _ h
 
-  pub fill-count : fillOk a b c d e ≡ true → countOk c ≡ true
-  unfolding fillOk
+  pub fill-count : fillInRange a b c d e ≡ true → countInRange c ≡ true
+  unfolding fillInRange
   fill-count h = both-left _ _ (both-right _ _ (both-right _ _ h))
 
 -- elements that were read
-pub elements-read : (c : ℤ) → countOk c ≡ true → {r f n : ℕ} → r < registerCount → f < 2 ^ 31 → n ≡ rise c → n < 2 ^ 31 → Elements r f n
+pub elements-read : (c : ℤ) → countInRange c ≡ true → {r f n : ℕ} → r < registerCount → f < 2 ^ 31 → n ≡ rise c → n < 2 ^ 31 → Elements r f n
 elements-read c h p q e s = record { register = p; first = q; some = rw e (least-rise 1 c h); count = s }
 
 -- a byte and a step that were read
-pub bytes-read : (e : ℤ) → stepOk e ≡ true → {b u d : ℕ} → b < 2 ^ 31 → u ≡ rise e → d ≡ fall e → Bytes b u d
+pub bytes-read : (e : ℤ) → stepInRange e ≡ true → {b u d : ℕ} → b < 2 ^ 31 → u ≡ rise e → d ≡ fall e → Bytes b u d
 bytes-read e h p q r =
     record {
       byte = p;

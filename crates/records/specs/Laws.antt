@@ -18,11 +18,11 @@ use Rattle.signed.specs.Laws.{spans-true, rise-difference, fall-difference, bit
 use Rattle.records.specs.declared.Record.{Record}
 use Rattle.records.specs.declared.Record.the-variants.{Copy, Take, Put, Fill, Whole}
 use Rattle.records.specs.declared.Decoded.the-variants.{Good}
-use Rattle.records.specs.Records.{recordLength, recordNumbers, tapeNumbers, moved, registerOk, stepOk, copyOk, bytesOk, fillOk, wholeOk, copyOf, bytesOf, fillOf, wholeOf, recordOf, recordAt}
+use Rattle.records.specs.Records.{recordLength, recordNumbers, tapeNumbers, moved, registerInRange, stepInRange, copyInRange, bytesInRange, fillInRange, wholeInRange, copyOf, bytesOf, fillOf, wholeOf, recordOf, recordAt}
 use Rattle.records.specs.Ranges.{Elements, Bytes, Within}
 use Rattle.records.specs.Room.{recordsFit}
 
-register-true : (r : ℕ) → r < registerCount → registerOk (pos r) ≡ true
+register-true : (r : ℕ) → r < registerCount → registerInRange (pos r) ≡ true
 register-true r h = spans-true 0 (registerCount - 1) (pos r) (omega arith) (omega arith)
 
 least-true : (low n : ℕ) → low ≤ n → atLeast low (pos n) ≡ true
@@ -40,29 +40,29 @@ module _ (b u d : ℕ) (h : Bytes b u d) where
   down-back : fall (difference u d) ≡ d
   down-back = let w = h .way in fall-difference u d ∙ omega arith
 
-  step-true : stepOk (difference u d) ≡ true
+  step-true : stepInRange (difference u d) ≡ true
   step-true = spans-true 65535 65535 (difference u d) (rw down-back (h .down)) (rw up-back (h .up))
 
 copy-back : (r o : ℕ) → r < registerCount → o < registerCount → copyOf (pos r) (pos o) (pos 0) (pos 0) (pos 0) ≡ Good (Copy r o)
-unfolding copyOf copyOk pick
+unfolding copyOf copyInRange pick
 copy-back r o p q =
     rw (both-true _ _ (register-true r p) (both-true _ _ (register-true o q) (both-true _ _ none-true (both-true _ _ none-true none-true))))
 
 bytes-back : (take : Bool) (r f n b u d : ℕ) → Elements r f n → Bytes b u d
     → bytesOf take (pos r) (pos f) (pos n) (pos b) (difference u d) ≡ Good (moved take r f n b u d)
-unfolding bytesOf bytesOk pick
+unfolding bytesOf bytesInRange pick
 bytes-back take r f n b u d p q =
     rw
     (both-true _ _ (register-true r (p .register)) (both-true _ _ (least-true 0 f (omega arith)) (both-true _ _ (least-true 1 n (p .some)) (both-true _ _ (least-true 0 b (omega arith)) (step-true b u d q)))), up-back b u d q, down-back b u d q)
 
 fill-back : (r f n v : ℕ) → Elements r f n → v < 2 ^ 32 → fillOf (pos r) (pos f) (pos n) (signedOf v) (pos 0) ≡ Good (Fill r f n v)
-unfolding fillOf fillOk pick
+unfolding fillOf fillInRange pick
 fill-back r f n v p q =
     rw
     (both-true _ _ (register-true r (p .register)) (both-true _ _ (least-true 0 f (omega arith)) (both-true _ _ (least-true 1 n (p .some)) none-true)), bits-signed v q)
 
 whole-back : (s : ℕ) → wholeOf (pos s) (pos 0) (pos 0) (pos 0) (pos 0) ≡ Good (Whole s)
-unfolding wholeOf wholeOk pick
+unfolding wholeOf wholeInRange pick
 whole-back s = rw (both-true _ _ (least-true 0 s (omega arith)) (both-true _ _ none-true (both-true _ _ none-true (both-true _ _ none-true none-true))))
 
 -- the first record of a tape, and the others

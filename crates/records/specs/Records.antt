@@ -47,67 +47,67 @@ moved false register first count byte up down = Put register first count byte up
 -- ---- from numbers to records: what makes a record out of range whatever stands in registers, memory and sheet
 
 -- a register outside 0 to 3
-abbrev pub registerOk : ℤ → Bool
-registerOk = spans 0 (registerCount - 1)
+abbrev pub registerInRange : ℤ → Bool
+registerInRange = spans 0 (registerCount - 1)
 
 -- a first element below 0
-abbrev pub firstOk : ℤ → Bool
-firstOk = atLeast 0
+abbrev pub firstInRange : ℤ → Bool
+firstInRange = atLeast 0
 
 -- a count below 1
-abbrev pub countOk : ℤ → Bool
-countOk = atLeast 1
+abbrev pub countInRange : ℤ → Bool
+countInRange = atLeast 1
 
 -- a byte below 0 is outside any memory
-abbrev pub byteOk : ℤ → Bool
-byteOk = atLeast 0
+abbrev pub byteInRange : ℤ → Bool
+byteInRange = atLeast 0
 
 -- a step beyond 65,535 either way; a lone element's too
-abbrev pub stepOk : ℤ → Bool
-stepOk = spans 65535 65535
+abbrev pub stepInRange : ℤ → Bool
+stepInRange = spans 65535 65535
 
 -- no sheet has a step below 0
 abbrev pub stepNumberOk : ℤ → Bool
 stepNumberOk = atLeast 0
 
 -- a non-zero unused number
-abbrev pub unusedOk : ℤ → Bool
-unusedOk = is 0
+abbrev pub unusedInRange : ℤ → Bool
+unusedInRange = is 0
 
-unfoldable pub copyOk : ℤ → ℤ → ℤ → ℤ → ℤ → Bool
-copyOk register object c d e =
-    both (registerOk register) (both (registerOk object) (both (unusedOk c) (both (unusedOk d) (unusedOk e))))
+unfoldable pub copyInRange : ℤ → ℤ → ℤ → ℤ → ℤ → Bool
+copyInRange register object c d e =
+    both (registerInRange register) (both (registerInRange object) (both (unusedInRange c) (both (unusedInRange d) (unusedInRange e))))
 
-unfoldable pub bytesOk : ℤ → ℤ → ℤ → ℤ → ℤ → Bool
-bytesOk register first count byte step =
-    both (registerOk register) (both (firstOk first) (both (countOk count) (both (byteOk byte) (stepOk step))))
+unfoldable pub bytesInRange : ℤ → ℤ → ℤ → ℤ → ℤ → Bool
+bytesInRange register first count byte step =
+    both (registerInRange register) (both (firstInRange first) (both (countInRange count) (both (byteInRange byte) (stepInRange step))))
 
 -- any 32 bits are a value here
-unfoldable pub fillOk : ℤ → ℤ → ℤ → ℤ → ℤ → Bool
-fillOk register first count value e =
-    both (registerOk register) (both (firstOk first) (both (countOk count) (unusedOk e)))
+unfoldable pub fillInRange : ℤ → ℤ → ℤ → ℤ → ℤ → Bool
+fillInRange register first count value e =
+    both (registerInRange register) (both (firstInRange first) (both (countInRange count) (unusedInRange e)))
 
-unfoldable pub wholeOk : ℤ → ℤ → ℤ → ℤ → ℤ → Bool
-wholeOk step b c d e =
-    both (stepNumberOk step) (both (unusedOk b) (both (unusedOk c) (both (unusedOk d) (unusedOk e))))
+unfoldable pub wholeInRange : ℤ → ℤ → ℤ → ℤ → ℤ → Bool
+wholeInRange step b c d e =
+    both (stepNumberOk step) (both (unusedInRange b) (both (unusedInRange c) (both (unusedInRange d) (unusedInRange e))))
 
 abbrev pub goodIf : Bool → Record → Decoded
 goodIf ok r = pick ok (Good r) Bad
 
 unfoldable pub copyOf : ℤ → ℤ → ℤ → ℤ → ℤ → Decoded
-copyOf register object c d e = goodIf (copyOk register object c d e) (Copy (rise register) (rise object))
+copyOf register object c d e = goodIf (copyInRange register object c d e) (Copy (rise register) (rise object))
 
 unfoldable pub bytesOf : Bool → ℤ → ℤ → ℤ → ℤ → ℤ → Decoded
 bytesOf take register first count byte step =
-    goodIf (bytesOk register first count byte step)
+    goodIf (bytesInRange register first count byte step)
     (moved take (rise register) (rise first) (rise count) (rise byte) (rise step) (fall step))
 
 unfoldable pub fillOf : ℤ → ℤ → ℤ → ℤ → ℤ → Decoded
 fillOf register first count value e =
-    goodIf (fillOk register first count value e) (Fill (rise register) (rise first) (rise count) (bitsOf value))
+    goodIf (fillInRange register first count value e) (Fill (rise register) (rise first) (rise count) (bitsOf value))
 
 unfoldable pub wholeOf : ℤ → ℤ → ℤ → ℤ → ℤ → Decoded
-wholeOf step b c d e = goodIf (wholeOk step b c d e) (Whole (rise step))
+wholeOf step b c d e = goodIf (wholeInRange step b c d e) (Whole (rise step))
 
 -- six numbers, by their op; an unknown op is out of range
 unfoldable pub recordOf : ℤ → ℤ → ℤ → ℤ → ℤ → ℤ → Decoded

@@ -8,7 +8,7 @@ ghost use lib.Seq.{sets};
 ghost use lib.IntN.{pos};
 ghost use Rattle.sheet.specs.Sizes.{registerCount};
 ghost use Rattle.signed.specs.Numbers.{number, rise};
-ghost use Rattle.records.specs.Records.{recordLength, registerOk, moved, bytesNumbers, recordNumbers, fields, copyOk, bytesOk, fillOk, wholeOk, copyOf, bytesOf, fillOf, wholeOf, recordAt};
+ghost use Rattle.records.specs.Records.{recordLength, registerInRange, moved, bytesNumbers, recordNumbers, fields, copyInRange, bytesInRange, fillInRange, wholeInRange, copyOf, bytesOf, fillOf, wholeOf, recordAt};
 ghost use Rattle.records.specs.Ranges.{Elements, Bytes, Within, Sound};
 ghost use Rattle.records.specs.Room.{recordsFit};
 use sheet::editions;
@@ -72,9 +72,9 @@ pub fn records_fit(edition: u8, room: usize, records: usize) -> bool
     records * NUMBERS <= room
 }
 
-fn copy_ok(tape: &[i32], at: usize) -> bool
+fn copy_in_range(tape: &[i32], at: usize) -> bool
     requires { ⌜ at + recordLength ≤ length (now tape) ⌝ }
-    ensures { λ r. ⌜ r ≡ fields copyOk (now (tape .entry)) at ⌝ }
+    ensures { λ r. ⌜ r ≡ fields copyInRange (now (tape .entry)) at ⌝ }
 {
     if !signed::spans(tape, at + 1, 0, REGISTER) {
         return false;
@@ -91,9 +91,9 @@ fn copy_ok(tape: &[i32], at: usize) -> bool
     signed::is(tape, at + 5, 0)
 }
 
-fn bytes_ok(tape: &[i32], at: usize) -> bool
+fn bytes_in_range(tape: &[i32], at: usize) -> bool
     requires { ⌜ at + recordLength ≤ length (now tape) ⌝ }
-    ensures { λ r. ⌜ r ≡ fields bytesOk (now (tape .entry)) at ⌝ }
+    ensures { λ r. ⌜ r ≡ fields bytesInRange (now (tape .entry)) at ⌝ }
 {
     if !signed::spans(tape, at + 1, 0, REGISTER) {
         return false;
@@ -110,9 +110,9 @@ fn bytes_ok(tape: &[i32], at: usize) -> bool
     signed::spans(tape, at + 5, STEP, STEP)
 }
 
-fn fill_ok(tape: &[i32], at: usize) -> bool
+fn fill_in_range(tape: &[i32], at: usize) -> bool
     requires { ⌜ at + recordLength ≤ length (now tape) ⌝ }
-    ensures { λ r. ⌜ r ≡ fields fillOk (now (tape .entry)) at ⌝ }
+    ensures { λ r. ⌜ r ≡ fields fillInRange (now (tape .entry)) at ⌝ }
 {
     if !signed::spans(tape, at + 1, 0, REGISTER) {
         return false;
@@ -126,9 +126,9 @@ fn fill_ok(tape: &[i32], at: usize) -> bool
     signed::is(tape, at + 5, 0)
 }
 
-fn whole_ok(tape: &[i32], at: usize) -> bool
+fn whole_in_range(tape: &[i32], at: usize) -> bool
     requires { ⌜ at + recordLength ≤ length (now tape) ⌝ }
-    ensures { λ r. ⌜ r ≡ fields wholeOk (now (tape .entry)) at ⌝ }
+    ensures { λ r. ⌜ r ≡ fields wholeInRange (now (tape .entry)) at ⌝ }
 {
     if !signed::at_least(tape, at + 1, 0) {
         return false;
@@ -146,7 +146,7 @@ fn whole_ok(tape: &[i32], at: usize) -> bool
 }
 
 fn register_at(tape: &[i32], at: usize) -> u8
-    requires { ⌜ (at < length (now tape)) × (registerOk (number (now tape) at) ≡ true) ⌝ }
+    requires { ⌜ (at < length (now tape)) × (registerInRange (number (now tape) at) ≡ true) ⌝ }
     ensures { λ r. ⌜ (r ≡ rise (number (now (tape .entry)) at)) × (r < registerCount) ⌝ }
 {
     signed::rise(tape, at) as u8
@@ -156,7 +156,7 @@ fn copy_record(tape: &[i32], at: usize) -> Decoded
     requires { ⌜ at + recordLength ≤ length (now tape) ⌝ }
     ensures { λ r. ⌜ (r ≡ fields copyOf (now (tape .entry)) at) × Sound r ⌝ }
 {
-    if !copy_ok(tape, at) {
+    if !copy_in_range(tape, at) {
         return Decoded::Bad;
     }
     let register = register_at(tape, at + 1);
@@ -200,7 +200,7 @@ fn bytes_record(tape: &[i32], at: usize, take: bool) -> Decoded
     requires { ⌜ at + recordLength ≤ length (now tape) ⌝ }
     ensures { λ r. ⌜ (r ≡ fields (bytesOf take) (now (tape .entry)) at) × Sound r ⌝ }
 {
-    if !bytes_ok(tape, at) {
+    if !bytes_in_range(tape, at) {
         return Decoded::Bad;
     }
     let register = register_at(tape, at + 1);
@@ -216,7 +216,7 @@ fn fill_record(tape: &[i32], at: usize) -> Decoded
     requires { ⌜ at + recordLength ≤ length (now tape) ⌝ }
     ensures { λ r. ⌜ (r ≡ fields fillOf (now (tape .entry)) at) × Sound r ⌝ }
 {
-    if !fill_ok(tape, at) {
+    if !fill_in_range(tape, at) {
         return Decoded::Bad;
     }
     let register = register_at(tape, at + 1);
@@ -235,7 +235,7 @@ fn whole_record(tape: &[i32], at: usize) -> Decoded
     requires { ⌜ at + recordLength ≤ length (now tape) ⌝ }
     ensures { λ r. ⌜ (r ≡ fields wholeOf (now (tape .entry)) at) × Sound r ⌝ }
 {
-    if !whole_ok(tape, at) {
+    if !whole_in_range(tape, at) {
         return Decoded::Bad;
     }
     let step = signed::rise(tape, at + 1);

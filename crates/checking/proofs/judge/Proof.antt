@@ -23,9 +23,10 @@ judged-refused-requires c κs = search needs
 returns : tie.Need-returns
 returns c = let a = c .before .before .before .before .before .args in
     let h = c .before .before .before .if1 .taken in
-    let j = c .judged-refused .ensures in
-    ( j .0 ∙ ap checkRefused (c .before .before .refusal-at .ensures) ∙ sym (large (now (a .sheet)) (a .memory-len) h)
-    , j .1 ∙ c .before .empty-sheet .ensures ∙ sym (large-sheet (now (a .sheet)) (a .memory-len) h))
+    let j = c .judged-refused .ensures in (
+      j .0 ∙ ap checkRefused (c .before .before .refusal-at .ensures) ∙ sym (large (now (a .sheet)) (a .memory-len) h),
+      j .1 ∙ c .before .empty-sheet .ensures ∙ sym (large-sheet (now (a .sheet)) (a .memory-len) h),
+    )
 
 read-sheet-requires : tie.Need-read-sheet-requires
 read-sheet-requires c κs = search needs
@@ -39,9 +40,10 @@ returns-2 c = let r = c .before .before .before .before .before .read-sheet in
     let s = now (a .sheet) in
     let few = c .before .before .before .before .before .before .if1 .left in
     let j = c .judged-refused2 .ensures in
-    let n : 0 < readSheet s .refusal .number = rw (r .ensures) at (c .before .if2 .taken) in
-    ( j .0 ∙ ap (λ (x : ReadAnswer). checkRefused (x .refusal)) (r .ensures) ∙ sym (unread s (a .memory-len) few n)
-    , j .1 ∙ ap (λ (x : ReadAnswer). x .sheet) (r .ensures) ∙ sym (few-sheet s (a .memory-len) few))
+    let n : 0 < readSheet s .refusal .number = rw (r .ensures) at (c .before .if2 .taken) in (
+      j .0 ∙ ap (λ (x : ReadAnswer). checkRefused (x .refusal)) (r .ensures) ∙ sym (unread s (a .memory-len) few n),
+      j .1 ∙ ap (λ (x : ReadAnswer). x .sheet) (r .ensures) ∙ sym (few-sheet s (a .memory-len) few),
+    )
 
 check-requires : tie.Need-check-requires
 check-requires c κs = let r = c .before .before .before .before .read-sheet in
@@ -54,9 +56,10 @@ returns-3 c = let r = c .before .before .before .before .before .read-sheet in
     let a = c .before .before .before .before .before .before .before .before .args in
     let s = now (a .sheet) in
     let few = c .before .before .before .before .before .before .if1 .left in
-    let n : readSheet s .refusal .number ≤ 0 = rw (r .ensures) at (c .before .if2 .left) in
-    ( c .check .ensures ∙ ap (λ (x : ReadAnswer). checked (x .sheet) (a .memory-len)) (r .ensures) ∙ sym (readable s (a .memory-len) few (omega arith))
-    , ap (λ (x : ReadAnswer). x .sheet) (r .ensures) ∙ sym (few-sheet s (a .memory-len) few))
+    let n : readSheet s .refusal .number ≤ 0 = rw (r .ensures) at (c .before .if2 .left) in (
+      c .check .ensures ∙ ap (λ (x : ReadAnswer). checked (x .sheet) (a .memory-len)) (r .ensures) ∙ sym (readable s (a .memory-len) few (omega arith)),
+      ap (λ (x : ReadAnswer). x .sheet) (r .ensures) ∙ sym (few-sheet s (a .memory-len) few),
+    )
 
 pub judge-spec : {M : Type 1} → statement M
 judge-spec =

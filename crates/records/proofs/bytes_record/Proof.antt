@@ -8,18 +8,18 @@ use borrow.Author.Needs.{needs}
 use Rattle.records.proofs.bytes_record.Statement.{statement}
 use Rattle.records.proofs.bytes_record.Tie as tie
 
-bytes-ok-requires : tie.Need-bytes-ok-requires
-bytes-ok-requires c κs = search needs
+bytes-in-range-requires : tie.Need-bytes-in-range-requires
+bytes-in-range-requires c κs = search needs
 
 returns : tie.Need-returns
 unfolding bytesOf
-returns c = (left _ (went-not (c .before .bytes-ok .ensures) (c .if1 .taken)) refl, tt)
+returns c = (left _ (went-not (c .before .bytes-in-range .ensures) (c .if1 .taken)) refl, tt)
 
 add-register-at : tie.Need-add-register-at
 add-register-at c = search needs
 
 register-at-requires : tie.Need-register-at-requires
-register-at-requires c κs = (omega arith, bytes-register _ _ _ _ _ (went-past (c .before .bytes-ok .ensures) (c .if1 .left)))
+register-at-requires c κs = (omega arith, bytes-register _ _ _ _ _ (went-past (c .before .bytes-in-range .ensures) (c .if1 .left)))
 
 add-rise : tie.Need-add-rise
 add-rise c = search needs
@@ -58,7 +58,7 @@ returns-2 : tie.Need-returns-2
 unfolding bytesOf
 returns-2 c =
     let s = c .before .before .before .before .before .before .before in
-    let ok = went-past (s .before .bytes-ok .ensures) (s .if1 .left) in (
+    let ok = went-past (s .before .bytes-in-range .ensures) (s .if1 .left) in (
       taken _ ok (cc),
       rw (c .moved .ensures)
           (moved-within (s .before .before .args .take)
@@ -75,7 +75,7 @@ pub bytes-record-spec : {M : Type 1} → statement M
 bytes-record-spec =
     tie.close
     (tie.spec
-    bytes-ok-requires
+    bytes-in-range-requires
     returns
     add-register-at
     register-at-requires

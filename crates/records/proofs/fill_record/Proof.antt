@@ -7,18 +7,18 @@ use borrow.Author.Needs.{needs}
 use Rattle.records.proofs.fill_record.Statement.{statement}
 use Rattle.records.proofs.fill_record.Tie as tie
 
-fill-ok-requires : tie.Need-fill-ok-requires
-fill-ok-requires c κs = search needs
+fill-in-range-requires : tie.Need-fill-in-range-requires
+fill-in-range-requires c κs = search needs
 
 returns : tie.Need-returns
 unfolding fillOf
-returns c = (left _ (went-not (c .before .fill-ok .ensures) (c .if1 .taken)) refl, tt)
+returns c = (left _ (went-not (c .before .fill-in-range .ensures) (c .if1 .taken)) refl, tt)
 
 add-register-at : tie.Need-add-register-at
 add-register-at c = search needs
 
 register-at-requires : tie.Need-register-at-requires
-register-at-requires c κs = (omega arith, fill-register _ _ _ _ _ (went-past (c .before .fill-ok .ensures) (c .if1 .left)))
+register-at-requires c κs = (omega arith, fill-register _ _ _ _ _ (went-past (c .before .fill-in-range .ensures) (c .if1 .left)))
 
 add-rise : tie.Need-add-rise
 add-rise c = search needs
@@ -42,7 +42,7 @@ returns-2 : tie.Need-returns-2
 unfolding fillOf
 returns-2 c =
     let s = c .before .before .before .before in
-    let ok = went-past (s .before .fill-ok .ensures) (s .if1 .left) in (
+    let ok = went-past (s .before .fill-in-range .ensures) (s .if1 .left) in (
       taken _ ok (cc),
       (
         elements-read _ (fill-count _ _ _ _ _ ok) (c .before .before .before .register-at .ensures .1)
@@ -55,7 +55,7 @@ pub fill-record-spec : {M : Type 1} → statement M
 fill-record-spec =
     tie.close
     (tie.spec
-    fill-ok-requires
+    fill-in-range-requires
     returns
     add-register-at
     register-at-requires

@@ -1,8 +1,8 @@
 use Rattle.numbers.specs.Choice.{tests, stop, pass}
-use Rattle.records.specs.Records.{bytesOk}
+use Rattle.records.specs.Records.{fillInRange}
 use borrow.Author.Needs.{needs}
-use Rattle.records.proofs.bytes_ok.Statement.{statement}
-use Rattle.records.proofs.bytes_ok.Tie as tie
+use Rattle.records.proofs.fill_in_range.Statement.{statement}
+use Rattle.records.proofs.fill_in_range.Tie as tie
 
 add-spans : tie.Need-add-spans
 add-spans c = search needs
@@ -11,7 +11,7 @@ spans-requires : tie.Need-spans-requires
 spans-requires c κs = search needs
 
 returns : tie.Need-returns
-unfolding bytesOk
+unfolding fillInRange
 returns c = stop _ (search tests)
 
 add-at-least : tie.Need-add-at-least
@@ -21,7 +21,7 @@ at-least-requires : tie.Need-at-least-requires
 at-least-requires c κs = search needs
 
 returns-2 : tie.Need-returns-2
-unfolding bytesOk
+unfolding fillInRange
 returns-2 c = pass (search tests) (stop _ (search tests))
 
 add-at-least-2 : tie.Need-add-at-least-2
@@ -31,31 +31,21 @@ at-least-requires-2 : tie.Need-at-least-requires-2
 at-least-requires-2 c κs = search needs
 
 returns-3 : tie.Need-returns-3
-unfolding bytesOk
+unfolding fillInRange
 returns-3 c = pass (search tests) (pass (search tests) (stop _ (search tests)))
 
-add-at-least-3 : tie.Need-add-at-least-3
-add-at-least-3 c = search needs
+add-is : tie.Need-add-is
+add-is c = search needs
 
-at-least-requires-3 : tie.Need-at-least-requires-3
-at-least-requires-3 c κs = search needs
+is-requires : tie.Need-is-requires
+is-requires c κs = search needs
 
 returns-4 : tie.Need-returns-4
-unfolding bytesOk
-returns-4 c = pass (search tests) (pass (search tests) (pass (search tests) (stop _ (search tests))))
+unfolding fillInRange
+returns-4 c = pass (search tests) (pass (search tests) (pass (search tests) (search tests)))
 
-add-spans-2 : tie.Need-add-spans-2
-add-spans-2 c = search needs
-
-spans-requires-2 : tie.Need-spans-requires-2
-spans-requires-2 c κs = search needs
-
-returns-5 : tie.Need-returns-5
-unfolding bytesOk
-returns-5 c = pass (search tests) (pass (search tests) (pass (search tests) (pass (search tests) (search tests))))
-
-pub bytes-ok-spec : {M : Type 1} → statement M
-bytes-ok-spec =
+pub fill-in-range-spec : {M : Type 1} → statement M
+fill-in-range-spec =
     tie.close
     (tie.spec
     add-spans
@@ -67,9 +57,6 @@ bytes-ok-spec =
     add-at-least-2
     at-least-requires-2
     returns-3
-    add-at-least-3
-    at-least-requires-3
-    returns-4
-    add-spans-2
-    spans-requires-2
-    returns-5)
+    add-is
+    is-requires
+    returns-4)

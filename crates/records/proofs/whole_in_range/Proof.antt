@@ -1,8 +1,8 @@
 use Rattle.numbers.specs.Choice.{tests, stop, pass}
-use Rattle.records.specs.Records.{wholeOk}
+use Rattle.records.specs.Records.{wholeInRange}
 use borrow.Author.Needs.{needs}
-use Rattle.records.proofs.whole_ok.Statement.{statement}
-use Rattle.records.proofs.whole_ok.Tie as tie
+use Rattle.records.proofs.whole_in_range.Statement.{statement}
+use Rattle.records.proofs.whole_in_range.Tie as tie
 
 add-at-least : tie.Need-add-at-least
 add-at-least c = search needs
@@ -11,7 +11,7 @@ at-least-requires : tie.Need-at-least-requires
 at-least-requires c κs = search needs
 
 returns : tie.Need-returns
-unfolding wholeOk
+unfolding wholeInRange
 returns c = stop _ (search tests)
 
 add-is : tie.Need-add-is
@@ -21,7 +21,7 @@ is-requires : tie.Need-is-requires
 is-requires c κs = search needs
 
 returns-2 : tie.Need-returns-2
-unfolding wholeOk
+unfolding wholeInRange
 returns-2 c = pass (search tests) (stop _ (search tests))
 
 add-is-2 : tie.Need-add-is-2
@@ -31,7 +31,7 @@ is-requires-2 : tie.Need-is-requires-2
 is-requires-2 c κs = search needs
 
 returns-3 : tie.Need-returns-3
-unfolding wholeOk
+unfolding wholeInRange
 returns-3 c = pass (search tests) (pass (search tests) (stop _ (search tests)))
 
 add-is-3 : tie.Need-add-is-3
@@ -41,7 +41,7 @@ is-requires-3 : tie.Need-is-requires-3
 is-requires-3 c κs = search needs
 
 returns-4 : tie.Need-returns-4
-unfolding wholeOk
+unfolding wholeInRange
 returns-4 c = pass (search tests) (pass (search tests) (pass (search tests) (stop _ (search tests))))
 
 add-is-4 : tie.Need-add-is-4
@@ -51,11 +51,11 @@ is-requires-4 : tie.Need-is-requires-4
 is-requires-4 c κs = search needs
 
 returns-5 : tie.Need-returns-5
-unfolding wholeOk
+unfolding wholeInRange
 returns-5 c = pass (search tests) (pass (search tests) (pass (search tests) (pass (search tests) (search tests))))
 
-pub whole-ok-spec : {M : Type 1} → statement M
-whole-ok-spec =
+pub whole-in-range-spec : {M : Type 1} → statement M
+whole-in-range-spec =
     tie.close
     (tie.spec
     add-at-least

@@ -1,8 +1,8 @@
 use Rattle.numbers.specs.Choice.{tests, stop, pass}
-use Rattle.records.specs.Records.{copyOk}
+use Rattle.records.specs.Records.{copyInRange}
 use borrow.Author.Needs.{needs}
-use Rattle.records.proofs.copy_ok.Statement.{statement}
-use Rattle.records.proofs.copy_ok.Tie as tie
+use Rattle.records.proofs.copy_in_range.Statement.{statement}
+use Rattle.records.proofs.copy_in_range.Tie as tie
 
 add-spans : tie.Need-add-spans
 add-spans c = search needs
@@ -11,7 +11,7 @@ spans-requires : tie.Need-spans-requires
 spans-requires c κs = search needs
 
 returns : tie.Need-returns
-unfolding copyOk
+unfolding copyInRange
 returns c = stop _ (search tests)
 
 add-spans-2 : tie.Need-add-spans-2
@@ -21,7 +21,7 @@ spans-requires-2 : tie.Need-spans-requires-2
 spans-requires-2 c κs = search needs
 
 returns-2 : tie.Need-returns-2
-unfolding copyOk
+unfolding copyInRange
 returns-2 c = pass (search tests) (stop _ (search tests))
 
 add-is : tie.Need-add-is
@@ -31,7 +31,7 @@ is-requires : tie.Need-is-requires
 is-requires c κs = search needs
 
 returns-3 : tie.Need-returns-3
-unfolding copyOk
+unfolding copyInRange
 returns-3 c = pass (search tests) (pass (search tests) (stop _ (search tests)))
 
 add-is-2 : tie.Need-add-is-2
@@ -41,7 +41,7 @@ is-requires-2 : tie.Need-is-requires-2
 is-requires-2 c κs = search needs
 
 returns-4 : tie.Need-returns-4
-unfolding copyOk
+unfolding copyInRange
 returns-4 c = pass (search tests) (pass (search tests) (pass (search tests) (stop _ (search tests))))
 
 add-is-3 : tie.Need-add-is-3
@@ -51,11 +51,11 @@ is-requires-3 : tie.Need-is-requires-3
 is-requires-3 c κs = search needs
 
 returns-5 : tie.Need-returns-5
-unfolding copyOk
+unfolding copyInRange
 returns-5 c = pass (search tests) (pass (search tests) (pass (search tests) (pass (search tests) (search tests))))
 
-pub copy-ok-spec : {M : Type 1} → statement M
-copy-ok-spec =
+pub copy-in-range-spec : {M : Type 1} → statement M
+copy-in-range-spec =
     tie.close
     (tie.spec
     add-spans
