@@ -22,8 +22,8 @@ use Rattle.refusals.specs.Refusals.{unalignedBase, ranksDiffer, blockedStore, b
 use Rattle.refusals.specs.declared.Stop.{Stop}
 use Rattle.accesses.specs.declared.Tally.{Tally}
 use Rattle.accesses.specs.Refusals.{elementOutcome, firstRefused, sameByte, sameAt, meets, clashFrom, apart, clashRefusal, elementsRefusal, placedOne, placedCount, checkedBy, checked, misplaced, otherRank, storeBlocked, accessRefusal, checkedAccess}
-use Rattle.accesses.specs.Entries.{Near, entryOf, hasByte, hits, sameEntry, Surveyed}
-use Rattle.sheet.specs.Sizes.{matrixPlaces}
+use Rattle.accesses.specs.Entries.{Near, filledEntry, discardedEntry, entryOf, hasByte, hits, sameEntry, Surveyed}
+use Rattle.sheet.specs.Sizes.{matrixPlaces, memoryLimit}
 
 -- The search of refusal 15
 module _ (same : ℕ → ℕ → Bool) where
@@ -113,9 +113,9 @@ module _ (same : ℕ → ℕ → Bool) where
       (λ k h. by-test (meets same k k) (λ t. let b : clashFrom same 0 m ≤ k = found-before 0 m k (omega arith) (omega arith) t in absurd (omega arith)) (λ t. rw t))) ∙ e)))
 
 -- two entries tell whether their elements have the same byte
-entries-miss : (y b : ℕ) → b < 65536 → (y ≡ b + 1 → ⊥) → hits y (b + 1) ≡ false
+entries-miss : (y b : ℕ) → b < memoryLimit → (y ≡ b + 1 → ⊥) → hits y (b + 1) ≡ false
 unfolding hits hasByte both pick
-entries-miss y b h d = rw (ne-eqb (b + 1) 0 (omega arith), lt-ltb (b + 1) 65537 (omega arith), ne-eqb y (b + 1) d)
+entries-miss y b h d = rw (ne-eqb (b + 1) 0 (omega arith), lt-ltb (b + 1) filledEntry (omega arith), ne-eqb y (b + 1) d)
 
 pub entries-same : (o p : Outcome) → Near o → Near p → hits (entryOf o) (entryOf p) ≡ sameByte o p
 unfolding hits hasByte both pick
@@ -126,16 +126,16 @@ entries-same Skipped (Placed y) n m = entries-miss 0 y m (λ e. omega arith)
 entries-same (Filled a) Skipped n m = refl
 entries-same (Filled a) (Filled b) n m = refl
 entries-same (Filled a) Discarded n m = refl
-entries-same (Filled a) (Placed y) n m = entries-miss 65537 y m (λ e. omega arith)
+entries-same (Filled a) (Placed y) n m = entries-miss filledEntry y m (λ e. omega arith)
 entries-same Discarded Skipped n m = refl
 entries-same Discarded (Filled b) n m = refl
 entries-same Discarded Discarded n m = refl
-entries-same Discarded (Placed y) n m = entries-miss 65538 y m (λ e. omega arith)
+entries-same Discarded (Placed y) n m = entries-miss discardedEntry y m (λ e. omega arith)
 entries-same (Placed x) Skipped n m = refl
 entries-same (Placed x) (Filled b) n m = refl
 entries-same (Placed x) Discarded n m = refl
 entries-same (Placed x) (Placed y) n m =
-    rw (ne-eqb (y + 1) 0 (omega arith), lt-ltb (y + 1) 65537 (omega arith))
+    rw (ne-eqb (y + 1) 0 (omega arith), lt-ltb (y + 1) filledEntry (omega arith))
     (by-test (eqb x y) (λ t. let e : x ≡ y = eqb-true x y t in rw (t, eq-eqb (x + 1) (y + 1) (omega arith)))
     (λ t. let d : x ≡ y → ⊥ = eqb-false x y t in rw (t, ne-eqb (x + 1) (y + 1) (omega arith))))
 

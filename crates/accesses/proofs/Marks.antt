@@ -16,7 +16,7 @@ use Rattle.numbers.specs.Choice.{pick, both, both-right}
 use Rattle.numbers.specs.All.{all, all-none, all-more, all-false}
 use Rattle.numbers.specs.Places.{by-test, by-place, by-order, none-all}
 use Rattle.accesses.specs.Refusals.{meets, apart}
-use Rattle.accesses.specs.Entries.{hasByte, hits, sameEntry}
+use Rattle.accesses.specs.Entries.{filledEntry, hasByte, hits, sameEntry}
 use Rattle.accesses.specs.Marks.{markWords, noMarks, wordOf, bitOf, bitAt, fresh, withMark, withoutMarks, ClearFrom}
 
 -- a bit that is set, and the others
@@ -55,9 +55,9 @@ module _ (x : ℕ) (h : hasByte x ≡ true) where
   unfolding hasByte both pick
   byte-some = let d : x ≡ 0 → ⊥ = λ e. true≢false (sym (rw e at h)) in omega arith
 
-  pub byte-most : x < 65537
+  pub byte-most : x < filledEntry
   unfolding hasByte
-  byte-most = ltb-true x 65537 (both-right (not (eqb x 0)) (ltb x 65537) h)
+  byte-most = ltb-true x filledEntry (both-right (not (eqb x 0)) (ltb x filledEntry) h)
 
   pub word-inside : wordOf x < markWords
   word-inside = div-lt-iff-lt-mul {k = 32} (omega arith) .1 (omega (arith, byte-most))

@@ -9,7 +9,7 @@ use Rattle.numbers.specs.Choice.{pick, both}
 use Rattle.outcomes.specs.declared.Outcome.{Outcome}
 use Rattle.outcomes.specs.declared.Outcome.the-variants.{Skipped, Filled, Discarded, Placed}
 use Rattle.addressing.specs.declared.Located.{Located}
-use Rattle.sheet.specs.Sizes.{matrixPlaces}
+use Rattle.sheet.specs.Sizes.{matrixPlaces, memoryLimit}
 use Rattle.accesses.specs.declared.Tally.{Tally}
 use Rattle.accesses.specs.Refusals.{firstRefused, placedCount}
 
@@ -18,24 +18,31 @@ abbrev pub Near : Outcome → Type 0
 Near Skipped = Unit {0}
 Near (Filled b) = Unit {0}
 Near Discarded = Unit {0}
-Near (Placed b) = b < 65536
+Near (Placed b) = b < memoryLimit
+
+-- the entries of a filled element and of a discarded one, past those of the bytes
+abbrev pub filledEntry : ℕ
+filledEntry = memoryLimit + 1
+
+abbrev pub discardedEntry : ℕ
+discardedEntry = memoryLimit + 2
 
 abbrev pub entryOf : Outcome → ℕ
 entryOf Skipped = 0
-entryOf (Filled b) = 65537
-entryOf Discarded = 65538
+entryOf (Filled b) = filledEntry
+entryOf Discarded = discardedEntry
 entryOf (Placed b) = b + 1
 
 -- the outcome that an entry stands for, where filled elements take these bits
 unfoldable pub entryOutcome : ℕ → ℕ → Outcome
 entryOutcome fill x =
     pick (eqb x 0) Skipped
-    (pick (ltb x 65537) (Placed (x - 1))
-    (pick (eqb x 65537) (Filled fill) Discarded))
+    (pick (ltb x filledEntry) (Placed (x - 1))
+    (pick (eqb x filledEntry) (Filled fill) Discarded))
 
 -- an entry is that of an element with a byte
 unfoldable pub hasByte : ℕ → Bool
-hasByte x = both (not (eqb x 0)) (ltb x 65537)
+hasByte x = both (not (eqb x 0)) (ltb x filledEntry)
 
 -- an entry y is the byte of an entry x
 unfoldable pub hits : ℕ → ℕ → Bool

@@ -24,12 +24,13 @@ use refusals::RANKS_DIFFER;
 use refusals::Stop;
 use refusals::UNALIGNED_BASE;
 use sheet::Layout;
+use sheet::sizes::MEMORY_LIMIT;
 use sheet::sizes::PLACES;
 
 // The entries of a filled element and of a discarded one, past those of the 65,536 bytes.
-const FILLED: u32 = 65_537;
+const FILLED: u32 = MEMORY_LIMIT as u32 + 1;
 
-const DISCARDED: u32 = 65_538;
+const DISCARDED: u32 = MEMORY_LIMIT as u32 + 2;
 
 // An access's refusal, and where it is not refused the number of elements with a byte.
 pub struct Checked {

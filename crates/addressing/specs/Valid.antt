@@ -9,7 +9,7 @@ use Rattle.addressing.specs.declared.Access.{Access}
 use Rattle.addressing.specs.declared.Plan.{Plan}
 use Rattle.addressing.specs.declared.Clamped.{Clamped}
 use Rattle.addressing.specs.declared.Clamped.the-variants.{Refused, Discarded, Filled, At}
-use Rattle.sheet.specs.Sizes.{matrixPlaces}
+use Rattle.sheet.specs.Sizes.{matrixPlaces, memoryLimit}
 use Rattle.addressing.specs.Rules.{elementsOf}
 use Rattle.addressing.specs.Plans.{planned}
 
@@ -20,7 +20,7 @@ pub record SizedAccess (a : Access) : Type 0 where
   pub some : 0 < a .size
   pub most : a .size ≤ 4
   pub odd : a .size ≡ 3 → ⊥
-  pub memory : a .memory ≤ 65536
+  pub memory : a .memory ≤ memoryLimit
   pub wide : 0 < a .columns
   pub area : elementsOf a ≤ matrixPlaces
 

@@ -7,6 +7,7 @@ use native.Mathlib.Omega.{arith}
 use borrow.Author.Tests.{le-leb, lt-leb, eq-eqb, ne-eqb}
 use lib.Dec.{eqb}
 use Rattle.numbers.specs.Choice.{pick}
+use Rattle.sheet.specs.Sizes.{memoryLimit}
 use Rattle.sheet.specs.Steps.{theStep}
 use Rattle.sheet.specs.Sheets.{emptySheet}
 use Rattle.refusals.specs.declared.Refusal.{Refusal}
@@ -16,7 +17,7 @@ use Rattle.registers.specs.Registers.{emptyRegisters}
 use Rattle.registers.specs.declared.MatrixType.{MatrixType}
 use Rattle.checking.specs.Steps.{checkedStep}
 use Rattle.refusals.specs.Refusals.{memoryTooLarge, refusalAt, notRefused}
-use Rattle.checking.specs.Checking.{memoryLimit, checkRefused, checkedFrom, checked, checkedSheet, judgedSheet}
+use Rattle.checking.specs.Checking.{checkRefused, checkedFrom, checked, checkedSheet, judgedSheet}
 use Rattle.checking.specs.Laws.Turns.{one-less}
 use Rattle.checking.specs.declared.StepCheck.{StepCheck}
 use Rattle.checking.specs.declared.CheckAnswer.{CheckAnswer}

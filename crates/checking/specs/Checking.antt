@@ -3,6 +3,7 @@ use Prim.Native.Nat.{ℕ, zero, suc, _+_}
 use mathlib.Core.List.{List}
 use lib.Dec.{eqb, leb}
 use Rattle.numbers.specs.Choice.{pick}
+use Rattle.sheet.specs.Sizes.{memoryLimit}
 use Rattle.sheet.specs.Steps.{theStep}
 use Rattle.sheet.specs.Sheets.{emptySheet}
 use Rattle.sheet.specs.declared.Sheet.{Sheet}
@@ -13,10 +14,6 @@ use Rattle.registers.specs.Registers.{emptyRegisters}
 use Rattle.registers.specs.declared.MatrixType.{MatrixType}
 use Rattle.checking.specs.Steps.{checkedStep}
 use Rattle.checking.specs.declared.CheckAnswer.{CheckAnswer}
-
--- the largest memory
-abbrev pub memoryLimit : ℕ
-memoryLimit = 65536
 
 abbrev pub checkRefused : Refusal → CheckAnswer
 checkRefused r = record { refusal = r; count = 0 }

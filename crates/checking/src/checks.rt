@@ -2,13 +2,14 @@
 ghost use mathlib.Core.Path.{_≡_};
 ghost use mathlib.Core.Bool.{true};
 ghost use Prim.Native.Nat.{ℕ, _≤_, _<_};
+ghost use Rattle.sheet.specs.Sizes.{memoryLimit};
 ghost use Rattle.sheet.specs.Steps.{windowOk, stepOk};
 ghost use Rattle.sheet.specs.Laws.Within.{TensorsWithin, Within};
 ghost use Rattle.registers.specs.Sized.{Sized, SizedType};
 ghost use Rattle.whole_steps.specs.Within.{WholeOk};
 ghost use Rattle.accesses.specs.Marks.{Scratch};
 ghost use Rattle.checking.specs.Steps.{accessOf, objectRegister, stepCheck, accessCheck, wholeCheck, stepTypes, checkedStep};
-ghost use Rattle.checking.specs.Checking.{checkRefused, checked, memoryLimit};
+ghost use Rattle.checking.specs.Checking.{checkRefused, checked};
 use super::CheckAnswer;
 use super::StepCheck;
 use super::windows;

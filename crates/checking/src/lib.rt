@@ -10,10 +10,8 @@ use refusals::Stop;
 use registers::MatrixType;
 use sheet::Sheet;
 use sheet::sheets;
+use sheet::sizes::MEMORY_LIMIT;
 use sheet::sizes::REGISTERS;
-
-// The largest memory.
-pub const MEMORY_LIMIT: usize = 65_536;
 
 // What the check of a step tells: its refusal, or the types that it leaves and how many of its elements have a byte.
 pub struct StepCheck {

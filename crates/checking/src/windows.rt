@@ -2,6 +2,7 @@
 ghost use mathlib.Core.Path.{_≡_};
 ghost use mathlib.Core.Bool.{true, false};
 ghost use Prim.Native.Nat.{_≤_};
+ghost use Rattle.sheet.specs.Sizes.{memoryLimit};
 ghost use Rattle.sheet.specs.Steps.{viewingOk, windowOk};
 ghost use Rattle.sheet.specs.Laws.Within.{TensorsWithin};
 ghost use Rattle.registers.specs.Types.{isEmpty};
@@ -9,7 +10,6 @@ ghost use Rattle.registers.specs.Sized.{SizedType};
 ghost use Rattle.addressing.specs.Plans.{planned};
 ghost use Rattle.addressing.specs.Valid.{SizedAccess, Planned};
 ghost use Rattle.checking.specs.Steps.{isViewed, viewNamed, accessOf};
-ghost use Rattle.checking.specs.Checking.{memoryLimit};
 ghost use Rattle.checking.specs.Clear.{Clear};
 use addressing::Access;
 use addressing::Plan;

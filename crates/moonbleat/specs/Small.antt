@@ -22,7 +22,7 @@ use Rattle.sheet_reader.specs.declared.ReadAnswer.{ReadAnswer}
 use Rattle.sheet_writer.specs.Bytes.{sheetBytes}
 use Rattle.sheet_writer.specs.Writing.{written}
 use Rattle.sheet_writer.specs.declared.WriteAnswer.{WriteAnswer}
-use Rattle.sheet.specs.Sizes.{matrixPlaces, recordPlaces}
+use Rattle.sheet.specs.Sizes.{matrixPlaces, recordPlaces, memoryLimit}
 use Rattle.sheet.specs.Laws.Within.{Within, within, within-places}
 use Rattle.round_trip.specs.Laws.Sheets.{sheet-short}
 use Rattle.round_trip.specs.Laws.Growing.{reading}
@@ -42,7 +42,7 @@ use Rattle.refusals.specs.declared.Stop.{Stop}
 use Rattle.whole_steps.specs.Laws.Within.{refusal-element}
 use Rattle.checking.specs.Steps.{accessOf, objectRegister, accessCheck, checkedStep}
 use Rattle.carrying.specs.Steps.{Machine}
-use Rattle.checking.specs.Checking.{memoryLimit, checkedFrom, checked, checkedSheet}
+use Rattle.checking.specs.Checking.{checkedFrom, checked, checkedSheet}
 use Rattle.carrying.specs.Carrying.{performed, started, carried}
 use Rattle.checking.specs.Laws.Steps.{check-sized, step-placed}
 use Rattle.checking.specs.Laws.Turns.{within-step}

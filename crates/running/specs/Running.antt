@@ -5,6 +5,7 @@ use lib.IntN.{ℤ}
 use lib.ListN.{length}
 use lib.Dec.{leb, eqb}
 use Rattle.numbers.specs.Choice.{pick}
+use Rattle.sheet.specs.Sizes.{memoryLimit}
 use Rattle.sheet.specs.declared.Tensors.{Tensors}
 use Rattle.sheet.specs.declared.Sheet.{Sheet}
 use Rattle.sheet.specs.declared.Step.{Step}
@@ -12,7 +13,6 @@ use Rattle.refusals.specs.declared.Refusal.{Refusal}
 use Rattle.sheet_reader.specs.Reading.{readSheet}
 use Rattle.registers.specs.Registers.{emptyRegisters}
 use Rattle.refusals.specs.Refusals.{memoryTooLarge, refusalAt, notRefused}
-use Rattle.checking.specs.Checking.{memoryLimit}
 use Rattle.carrying.specs.Steps.{Machine}
 use Rattle.carrying.specs.Carrying.{started, carryAnswer}
 use Rattle.carrying.specs.declared.CarryAnswer.{CarryAnswer}

@@ -10,6 +10,7 @@ use lib.IntN.{ℤ}
 use lib.ListN.{length, getD}
 use Rattle.numbers.specs.Choice.{pick-case}
 use Rattle.kinds.specs.Widths.{bytesOf}
+use Rattle.sheet.specs.Sizes.{memoryLimit}
 use Rattle.sheet.specs.declared.Sheet.{Sheet}
 use Rattle.refusals.specs.declared.Refusal.{Refusal}
 use Rattle.memory.specs.Laws.Elements.{with-outside}
@@ -24,7 +25,6 @@ use Rattle.records.specs.declared.Decoded.{Decoded}
 use Rattle.records.specs.declared.Decoded.the-variants.{Good, Bad}
 use Rattle.judging.specs.Records.{byteAt}
 use Rattle.sheet_reader.specs.Reading.{readSheet}
-use Rattle.checking.specs.Checking.{memoryLimit}
 use Rattle.judging.specs.Judging.{tapeRecord, decodedOk, decodedTypes, rangeFrom, rangeRefusal}
 use Rattle.judging.specs.Laws.Turns.{tape-clear}
 use Rattle.judging.specs.Laws.Records.{whole-named}

@@ -31,6 +31,7 @@ use registers::Registers;
 use sheet::Sheet;
 use sheet::Step;
 use sheet::sizes::ELEMENTS;
+use sheet::sizes::MEMORY_LIMIT;
 use sheet::sizes::REGISTERS;
 
 // A whole step. The answer is the types.
@@ -205,7 +206,7 @@ pub fn run_tape(sheet: &[u8], tape: &[i32], records: usize, memory: &mut [u8]) -
     ensures { λ r. ⌜ r ≡ runTape (now (sheet .entry)) (now (tape .entry)) records (now (memory .entry)) ⌝ }
     ensures { λ _. ⌜ now (memory .exit) ≡ ranMemory (now (sheet .entry)) (now (tape .entry)) records (now (memory .entry)) ⌝ }
 {
-    if checking::MEMORY_LIMIT < memory.len() {
+    if MEMORY_LIMIT < memory.len() {
         return carrying::carry_refused(refusals::refusal_at(MEMORY_TOO_LARGE, 0, 0));
     }
     let read = sheet_reader::read_sheet(sheet);

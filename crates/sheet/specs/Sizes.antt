@@ -37,6 +37,10 @@ stepPlaces = 32
 abbrev pub recordPlaces : ℕ
 recordPlaces = 1024
 
+-- the largest memory
+abbrev pub memoryLimit : ℕ
+memoryLimit = 65536
+
 -- a layout or a view has 1 to 5 dimensions
 abbrev pub rankOk : ℕ → Bool
 rankOk rank = between 1 rankPlaces rank
@@ -49,9 +53,13 @@ sizeLimit = 4096
 abbrev pub sizeOk : ℕ → Bool
 sizeOk x = between 1 sizeLimit x
 
+-- the 16 bits of the lowest offset, -4,096
+abbrev pub lowestOffset : ℕ
+lowestOffset = 61440
+
 -- the 16 bits of an offset from -4,096 to 4,095
 unfoldable pub offsetOk : ℕ → Bool
-offsetOk x = pick (ltb x 4096) true (leb 61440 x)
+offsetOk x = pick (ltb x sizeLimit) true (leb lowestOffset x)
 
 abbrev pub registerOk : ℕ → Bool
 registerOk register = ltb register registerCount

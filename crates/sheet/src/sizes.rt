@@ -27,6 +27,9 @@ pub const STEPS: usize = 32;
 // The most records of a tape, whatever its edition.
 pub const RECORDS: usize = 1024;
 
+// The largest memory.
+pub const MEMORY_LIMIT: usize = 65_536;
+
 // The largest block size, dimension and span.
 const SIZE: u16 = 4096;
 

@@ -15,7 +15,7 @@ use Rattle.numbers.specs.Lists.{puts-after}
 use Rattle.outcomes.specs.declared.Outcome.{Outcome}
 use Rattle.outcomes.specs.declared.Outcome.the-variants.{Skipped, Filled, Discarded, Placed}
 use Rattle.refusals.specs.Refusals.{tapeTooLong, refusalAt, notRefused}
-use Rattle.sheet.specs.Sizes.{matrixPlaces}
+use Rattle.sheet.specs.Sizes.{matrixPlaces, memoryLimit}
 use Rattle.sheet.specs.Steps.{theStep}
 use Rattle.sheet.specs.Laws.Within.{Within}
 use Rattle.sheet.specs.declared.Object.{Object}
@@ -37,13 +37,13 @@ use Rattle.addressing.specs.Plans.{planned}
 use Rattle.addressing.specs.Valid.{Planned}
 use Rattle.addressing.specs.declared.Access.{Access}
 use Rattle.addressing.specs.declared.Plan.{Plan}
-use Rattle.accesses.specs.Entries.{entryOutcome, Surveyed}
+use Rattle.accesses.specs.Entries.{filledEntry, entryOutcome, Surveyed}
 use Rattle.accesses.specs.Laws.Surveys.{surveyed-outcome}
 use Rattle.accesses.specs.Refusals.{elementOutcome, accessRefusal}
 use Rattle.accesses.specs.declared.Tally.{Tally}
 use Rattle.transfers.specs.Transfers.{outcomeOf}
 use Rattle.checking.specs.Steps.{accessOf, objectRegister, checkedStep, stepTypes}
-use Rattle.checking.specs.Checking.{memoryLimit, checkedFrom, checked, checkedSheet}
+use Rattle.checking.specs.Checking.{checkedFrom, checked, checkedSheet}
 use Rattle.checking.specs.Laws.Accesses.{access-clear}
 use Rattle.checking.specs.Laws.Names.{load-window, store-window}
 use Rattle.checking.specs.Laws.Steps.{check-types, check-sized}
@@ -68,8 +68,8 @@ pub entry-near : (fill : ℕ) → fill < 2 ^ 32 → (x : ℕ) → Near (entryOut
 unfolding entryOutcome
 entry-near fill h x =
     pick-case Near (eqb x 0) Skipped _ (λ e. tt)
-    (λ e. pick-case Near (ltb x 65537) (Placed (x - 1)) _ (λ l. omega (arith, ltb-true x 65537 l, eqb-false x 0 e))
-    (λ l. pick-case Near (eqb x 65537) (Filled fill) Discarded (λ f. h) (λ f. tt)))
+    (λ e. pick-case Near (ltb x filledEntry) (Placed (x - 1)) _ (λ l. omega (arith, ltb-true x filledEntry l, eqb-false x 0 e))
+    (λ l. pick-case Near (eqb x filledEntry) (Filled fill) Discarded (λ f. h) (λ f. tt)))
 
 -- the runs of a survey are those of its access
 module _ (a : Access) {p : Plan} (so : p ≡ planned a) (ok : Planned p) {r : Tally} {entries : List ℕ} (v : Surveyed (elementOutcome (p .access)) (elementsOf (p .access)) r entries) (h : accessRefusal a .number ≡ 0) where

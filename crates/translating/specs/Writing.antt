@@ -8,6 +8,7 @@ use lib.IntN.{ℤ}
 use lib.ListN.{length, getD}
 use lib.Seq.{sets}
 use Rattle.outcomes.specs.declared.Outcome.{Outcome}
+use Rattle.sheet.specs.Sizes.{memoryLimit}
 use Rattle.sheet.specs.Steps.{windowOk, stepOk}
 use Rattle.sheet.specs.Laws.Within.{TensorsWithin}
 use Rattle.sheet.specs.declared.Window.{Window}
@@ -17,7 +18,6 @@ use Rattle.registers.specs.Sized.{SizedType, Sized}
 use Rattle.registers.specs.declared.MatrixType.{MatrixType}
 use Rattle.accesses.specs.Entries.{entryOutcome}
 use Rattle.checking.specs.Steps.{accessOf, checkedStep}
-use Rattle.checking.specs.Checking.{memoryLimit}
 use Rattle.checking.specs.Clear.{Clear}
 use Rattle.records.specs.Records.{recordLength, tapeNumbers}
 use Rattle.records.specs.declared.Record.{Record}

@@ -1,6 +1,7 @@
 use Prim.Native.Nat.{_<_}
 use native.Mathlib.Omega.{arith}
 use borrow.Author.Needs.{needs}
+use Rattle.sheet.specs.Sizes.{memoryLimit}
 use Rattle.accesses.proofs.entry.Statement.{statement}
 use Rattle.accesses.proofs.entry.Tie as tie
 
@@ -18,12 +19,12 @@ enum-known-o c = search needs
 
 cast-result : tie.Need-cast-result
 cast-result c = let o = c .before .o in
-    let h : o .given .0 .0 < 65536 = rw (o .given .1) at (c .before .before .before .pre) in
+    let h : o .given .0 .0 < memoryLimit = rw (o .given .1) at (c .before .before .before .pre) in
     omega arith
 
 add-result : tie.Need-add-result
 add-result c = let o = c .before .o in
-    let h : o .given .0 .0 < 65536 = rw (o .given .1) at (c .before .before .before .pre) in
+    let h : o .given .0 .0 < memoryLimit = rw (o .given .1) at (c .before .before .before .pre) in
     omega arith
 
 returns : tie.Need-returns

@@ -18,7 +18,7 @@ use Rattle.addressing.specs.Sound.{Sound}
 use Rattle.refusals.specs.declared.Stop.{Stop}
 use Rattle.accesses.specs.declared.Tally.{Tally}
 use Rattle.accesses.specs.Refusals.{elementOutcome, firstRefused, accessRefusal}
-use Rattle.accesses.specs.Entries.{Near, entryOf, entryOutcome, Surveyed}
+use Rattle.accesses.specs.Entries.{Near, filledEntry, entryOf, entryOutcome, Surveyed}
 use Rattle.accesses.specs.Laws.Accepted.{element-sound, element-accepted}
 
 sound-near : (a : Access) → SizedAccess a → (o : Outcome) → Sound a o → Near o
@@ -39,7 +39,7 @@ sound-entry a ok (Filled b) h = ap Filled (sym (h .1))
 sound-entry a ok Discarded h = refl
 sound-entry a ok (Placed b) h =
     let e : b + 1 - 1 ≡ b = omega arith in
-    rw (ne-eqb (b + 1) 0 (omega arith), lt-ltb (b + 1) 65537 (omega (arith, h .0, ok .some, ok .memory)), e)
+    rw (ne-eqb (b + 1) 0 (omega arith), lt-ltb (b + 1) filledEntry (omega (arith, h .0, ok .some, ok .memory)), e)
 
 -- of elements of which none is refused the first refused is none
 none-first : (f : ℕ → Located) (i m : ℕ) → ((k : ℕ) → k < i + m → f k .refusal ≡ 0) → firstRefused f i m .number ≡ 0

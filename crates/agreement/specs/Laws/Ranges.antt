@@ -9,7 +9,7 @@ use Rattle.kinds.specs.Widths.{width, fits}
 use Rattle.kinds.specs.Laws.{width-case, bytes-low}
 use Rattle.outcomes.specs.declared.Outcome.{Outcome}
 use Rattle.outcomes.specs.declared.Outcome.the-variants.{Skipped, Filled, Discarded, Placed}
-use Rattle.sheet.specs.Sizes.{registerCount, stepPlaces}
+use Rattle.sheet.specs.Sizes.{registerCount, stepPlaces, memoryLimit}
 use Rattle.sheet.specs.Steps.{theStep, objectOk, stepOk}
 use Rattle.sheet.specs.declared.Object.{Object}
 use Rattle.sheet.specs.declared.Object.the-variants.{Kept, Register}
@@ -26,7 +26,6 @@ use Rattle.registers.specs.declared.MatrixType.{MatrixType}
 use Rattle.addressing.specs.Rules.{elementsOf}
 use Rattle.transfers.specs.Transfers.{outcomeOf}
 use Rattle.checking.specs.Steps.{accessOf, objectRegister}
-use Rattle.checking.specs.Checking.{memoryLimit}
 use Rattle.checking.specs.Laws.Names.{load-register, load-object-ok, store-register}
 use Rattle.checking.specs.Laws.Steps.{check-sized}
 use Rattle.checking.specs.Laws.Turns.{within-step}

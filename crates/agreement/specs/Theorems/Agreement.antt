@@ -10,10 +10,11 @@ use borrow.Author.Tests.{le-leb}
 use lib.IntN.{ℤ}
 use lib.ListN.{length, getD, length-append}
 use Rattle.numbers.specs.Choice.{both-true, taken}
+use Rattle.sheet.specs.Sizes.{memoryLimit}
 use Rattle.sheet.specs.declared.Sheet.{Sheet}
 use Rattle.sheet.specs.Editions.{limits}
 use Rattle.sheet.specs.Laws.Within.{Within}
-use Rattle.checking.specs.Checking.{memoryLimit, checked}
+use Rattle.checking.specs.Checking.{checked}
 use Rattle.carrying.specs.Carrying.{performed, started}
 use Rattle.carrying.specs.Laws.Types.{started-formed}
 use Rattle.records.specs.declared.Record.the-variants.{Whole}

@@ -9,11 +9,11 @@ use lib.IntN.{ℤ}
 use lib.ListN.{length, drop}
 use lib.Seq.{sets-eq}
 use Rattle.numbers.specs.Choice.{pick, both-left}
+use Rattle.sheet.specs.Sizes.{memoryLimit}
 use Rattle.sheet.specs.declared.Sheet.{Sheet}
 use Rattle.sheet.specs.Editions.{limits}
 use Rattle.sheet_reader.specs.Reading.{readSheet}
 use Rattle.refusals.specs.Refusals.{notRefused}
-use Rattle.checking.specs.Checking.{memoryLimit}
 use Rattle.checking.specs.Laws.Readable.{Readable, sheet-readable}
 use Rattle.carrying.specs.Steps.{Machine}
 use Rattle.carrying.specs.Carrying.{carryAnswer, carried, carriedMemory}

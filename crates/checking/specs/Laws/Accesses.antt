@@ -11,6 +11,7 @@ use Rattle.numbers.specs.Choice.{pick, pick-case}
 use Rattle.kinds.specs.Widths.{bytesOf}
 use Rattle.kinds.specs.Laws.{bytes-size, bytes-low, bytes-high}
 use Rattle.refusals.specs.Refusals.{emptyRegister}
+use Rattle.sheet.specs.Sizes.{memoryLimit}
 use Rattle.sheet.specs.Steps.{viewingOk, windowOk}
 use Rattle.sheet.specs.Layouts.{theLayout}
 use Rattle.sheet.specs.Views.{viewOk}
@@ -28,7 +29,6 @@ use Rattle.addressing.specs.Valid.{SizedAccess}
 use Rattle.addressing.specs.declared.Access.{Access}
 use Rattle.accesses.specs.Refusals.{checked, checkedAccess}
 use Rattle.checking.specs.Steps.{isViewed, viewNamed, accessOf, stepCheck, movedCheck, accessCheck}
-use Rattle.checking.specs.Checking.{memoryLimit}
 use Rattle.checking.specs.Clear.{Clear}
 use Rattle.checking.specs.Laws.Names.{window-layout, window-view}
 use Rattle.checking.specs.declared.StepCheck.{StepCheck}

@@ -8,9 +8,10 @@ use lib.Dec.{eqb, leb}
 use Rattle.numbers.specs.Choice.{pick, pick-case}
 use Rattle.sheet.specs.declared.Sheet.{Sheet}
 use Rattle.sheet_reader.specs.Reading.{readSheet}
+use Rattle.sheet.specs.Sizes.{memoryLimit}
 use Rattle.sheet.specs.Laws.Within.{Within}
 use Rattle.sheet_reader.specs.Laws.Growing.{read-within}
-use Rattle.checking.specs.Checking.{memoryLimit, checked, checkedSheet, judgedSheet}
+use Rattle.checking.specs.Checking.{checked, checkedSheet, judgedSheet}
 use Rattle.checking.specs.declared.CheckAnswer.{CheckAnswer}
 
 pub record Readable (s : List ℕ) (len : ℕ) : Type 0 where

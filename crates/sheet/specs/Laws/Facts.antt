@@ -8,7 +8,7 @@ use borrow.Author.Tests.{lt-ltb, ltb-true, eqb-false, not-true}
 use native.Mathlib.Omega.{arith}
 use Rattle.numbers.specs.Choice.{pick, both, both-left, both-right, between-low, between-high}
 use Rattle.numbers.specs.All.{all-at}
-use Rattle.sheet.specs.Sizes.{rankOk, sizeOk, offsetOk}
+use Rattle.sheet.specs.Sizes.{rankPlaces, rankOk, sizeLimit, sizeOk, offsetOk}
 use Rattle.sheet.specs.Layouts.{theDimension, dimensionOk, dimensionAtOk, dimensionsOk, layoutOk}
 use Rattle.sheet.specs.Views.{theViewDimension, fresh, entryOk, permutationOk, viewDimensionAtOk, viewDimensionsOk, sizedRank, viewOk}
 use Rattle.sheet.specs.declared.Dimension.{Dimension}
@@ -18,10 +18,10 @@ use Rattle.sheet.specs.declared.View.{View}
 -- a number from 1 to 4,096
 pub record InSize (x : ℕ) : Type 0 where
   pub some : 0 < x
-  pub most : x ≤ 4096
+  pub most : x ≤ sizeLimit
 
 in-size : (x : ℕ) → sizeOk x ≡ true → InSize x
-in-size x e = record { some = between-low 1 4096 x e; most = between-high 1 4096 x e }
+in-size x e = record { some = between-low 1 sizeLimit x e; most = between-high 1 sizeLimit x e }
 
 taken-way : {A : Type 0} {b : Bool} (x y : A) → b ≡ true → pick b x y ≡ x
 unfolding pick
@@ -31,11 +31,11 @@ taken-way x y e = rw e
 module _ (l : Layout) (ok : layoutOk l ≡ true) where
   pub layout-some : 0 < l .rank
   unfolding layoutOk
-  layout-some = between-low 1 5 (l .rank) (both-left (rankOk (l .rank)) (dimensionsOk (l .rank) (l .dimensions)) ok)
+  layout-some = between-low 1 rankPlaces (l .rank) (both-left (rankOk (l .rank)) (dimensionsOk (l .rank) (l .dimensions)) ok)
 
-  pub layout-most : l .rank ≤ 5
+  pub layout-most : l .rank ≤ rankPlaces
   unfolding layoutOk
-  layout-most = between-high 1 5 (l .rank) (both-left (rankOk (l .rank)) (dimensionsOk (l .rank) (l .dimensions)) ok)
+  layout-most = between-high 1 rankPlaces (l .rank) (both-left (rankOk (l .rank)) (dimensionsOk (l .rank) (l .dimensions)) ok)
 
   module _ (i : ℕ) (h : i < l .rank) where
     abbrev the : Dimension
@@ -45,7 +45,7 @@ module _ (l : Layout) (ok : layoutOk l ≡ true) where
     unfolding layoutOk dimensionAtOk
     layout-dimension =
         sym (taken-way _ _ (lt-ltb i (l .rank) h))
-        ∙ all-at 5 (dimensionAtOk (l .rank) (l .dimensions)) (both-right (rankOk (l .rank)) (dimensionsOk (l .rank) (l .dimensions)) ok) i
+        ∙ all-at rankPlaces (dimensionAtOk (l .rank) (l .dimensions)) (both-right (rankOk (l .rank)) (dimensionsOk (l .rank) (l .dimensions)) ok) i
         (omega (arith, layout-most))
 
     pub layout-block : InSize (theDimension (l .dimensions) i .block)
@@ -74,11 +74,11 @@ module _ (v : View) (ok : viewOk v ≡ true) where
 
   pub view-some : 0 < v .rank
   unfolding viewOk
-  view-some = between-low 1 5 (v .rank) (both-left (rankOk (v .rank)) (both (permutationOk (v .rank) (v .permutation)) sizedOk) ok)
+  view-some = between-low 1 rankPlaces (v .rank) (both-left (rankOk (v .rank)) (both (permutationOk (v .rank) (v .permutation)) sizedOk) ok)
 
-  pub view-most : v .rank ≤ 5
+  pub view-most : v .rank ≤ rankPlaces
   unfolding viewOk
-  view-most = between-high 1 5 (v .rank) (both-left (rankOk (v .rank)) (both (permutationOk (v .rank) (v .permutation)) sizedOk) ok)
+  view-most = between-high 1 rankPlaces (v .rank) (both-left (rankOk (v .rank)) (both (permutationOk (v .rank) (v .permutation)) sizedOk) ok)
 
   past-rank : both (permutationOk (v .rank) (v .permutation)) sizedOk ≡ true
   unfolding viewOk
@@ -89,7 +89,7 @@ module _ (v : View) (ok : viewOk v ≡ true) where
     unfolding entryOk
     entry-given =
         sym (taken-way _ _ (lt-ltb k (v .rank) h))
-        ∙ all-at 5 (entryOk (v .rank) (v .permutation)) (both-left (permutationOk (v .rank) (v .permutation)) sizedOk past-rank) k
+        ∙ all-at rankPlaces (entryOk (v .rank) (v .permutation)) (both-left (permutationOk (v .rank) (v .permutation)) sizedOk past-rank) k
         (omega (arith, view-most))
 
     pub view-entry : getD (v .permutation) k 0 < v .rank
@@ -110,5 +110,5 @@ module _ (v : View) (ok : viewOk v ≡ true) where
     view-size e =
         in-size (theViewDimension (v .dimensions) k .size)
         (sym (taken-way _ _ (lt-ltb k (sizedRank (v .sized) (v .rank)) (rw (taken-way (v .rank) 0 e) h)))
-        ∙ all-at 5 (viewDimensionAtOk (sizedRank (v .sized) (v .rank)) (v .dimensions))
+        ∙ all-at rankPlaces (viewDimensionAtOk (sizedRank (v .sized) (v .rank)) (v .dimensions))
         (both-right (permutationOk (v .rank) (v .permutation)) sizedOk past-rank) k (omega (arith, view-most)))
