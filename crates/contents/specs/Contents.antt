@@ -9,7 +9,7 @@ use Rattle.numbers.specs.Little.{u16At, u32At}
 use Rattle.numbers.specs.Lists.{line}
 use Rattle.sheet.specs.Sizes.{rankPlaces, rankOk}
 use Rattle.sheet.specs.Editions.{fillLength}
-use Rattle.sheet.specs.Codes.{fillTag, loadTag, storeTag, reduceTag, transposeTag, clampMode, reduceMode, combineOf, objectOf, viewingOf}
+use Rattle.sheet.specs.Codes.{fillTag, loadTag, storeTag, reduceTag, transposeTag, multiplyTag, clampMode, reduceMode, combineOf, memoryLayout, objectOf, viewingOf}
 use Rattle.sheet.specs.Layouts.{noDimension}
 use Rattle.sheet.specs.Views.{noViewDimension, sizedRank}
 use Rattle.sheet.specs.declared.Dimension.{Dimension}
@@ -20,7 +20,8 @@ use Rattle.sheet.specs.declared.View.{View}
 use Rattle.sheet.specs.declared.Window.{Window}
 use Rattle.sheet.specs.declared.Step.{Step}
 use Rattle.sheet.specs.declared.Step.the-variants.{Nothing, Load, Store, Whole}
-use Rattle.sheet.specs.declared.WholeStep.the-variants.{Fill, Reduce, Transpose, MultiplyAdd}
+use Rattle.sheet.specs.declared.WholeStep.the-variants.{Fill, Reduce, Transpose, MultiplyAdd, Vector}
+use Rattle.sheet.specs.declared.VectorStep.{VectorStep}
 
 -- 0x10: dimension count, clamp mode, clamp value; per dimension block size, dimension, stride, offset and span
 unfoldable pub dimensionAt : List ℕ → ℕ → Dimension
@@ -96,7 +97,7 @@ viewHeadOk s p len =
     (both (leb (getD s (p + 1) 0) 1)
     (eqb (viewLength (getD s p 0) (sizedRank (hasDimensions s p) (getD s p 0))) len))
 
--- 0x20 to 0x25: the steps
+-- 0x20 to 0x26: the steps
 unfoldable pub fillAt : List ℕ → ℕ → Step
 fillAt s p = Whole (Fill (getD s p 0) (getD s (p + 1) 0) (getD s (p + 2) 0) (getD s (p + 3) 0) (u32At s (p + 4)))
 
@@ -125,6 +126,33 @@ transposeAt s p = Whole (Transpose (getD s p 0) (getD s (p + 1) 0))
 unfoldable pub multiplyAt : List ℕ → ℕ → Step
 multiplyAt s p = Whole (MultiplyAdd (getD s p 0) (getD s (p + 1) 0) (getD s (p + 2) 0) (getD s (p + 3) 0))
 
+-- the numbers of a vector step
+unfoldable pub vectorNumbers : List ℕ → ℕ → VectorStep
+vectorNumbers s p =
+    record {
+      result = getD s p 0;
+      kind = getD s (p + 1) 0;
+      input = getD s (p + 2) 0;
+      interpretation = getD s (p + 3) 0;
+      matrix = getD s (p + 4) 0;
+      rows = getD s (p + 5) 0;
+      columns = getD s (p + 6) 0;
+      layout = memoryLayout (getD s (p + 7) 0);
+      stride = u16At s (p + 8);
+      offset = u32At s (p + 10);
+      biased = eqb (getD s (p + 14) 0) 1;
+      bias = u32At s (p + 15);
+    }
+
+-- a vector step whose memory layout is not in the table, or whose bias is neither 0 nor 1, is no step
+unfoldable pub vectorAt : List ℕ → ℕ → Step
+vectorAt s p =
+    pick (leb (getD s (p + 7) 0) 1)
+    (pick (leb (getD s (p + 14) 0) 1)
+    (Whole (Vector (vectorNumbers s p)))
+    Nothing)
+    Nothing
+
 unfoldable pub stepAt : List ℕ → ℕ → ℕ → Step
 stepAt s tag p =
     pick (eqb tag fillTag) (fillAt s p)
@@ -132,7 +160,8 @@ stepAt s tag p =
     (pick (eqb tag storeTag) (storeAt s p)
     (pick (eqb tag reduceTag) (reduceAt s p)
     (pick (eqb tag transposeTag) (transposeAt s p)
-    (multiplyAt s p)))))
+    (pick (eqb tag multiplyTag) (multiplyAt s p)
+    (vectorAt s p))))))
 
 unfoldable pub stepLength : ℕ → ℕ → ℕ
 stepLength edition tag =
@@ -141,4 +170,5 @@ stepLength edition tag =
     (pick (eqb tag storeTag) 7
     (pick (eqb tag reduceTag) 6
     (pick (eqb tag transposeTag) 2
-    4))))
+    (pick (eqb tag multiplyTag) 4
+    19)))))

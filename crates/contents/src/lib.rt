@@ -4,7 +4,7 @@ ghost use mathlib.Core.Bool.{true};
 ghost use Prim.Native.Nat.{_+_, _*_, _≤_, _<_};
 ghost use lib.ListN.{length, getD};
 ghost use Rattle.sheet.specs.Sizes.{rankPlaces};
-ghost use Rattle.contents.specs.Contents.{dimensionAt, dimensionsAt, layoutAt, layoutLength, layoutLengthOk, layoutHeadOk, permutationAt, viewDimensionAt, viewDimensionsAt, clipAt, viewOf, viewAt, viewLength, viewLengthOk, viewHeadOk, fillAt, windowAt, loadAt, storeAt, reduceAt, transposeAt, multiplyAt, stepAt, stepLength};
+ghost use Rattle.contents.specs.Contents.{dimensionAt, dimensionsAt, layoutAt, layoutLength, layoutLengthOk, layoutHeadOk, permutationAt, viewDimensionAt, viewDimensionsAt, clipAt, viewOf, viewAt, viewLength, viewLengthOk, viewHeadOk, fillAt, windowAt, loadAt, storeAt, reduceAt, transposeAt, multiplyAt, vectorNumbers, vectorAt, stepAt, stepLength};
 use numbers::u16_at;
 use numbers::u32_at;
 use numbers::wide;
@@ -12,6 +12,7 @@ use sheet::Clip;
 use sheet::Dimension;
 use sheet::Layout;
 use sheet::Step;
+use sheet::VectorStep;
 use sheet::View;
 use sheet::ViewDimension;
 use sheet::WholeStep;
@@ -298,6 +299,42 @@ fn multiply_at(s: &[u8], p: usize) -> Step
     Step::Whole(whole)
 }
 
+fn vector_numbers(s: &[u8], p: usize) -> VectorStep
+    requires { ⌜ p + 19 ≤ length (now s) ⌝ }
+    ensures { λ r. ⌜ r ≡ vectorNumbers (now (s .entry)) p ⌝ }
+{
+    let layout = codes::memory_layout(s[p + 7]);
+    VectorStep {
+        result: s[p],
+        kind: s[p + 1],
+        input: s[p + 2],
+        interpretation: s[p + 3],
+        matrix: s[p + 4],
+        rows: s[p + 5],
+        columns: s[p + 6],
+        layout,
+        stride: u16_at(s, p + 8),
+        offset: u32_at(s, p + 10),
+        biased: s[p + 14] == 1,
+        bias: u32_at(s, p + 15),
+    }
+}
+
+// A vector step whose memory layout is not in the table, or whose bias is neither 0 nor 1, is no step.
+fn vector_at(s: &[u8], p: usize) -> Step
+    requires { ⌜ p + 19 ≤ length (now s) ⌝ }
+    ensures { λ r. ⌜ r ≡ vectorAt (now (s .entry)) p ⌝ }
+{
+    if 1 < s[p + 7] {
+        return Step::Nothing;
+    }
+    if 1 < s[p + 14] {
+        return Step::Nothing;
+    }
+    let whole = WholeStep::Vector(vector_numbers(s, p));
+    Step::Whole(whole)
+}
+
 // The step of a step's tag whose content starts at p and has its tag's length.
 pub fn step_at(s: &[u8], edition: u8, tag: u8, p: usize) -> Step
     requires { ⌜ p + stepLength edition tag ≤ length (now s) ⌝ }
@@ -309,7 +346,8 @@ pub fn step_at(s: &[u8], edition: u8, tag: u8, p: usize) -> Step
         codes::STORE_TAG => store_at(s, p),
         codes::REDUCE_TAG => reduce_at(s, p),
         codes::TRANSPOSE_TAG => transpose_at(s, p),
-        _ => multiply_at(s, p),
+        codes::MULTIPLY_TAG => multiply_at(s, p),
+        _ => vector_at(s, p),
     }
 }
 
@@ -322,6 +360,7 @@ pub fn step_length(edition: u8, tag: u8) -> usize
         codes::STORE_TAG => 7,
         codes::REDUCE_TAG => 6,
         codes::TRANSPOSE_TAG => 2,
-        _ => 4,
+        codes::MULTIPLY_TAG => 4,
+        _ => 19,
     }
 }

@@ -1,4 +1,5 @@
 pub mod Widths
 pub mod Values
+pub mod Interpretations
 pub mod Laws
 pub mod ModuloLaws

@@ -2,10 +2,14 @@
 use Prim.Native.Nat.{ℕ, _^_, _/_}
 use mathlib.Core.Bool.{Bool}
 use lib.Dec.{ltb, leb}
-use Rattle.numbers.specs.Choice.{pick}
+use Rattle.numbers.specs.Choice.{pick, between}
 
 abbrev pub kindOk : ℕ → Bool
 kindOk kind = leb kind 5
+
+-- the kinds of 32 bits, which sums of products are of
+abbrev pub wordKind : ℕ → Bool
+wordKind kind = between 4 5 kind
 
 -- the width of a kind in bits
 unfoldable pub width : ℕ → ℕ

@@ -1,8 +1,10 @@
 // The element kinds 0 to 5.
+pub mod interpretations;
+
 ghost use mathlib.Core.Path.{_≡_};
 ghost use Prim.Native.Nat.{_+_, _-_, _*_, _<_, _%_, _^_};
 ghost use lib.Signed.{leZ};
-ghost use Rattle.kinds.specs.Widths.{kindOk, width, bytesOf, fits};
+ghost use Rattle.kinds.specs.Widths.{kindOk, wordKind, width, bytesOf, fits};
 ghost use Rattle.kinds.specs.Values.{signed, negative, taken, value};
 ghost use Rattle.numbers.specs.Remainders.{remainder};
 
@@ -10,6 +12,13 @@ pub fn kind_ok(kind: u8) -> bool
     ensures { λ r. ⌜ r ≡ kindOk kind ⌝ }
 {
     kind <= 5
+}
+
+// The kinds of 32 bits, which sums of products are of.
+pub fn word_kind(kind: u8) -> bool
+    ensures { λ r. ⌜ r ≡ wordKind kind ⌝ }
+{
+    numbers::between(4, 5, kind as usize)
 }
 
 // The bytes of an element.

@@ -13,7 +13,7 @@ multiplyAgrees a b c =
     both (eqb (a .rows) (c .rows))
     (both (eqb (a .columns) (b .rows))
     (both (eqb (b .columns) (c .columns))
-    (between 4 5 (c .kind))))
+    (wordKind (c .kind))))
 
 -- a register read is empty, then shapes disagree, else 0
 unfoldable pub multiplyRefusal : MatrixType → MatrixType → MatrixType → ℕ

@@ -17,7 +17,7 @@ fn multiply_agrees(a: MatrixType, b: MatrixType, c: MatrixType) -> bool
     if b.columns != c.columns {
         return false;
     }
-    numbers::between(4, 5, c.kind as usize)
+    kinds::word_kind(c.kind)
 }
 
 pub fn multiply_refusal(a: MatrixType, b: MatrixType, c: MatrixType) -> u8

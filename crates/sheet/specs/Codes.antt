@@ -1,5 +1,5 @@
--- The numbers by which a sheet names its fields, a clamp mode, a reduce mode, a combine, an object and a view. A number past a table
--- stands for the last entry here; the reader tests it before.
+-- The numbers by which a sheet names its fields, a clamp mode, a reduce mode, a combine, a memory layout, a flag, an object and a view. A number
+-- past a table stands for the last entry here; the reader tests it before.
 use Prim.Native.Nat.{ℕ}
 use mathlib.Core.Bool.{Bool, true, false}
 use lib.Dec.{eqb}
@@ -14,6 +14,8 @@ use Rattle.sheet.specs.declared.ReduceMode.{ReduceMode}
 use Rattle.sheet.specs.declared.ReduceMode.the-variants.{Row, Column, Both, TwoByTwo}
 use Rattle.sheet.specs.declared.Combine.{Combine}
 use Rattle.sheet.specs.declared.Combine.the-variants.{Add, Min, Max, And, Or, Xor}
+use Rattle.sheet.specs.declared.MemoryLayout.{MemoryLayout}
+use Rattle.sheet.specs.declared.MemoryLayout.the-variants.{RowMajor, ColumnMajor}
 
 -- the tags of fields
 abbrev pub editionTag : ℕ
@@ -42,6 +44,13 @@ transposeTag = 0x24
 
 abbrev pub multiplyTag : ℕ
 multiplyTag = 0x25
+
+abbrev pub vectorTag : ℕ
+vectorTag = 0x26
+
+-- the tags of steps are those from fill's to this one
+abbrev pub lastStepTag : ℕ
+lastStepTag = vectorTag
 
 abbrev pub undefined : ClampMode → Bool
 undefined Undefined = true
@@ -94,6 +103,16 @@ combineOf code =
     (pick (eqb code 3) And
     (pick (eqb code 4) Or
     Xor))))
+
+abbrev pub memoryLayoutCode : MemoryLayout → ℕ
+memoryLayoutCode RowMajor = 0
+memoryLayoutCode ColumnMajor = 1
+
+unfoldable pub memoryLayout : ℕ → MemoryLayout
+memoryLayout code = pick (eqb code 0) RowMajor ColumnMajor
+
+unfoldable pub flagCode : Bool → ℕ
+flagCode flag = pick flag 1 0
 
 -- no object, no view
 abbrev pub none : ℕ

@@ -1,12 +1,28 @@
 -- Everything that depends on a sheet's edition.
 use Prim.Native.Nat.{ℕ}
-use mathlib.Core.Bool.{Bool}
-use lib.Dec.{eqb}
-use Rattle.numbers.specs.Choice.{between}
+use mathlib.Core.Bool.{Bool, true}
+use lib.Dec.{leb, eqb}
+use Rattle.numbers.specs.Choice.{pick, between}
+use Rattle.sheet.specs.Codes.{vectorTag}
 use Rattle.sheet.specs.declared.editions.SizeLimits.{SizeLimits}
 
+-- editions are 1 to the newest
+abbrev pub newestEdition : ℕ
+newestEdition = 2
+
 abbrev pub editionOk : ℕ → Bool
-editionOk edition = eqb edition 1
+editionOk edition = between 1 newestEdition edition
+
+-- the edition that brought the vector step
+abbrev pub vectorEdition : ℕ
+vectorEdition = 2
+
+abbrev pub hasVectors : ℕ → Bool
+hasVectors edition = leb vectorEdition edition
+
+-- a step's tag of a later edition is not known in an older one; before any edition each is, so that the order decides
+unfoldable pub tagKnown : ℕ → ℕ → Bool
+tagKnown edition tag = pick (eqb edition 0) true (pick (eqb tag vectorTag) (hasVectors edition) true)
 
 -- the most rows and columns of a matrix, steps of a sheet, and records of a tape
 unfoldable pub limits : ℕ → SizeLimits

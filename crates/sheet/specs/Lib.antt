@@ -1,6 +1,6 @@
 pub mod Sizes
-pub mod Editions
 pub mod Codes
+pub mod Editions
 pub mod Layouts
 pub mod Views
 pub mod Steps

@@ -3,11 +3,12 @@ use Prim.Native.Nat.{ℕ}
 use mathlib.Core.List.{List}
 use lib.ListN.{getD}
 use mathlib.Core.Bool.{Bool, true, false}
-use lib.Dec.{ltb}
-use Rattle.numbers.specs.Choice.{both}
-use Rattle.kinds.specs.Widths.{kindOk, fits}
+use lib.Dec.{ltb, eqb}
+use Rattle.numbers.specs.Choice.{pick, both}
+use Rattle.kinds.specs.Widths.{kindOk, wordKind, fits}
+use Rattle.kinds.specs.Interpretations.{interpretationOk}
 use Rattle.sheet.specs.Sizes.{registerOk}
-use Rattle.sheet.specs.Editions.{sideOk}
+use Rattle.sheet.specs.Editions.{hasVectors, sideOk}
 use Rattle.sheet.specs.declared.Object.{Object}
 use Rattle.sheet.specs.declared.Object.the-variants.{Kept, Register}
 use Rattle.sheet.specs.declared.Viewing.{Viewing}
@@ -16,7 +17,8 @@ use Rattle.sheet.specs.declared.Window.{Window}
 use Rattle.sheet.specs.declared.Step.{Step}
 use Rattle.sheet.specs.declared.Step.the-variants.{Nothing, Load, Store, Whole}
 use Rattle.sheet.specs.declared.WholeStep.{WholeStep}
-use Rattle.sheet.specs.declared.WholeStep.the-variants.{Fill, Reduce, Transpose, MultiplyAdd}
+use Rattle.sheet.specs.declared.WholeStep.the-variants.{Fill, Reduce, Transpose, MultiplyAdd, Vector}
+use Rattle.sheet.specs.declared.VectorStep.{VectorStep}
 use Rattle.sheet.specs.declared.Cell.{Cell}
 
 -- the place of a step that is not given
@@ -64,11 +66,28 @@ transposeOk result source = both (registerOk result) (registerOk source)
 unfoldable pub multiplyOk : ℕ → ℕ → ℕ → ℕ → Bool
 multiplyOk result a b c = both (registerOk result) (both (registerOk a) (both (registerOk b) (registerOk c)))
 
+-- without a bias there is no bias offset
+unfoldable pub biasOk : VectorStep → Bool
+biasOk v = pick (v .biased) true (eqb (v .bias) 0)
+
+unfoldable pub vectorOk : ℕ → VectorStep → Bool
+vectorOk edition v =
+    both (hasVectors edition)
+    (both (registerOk (v .result))
+    (both (wordKind (v .kind))
+    (both (registerOk (v .input))
+    (both (interpretationOk (v .interpretation))
+    (both (kindOk (v .matrix))
+    (both (sideOk edition (v .rows))
+    (both (sideOk edition (v .columns))
+    (biasOk v))))))))
+
 abbrev pub wholeOk : ℕ → WholeStep → Bool
 wholeOk edition (Fill register rows columns kind value) = fillOk edition register rows columns kind value
 wholeOk edition (Reduce result source rows columns mode combine) = reduceOk edition result source rows columns
 wholeOk edition (Transpose result source) = transposeOk result source
 wholeOk edition (MultiplyAdd result a b c) = multiplyOk result a b c
+wholeOk edition (Vector v) = vectorOk edition v
 
 abbrev pub stepOk : ℕ → ℕ → ℕ → Step → Bool
 stepOk edition layouts views Nothing = false

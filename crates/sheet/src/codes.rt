@@ -1,9 +1,10 @@
-// The numbers by which a sheet names its fields, a clamp mode, a reduce mode, a combine, an object and a view. A number past a table
-// gives the last entry.
+// The numbers by which a sheet names its fields, a clamp mode, a reduce mode, a combine, a memory layout, a flag, an object and a view. A
+// number past a table gives the last entry.
 ghost use mathlib.Core.Path.{_≡_};
-ghost use Rattle.sheet.specs.Codes.{undefined, clampCode, clampMode, reduceCode, reduceMode, combineCode, combineOf, objectCode, objectOf, viewingCode, viewingOf};
+ghost use Rattle.sheet.specs.Codes.{undefined, clampCode, clampMode, reduceCode, reduceMode, combineCode, combineOf, memoryLayoutCode, memoryLayout, flagCode, objectCode, objectOf, viewingCode, viewingOf};
 use super::ClampMode;
 use super::Combine;
+use super::MemoryLayout;
 use super::Object;
 use super::ReduceMode;
 use super::Viewing;
@@ -26,6 +27,11 @@ pub const REDUCE_TAG: u8 = 0x23;
 pub const TRANSPOSE_TAG: u8 = 0x24;
 
 pub const MULTIPLY_TAG: u8 = 0x25;
+
+pub const VECTOR_TAG: u8 = 0x26;
+
+// The tags of steps are those from fill's to this one.
+pub const LAST_STEP_TAG: u8 = VECTOR_TAG;
 
 // No object, no view.
 const NONE: u8 = 255;
@@ -112,6 +118,30 @@ pub fn combine_of(code: u8) -> Combine
         4 => Combine::Or,
         _ => Combine::Xor,
     }
+}
+
+pub fn memory_layout_code(layout: MemoryLayout) -> u8
+    ensures { λ r. ⌜ r ≡ memoryLayoutCode layout ⌝ }
+{
+    match layout {
+        MemoryLayout::RowMajor => 0,
+        MemoryLayout::ColumnMajor => 1,
+    }
+}
+
+pub fn memory_layout(code: u8) -> MemoryLayout
+    ensures { λ r. ⌜ r ≡ memoryLayout code ⌝ }
+{
+    match code {
+        0 => MemoryLayout::RowMajor,
+        _ => MemoryLayout::ColumnMajor,
+    }
+}
+
+pub fn flag_code(flag: bool) -> u8
+    ensures { λ r. ⌜ r ≡ flagCode flag ⌝ }
+{
+    if flag { 1 } else { 0 }
 }
 
 pub fn object_code(object: Object) -> u8

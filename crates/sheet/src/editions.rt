@@ -1,7 +1,14 @@
 // Everything that depends on a sheet's edition.
 ghost use mathlib.Core.Path.{_≡_};
-ghost use Rattle.sheet.specs.Editions.{editionOk, limits, sideOk, fillLength};
+ghost use Rattle.sheet.specs.Editions.{editionOk, hasVectors, tagKnown, limits, sideOk, fillLength};
+use super::codes;
 use super::sizes;
+
+// Editions are 1 to the newest.
+const NEWEST_EDITION: usize = 2;
+
+// The edition that brought the vector step.
+const VECTOR_EDITION: u8 = 2;
 
 // The sizes that move together from edition to edition: the most rows and columns of a matrix, steps of a sheet, and records of a tape.
 pub struct SizeLimits {
@@ -13,7 +20,26 @@ pub struct SizeLimits {
 pub fn edition_ok(edition: u8) -> bool
     ensures { λ r. ⌜ r ≡ editionOk edition ⌝ }
 {
-    edition == 1
+    numbers::between(1, NEWEST_EDITION, edition as usize)
+}
+
+pub fn has_vectors(edition: u8) -> bool
+    ensures { λ r. ⌜ r ≡ hasVectors edition ⌝ }
+{
+    VECTOR_EDITION <= edition
+}
+
+// A step's tag of a later edition is not known in an older one; before any edition each is, so that the order decides.
+pub fn tag_known(edition: u8, tag: u8) -> bool
+    ensures { λ r. ⌜ r ≡ tagKnown edition tag ⌝ }
+{
+    if edition == 0 {
+        return true;
+    }
+    if tag == codes::VECTOR_TAG {
+        return has_vectors(edition);
+    }
+    true
 }
 
 pub fn limits(edition: u8) -> SizeLimits

@@ -77,6 +77,33 @@ pub struct View {
     pub columns: Clip,
 }
 
+// How a matrix lies in memory: row after row, or column after column.
+pub enum MemoryLayout {
+    RowMajor,
+    ColumnMajor,
+}
+
+// A matrix in memory times a vector in a register, plus a bias in memory.
+pub struct VectorStep {
+    // The result register, and the result's kind.
+    pub result: u8,
+    pub kind: u8,
+    // The input register, and its interpretation: a kind, or four components a word.
+    pub input: u8,
+    pub interpretation: u8,
+    // The matrix interpretation, a kind; M and K.
+    pub matrix: u8,
+    pub rows: u8,
+    pub columns: u8,
+    // Where the matrix lies: the stride is from row to row, or from column to column.
+    pub layout: MemoryLayout,
+    pub stride: u16,
+    pub offset: u32,
+    // Whether there is a bias, and its offset.
+    pub biased: bool,
+    pub bias: u32,
+}
+
 // A step that makes one matrix, whole, in one register.
 pub enum WholeStep {
     Fill {
@@ -104,6 +131,7 @@ pub enum WholeStep {
         b: u8,
         c: u8,
     },
+    Vector(VectorStep),
 }
 
 // What a load starts from: its register as it stands, or a register that is copied to it.

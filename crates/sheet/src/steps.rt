@@ -1,10 +1,11 @@
 // Steps: what a step must keep to, in a sheet of an edition with so many layouts and views.
 ghost use mathlib.Core.Path.{_≡_};
 ghost use Prim.Native.Nat.{_≤_, _<_};
-ghost use Rattle.sheet.specs.Steps.{noCell, fillOk, objectOk, viewingOk, windowOk, loadOk, storeOk, reduceOk, transposeOk, multiplyOk, wholeOk, stepOk, stepUnused};
+ghost use Rattle.sheet.specs.Steps.{noCell, fillOk, objectOk, viewingOk, windowOk, loadOk, storeOk, reduceOk, transposeOk, multiplyOk, biasOk, vectorOk, wholeOk, stepOk, stepUnused};
 use super::Cell;
 use super::Object;
 use super::Step;
+use super::VectorStep;
 use super::Viewing;
 use super::WholeStep;
 use super::Window;
@@ -126,6 +127,46 @@ fn multiply_ok(result: u8, a: u8, b: u8, c: u8) -> bool
     sizes::register_ok(c)
 }
 
+// Without a bias there is no bias offset.
+fn bias_ok(v: VectorStep) -> bool
+    ensures { λ r. ⌜ r ≡ biasOk v ⌝ }
+{
+    if v.biased {
+        return true;
+    }
+    v.bias == 0
+}
+
+fn vector_ok(edition: u8, v: VectorStep) -> bool
+    ensures { λ r. ⌜ r ≡ vectorOk edition v ⌝ }
+{
+    if !editions::has_vectors(edition) {
+        return false;
+    }
+    if !sizes::register_ok(v.result) {
+        return false;
+    }
+    if !kinds::word_kind(v.kind) {
+        return false;
+    }
+    if !sizes::register_ok(v.input) {
+        return false;
+    }
+    if !kinds::interpretations::interpretation_ok(v.interpretation) {
+        return false;
+    }
+    if !kinds::kind_ok(v.matrix) {
+        return false;
+    }
+    if !editions::side_ok(edition, v.rows) {
+        return false;
+    }
+    if !editions::side_ok(edition, v.columns) {
+        return false;
+    }
+    bias_ok(v)
+}
+
 fn whole_ok(edition: u8, step: WholeStep) -> bool
     ensures { λ r. ⌜ r ≡ wholeOk edition step ⌝ }
 {
@@ -147,6 +188,7 @@ fn whole_ok(edition: u8, step: WholeStep) -> bool
         } => reduce_ok(edition, result, source, rows, columns),
         WholeStep::Transpose { result, source } => transpose_ok(result, source),
         WholeStep::MultiplyAdd { result, a, b, c } => multiply_ok(result, a, b, c),
+        WholeStep::Vector(v) => vector_ok(edition, v),
     }
 }
 

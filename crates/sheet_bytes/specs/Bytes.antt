@@ -53,13 +53,10 @@ viewDimensionsBytes count ds = each count (λ (k : ℕ). viewDimensionBytes (the
 unfoldable pub clipBytes : Clip → List ℕ
 clipBytes c = u16Bytes (c .offset) ++ u16Bytes (c .span)
 
-unfoldable pub sizedCode : Bool → ℕ
-sizedCode sized = pick sized 1 0
-
 -- dimension count, has-dimensions, permutation; each view dimension and stride if it has them; then the clip
 unfoldable pub viewBytes : View → List ℕ
 viewBytes v =
-    (v .rank ∷ sizedCode (v .sized) ∷ [])
+    (v .rank ∷ flagCode (v .sized) ∷ [])
     ++ entriesBytes (v .rank) (v .permutation)
     ++ viewDimensionsBytes (sizedRank (v .sized) (v .rank)) (v .dimensions)
     ++ clipBytes (v .rows)

@@ -5,7 +5,7 @@ ghost use Prim.Native.Nat.{_+_, _≤_};
 ghost use lib.ListN.{length};
 ghost use lib.Seq.{sets};
 ghost use Rattle.sheet.specs.Sizes.{rankPlaces};
-ghost use Rattle.sheet_bytes.specs.Bytes.{entriesBytes, viewDimensionsBytes, clipBytes, sizedCode, viewBytes, viewField};
+ghost use Rattle.sheet_bytes.specs.Bytes.{entriesBytes, viewDimensionsBytes, clipBytes, viewBytes, viewField};
 use super::fields;
 use super::fields::HEAD;
 use sheet::Clip;
@@ -67,12 +67,6 @@ fn put_clips(out: &mut [u8], at: usize, rows: Clip, columns: Clip)
     fields::put_u16s(out, at + CLIP, columns.offset, columns.span);
 }
 
-fn sized_code(sized: bool) -> u8
-    ensures { λ r. ⌜ r ≡ sizedCode sized ⌝ }
-{
-    if sized { 1 } else { 0 }
-}
-
 fn put_view_content(out: &mut [u8], at: usize, v: View)
     requires { ⌜ (v .rank ≤ rankPlaces) × (at + length (viewBytes v) ≤ length (now out)) ⌝ }
     ensures { λ _. ⌜ now (out .exit) ≡ sets (now (out .entry)) at (viewBytes v) ⌝ }
@@ -83,7 +77,7 @@ fn put_view_content(out: &mut [u8], at: usize, v: View)
     let ds = v.dimensions;
     let rows = v.rows;
     let columns = v.columns;
-    fields::put_pair(out, at, rank, sized_code(v.sized));
+    fields::put_pair(out, at, rank, codes::flag_code(v.sized));
     put_permutation(out, at + START, rank, permutation);
     let dimensions = at + START + rank as usize;
     put_view_dimensions(out, dimensions, own, ds);

@@ -7,8 +7,8 @@ use lib.Dec.{ltb, eqb}
 use Rattle.numbers.specs.Choice.{pick, both}
 use Rattle.refusals.specs.Refusals.{cutShort, unknownTag, outOfOrder, wrongLength, beyondSizes, unknownEdition, refusalAt, notRefused}
 use Rattle.sheet.specs.Sizes.{layoutPlaces, viewPlaces}
-use Rattle.sheet.specs.Editions.{editionOk, limits}
-use Rattle.sheet.specs.Codes.{editionTag, layoutTag, viewTag, fillTag, multiplyTag}
+use Rattle.sheet.specs.Editions.{editionOk, tagKnown, limits}
+use Rattle.sheet.specs.Codes.{editionTag, layoutTag, viewTag, fillTag, lastStepTag}
 use Rattle.sheet.specs.Layouts.{layoutOk}
 use Rattle.sheet.specs.Views.{viewOk}
 use Rattle.sheet.specs.Steps.{stepOk}
@@ -39,7 +39,7 @@ viewMayCome g = both (ltb 0 (g .edition)) (both (eqb (g .steps) 0) (ltb (g .view
 unfoldable pub stepMayCome : Given → Bool
 stepMayCome g = both (ltb 0 (g .edition)) (ltb (g .steps) (limits (g .edition) .steps))
 
--- refusals 3, 4, 6 and 5 of a field whose content is the len bytes from p; 0 where it is taken
+-- refusals 3, 4, 6 and 5 of a field (of a step's tag also 2, by the edition) whose content is the len bytes from p; 0 where it is taken
 unfoldable pub editionRefusal : List ℕ → ℕ → ℕ → Given → ℕ
 editionRefusal s p len g =
     pick (ltb 0 (g .edition)) outOfOrder
@@ -69,20 +69,22 @@ viewRefusal s p len g =
 
 unfoldable pub stepRefusal : List ℕ → ℕ → ℕ → ℕ → Given → ℕ
 stepRefusal s tag p len g =
-    pick (stepMayCome g)
+    pick (tagKnown (g .edition) tag)
+    (pick (stepMayCome g)
     (pick (eqb len (stepLength (g .edition) tag))
     (pick (stepOk (g .edition) (g .layouts) (g .views) (stepAt s tag p)) 0 beyondSizes)
     wrongLength)
-    outOfOrder
+    outOfOrder)
+    unknownTag
 
--- the tag chooses: edition, layout, view, six steps, or refusal 2
+-- the tag chooses: edition, layout, view, a step, or refusal 2
 unfoldable pub fieldRefusal : List ℕ → ℕ → ℕ → ℕ → Given → ℕ
 fieldRefusal s tag p len g =
     pick (eqb tag editionTag) (editionRefusal s p len g)
     (pick (eqb tag layoutTag) (layoutRefusal s p len g)
     (pick (eqb tag viewTag) (viewRefusal s p len g)
     (pick (ltb tag fillTag) unknownTag
-    (pick (ltb tag (suc multiplyTag)) (stepRefusal s tag p len g)
+    (pick (ltb tag (suc lastStepTag)) (stepRefusal s tag p len g)
     unknownTag))))
 
 -- the sheet with one part more

@@ -138,10 +138,13 @@ fn step_refusal(s: &[u8], tag: u8, start: usize, len: usize, given: Given) -> u8
     requires { ⌜ start + len ≤ length (now s) ⌝ }
     ensures { λ r. ⌜ r ≡ stepRefusal (now (s .entry)) tag start len given ⌝ }
 {
+    let edition = given.edition;
+    if !editions::tag_known(edition, tag) {
+        return UNKNOWN_TAG;
+    }
     if !step_may_come(given) {
         return OUT_OF_ORDER;
     }
-    let edition = given.edition;
     if len != contents::step_length(edition, tag) {
         return WRONG_LENGTH;
     }
@@ -161,7 +164,7 @@ fn field_refusal(s: &[u8], tag: u8, start: usize, len: usize, given: Given) -> u
         codes::EDITION_TAG => edition_refusal(s, start, len, given),
         codes::LAYOUT_TAG => layout_refusal(s, start, len, given),
         codes::VIEW_TAG => view_refusal(s, start, len, given),
-        codes::FILL_TAG..=codes::MULTIPLY_TAG => step_refusal(s, tag, start, len, given),
+        codes::FILL_TAG..=codes::LAST_STEP_TAG => step_refusal(s, tag, start, len, given),
         _ => UNKNOWN_TAG,
     }
 }

@@ -1,13 +1,14 @@
 -- The bytes of steps, by the table of "The sheet".
 use Prim.Native.Nat.{ℕ}
 use mathlib.Core.List.{List, [], _∷_, _++_}
-use Rattle.numbers.specs.Little.{u32Bytes}
-use Rattle.sheet.specs.Codes.{fillTag, loadTag, storeTag, reduceTag, transposeTag, multiplyTag, reduceCode, combineCode, objectCode, viewingCode}
+use Rattle.numbers.specs.Little.{u16Bytes, u32Bytes}
+use Rattle.sheet.specs.Codes.{fillTag, loadTag, storeTag, reduceTag, transposeTag, multiplyTag, vectorTag, reduceCode, combineCode, memoryLayoutCode, flagCode, objectCode, viewingCode}
 use Rattle.sheet.specs.declared.Window.{Window}
 use Rattle.sheet.specs.declared.Step.{Step}
 use Rattle.sheet.specs.declared.Step.the-variants.{Nothing, Load, Store, Whole}
 use Rattle.sheet.specs.declared.WholeStep.{WholeStep}
-use Rattle.sheet.specs.declared.WholeStep.the-variants.{Fill, Reduce, Transpose, MultiplyAdd}
+use Rattle.sheet.specs.declared.WholeStep.the-variants.{Fill, Reduce, Transpose, MultiplyAdd, Vector}
+use Rattle.sheet.specs.declared.VectorStep.{VectorStep}
 use Rattle.sheet_bytes.specs.Bytes.{fieldBytes}
 
 abbrev pub wholeTag : WholeStep → ℕ
@@ -15,6 +16,7 @@ wholeTag (Fill register rows columns kind value) = fillTag
 wholeTag (Reduce result source rows columns mode combine) = reduceTag
 wholeTag (Transpose result source) = transposeTag
 wholeTag (MultiplyAdd result a b c) = multiplyTag
+wholeTag (Vector v) = vectorTag
 
 -- an unused place has none of the table's tags
 abbrev pub stepTag : Step → ℕ
@@ -27,6 +29,15 @@ stepTag (Whole whole) = wholeTag whole
 abbrev pub windowBytes : Window → List ℕ
 windowBytes w = (w .layout ∷ viewingCode (w .view) ∷ []) ++ u32Bytes (w .base)
 
+-- result and its kind, input and its interpretation; matrix, M, K and memory layout; stride, offset; bias and its offset
+abbrev pub vectorBytes : VectorStep → List ℕ
+vectorBytes v =
+    (v .result ∷ v .kind ∷ v .input ∷ v .interpretation ∷ [])
+    ++ ((v .matrix ∷ v .rows ∷ v .columns ∷ memoryLayoutCode (v .layout) ∷ [])
+    ++ (u16Bytes (v .stride)
+    ++ (u32Bytes (v .offset)
+    ++ ((flagCode (v .biased) ∷ []) ++ u32Bytes (v .bias)))))
+
 -- the content of a step, in a sheet of an edition
 abbrev pub wholeBytes : ℕ → WholeStep → List ℕ
 wholeBytes edition (Fill register rows columns kind value) = (register ∷ rows ∷ columns ∷ kind ∷ []) ++ u32Bytes value
@@ -34,6 +45,7 @@ wholeBytes edition (Reduce result source rows columns mode combine) =
     result ∷ source ∷ rows ∷ columns ∷ reduceCode mode ∷ combineCode combine ∷ []
 wholeBytes edition (Transpose result source) = result ∷ source ∷ []
 wholeBytes edition (MultiplyAdd result a b c) = result ∷ a ∷ b ∷ c ∷ []
+wholeBytes edition (Vector v) = vectorBytes v
 
 abbrev pub stepBytes : ℕ → Step → List ℕ
 stepBytes edition Nothing = []

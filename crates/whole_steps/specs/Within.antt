@@ -5,7 +5,7 @@ use Prim.Native.Nat.{ℕ, _<_, _≤_}
 use Rattle.kinds.specs.Widths.{kindOk, fits}
 use Rattle.sheet.specs.Sizes.{registerCount, sidePlaces}
 use Rattle.sheet.specs.declared.WholeStep.{WholeStep}
-use Rattle.sheet.specs.declared.WholeStep.the-variants.{Fill, Reduce, Transpose, MultiplyAdd}
+use Rattle.sheet.specs.declared.WholeStep.the-variants.{Fill, Reduce, Transpose, MultiplyAdd, Vector}
 use Rattle.whole_steps.specs.Whole.{wholeResult}
 
 pub record Side (x : ℕ) : Type 0 where
@@ -18,6 +18,7 @@ WholeParts (Fill register rows columns kind value) = Side rows × Side columns �
 WholeParts (Reduce result source rows columns mode combine) = (source < registerCount) × Side rows × Side columns
 WholeParts (Transpose result source) = source < registerCount
 WholeParts (MultiplyAdd result a b c) = (a < registerCount) × (b < registerCount) × (c < registerCount)
+WholeParts (Vector v) = VectorParts v
 
 pub record WholeOk (w : WholeStep) : Type 0 where
   pub result : wholeResult w < registerCount

@@ -21,7 +21,7 @@ use Rattle.sheet.specs.declared.Object.{Object}
 use Rattle.sheet.specs.declared.Object.the-variants.{Kept, Register}
 use Rattle.sheet.specs.declared.Viewing.{Viewing}
 use Rattle.sheet.specs.declared.Viewing.the-variants.{Plain, Through}
-use Rattle.sheet_bytes.specs.Bytes.{sizedCode}
+use Rattle.sheet_bytes.specs.Bytes.{flagCode}
 
 -- P of each of the n numbers from low on
 abbrev pub Each : (ℕ → Type 0) → ℕ → ℕ → Type 0
@@ -121,16 +121,16 @@ pub viewing-code-of : (x : ℕ) → viewingCode (viewingOf x) ≡ x
 unfolding viewingOf pick
 viewing-code-of x = by-place x none (λ q. rw q) (λ q. rw (ne-eqb x none q))
 
-pub sized-of : (b : Bool) → eqb (sizedCode b) 1 ≡ b
-unfolding sizedCode pick
-sized-of true = refl
-sized-of false = refl
+pub flag-of : (b : Bool) → eqb (flagCode b) 1 ≡ b
+unfolding flagCode pick
+flag-of true = refl
+flag-of false = refl
 
-pub sized-code-small : (b : Bool) → sizedCode b ≤ 1
-unfolding sizedCode pick
-sized-code-small true = omega arith
-sized-code-small false = omega arith
+pub flag-code-small : (b : Bool) → flagCode b ≤ 1
+unfolding flagCode pick
+flag-code-small true = omega arith
+flag-code-small false = omega arith
 
-pub sized-code-of : (x : ℕ) → x ≤ 1 → sizedCode (eqb x 1) ≡ x
-unfolding sizedCode pick
-sized-code-of x h = one-of (λ (x : ℕ). sizedCode (eqb x 1) ≡ x) 0 2 (refl, (refl, tt)) x (omega arith) (omega arith)
+pub flag-code-of : (x : ℕ) → x ≤ 1 → flagCode (eqb x 1) ≡ x
+unfolding flagCode pick
+flag-code-of x h = one-of (λ (x : ℕ). flagCode (eqb x 1) ≡ x) 0 2 (refl, (refl, tt)) x (omega arith) (omega arith)

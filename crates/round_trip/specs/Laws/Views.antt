@@ -20,10 +20,10 @@ use Rattle.sheet.specs.declared.Clip.{Clip}
 use Rattle.sheet.specs.declared.View.{View}
 use Rattle.contents.specs.Contents.{permutationAt, viewDimensionAt, viewDimensionsAt, clipAt, viewOf, hasDimensions, viewAt, viewLength, viewLengthOk, viewHeadOk}
 use Rattle.contents.specs.Laws.Heads.{sized-few, view-head}
-use Rattle.sheet_bytes.specs.Bytes.{entriesBytes, viewDimensionBytes, viewDimensionsBytes, clipBytes, sizedCode, viewBytes}
+use Rattle.sheet_bytes.specs.Bytes.{entriesBytes, viewDimensionBytes, viewDimensionsBytes, clipBytes, flagCode, viewBytes}
 use Rattle.sheet_bytes.specs.Laws.Lengths.{length-entries, length-view-dimension, length-view-dimensions, length-clip, length-view}
 use Rattle.round_trip.specs.Laws.Stretches.{Has, has-at, has-shift, has-back, has-left, has-right, has-join, has-rows-at, has-rows, u16-of, low-at, high-at, u16-below}
-use Rattle.round_trip.specs.Laws.Codes.{one-of, sized-of, sized-code-small, sized-code-of}
+use Rattle.round_trip.specs.Laws.Codes.{one-of, flag-of, flag-code-small, flag-code-of}
 use Rattle.round_trip.specs.Typed.{AreBytes, U16, ClipFits, ViewFits, ViewArrays}
 
 -- two numbers of 16 bits, one after the other: a view dimension with its stride, and one side of the clip
@@ -155,7 +155,7 @@ view-dimensions-of s p n ds h z u b =
 -- where the parts of a view's content stand
 record Parts (s : List ℕ) (p : ℕ) (v : View) : Type 0 where
   count : getD s p 0 ≡ v .rank
-  has : getD s (p + 1) 0 ≡ sizedCode (v .sized)
+  has : getD s (p + 1) 0 ≡ flagCode (v .sized)
   entries : Has s (p + 2) 0 (entriesBytes (v .rank) (v .permutation))
   dimensions : Has s (p + 2 + v .rank) 0 (viewDimensionsBytes (own v) (v .dimensions))
   rows : Has s (p + 2 + v .rank + own v * 4) 0 (clipBytes (v .rows))
@@ -213,7 +213,7 @@ view-length-ok false rank h l =
 
 module _ (s : List ℕ) (p : ℕ) (v : View) (w : ViewShaped v) (h : Has s p 0 (viewBytes v)) where
   has-of : hasDimensions s p ≡ v .sized
-  has-of = rw (parts s p v h .has) (sized-of (v .sized))
+  has-of = rw (parts s p v h .has) (flag-of (v .sized))
 
   pub view-of : viewAt s p ≡ v
   unfolding viewAt viewOf
@@ -233,7 +233,7 @@ module _ (s : List ℕ) (p : ℕ) (v : View) (w : ViewShaped v) (h : Has s p 0 (
       let g = parts s p v h in
       rw (has-of, g .count, g .has, length-view v)
       (both-true _ _ (between-true 1 rankPlaces (v .rank) (w .some) (w .few))
-      (both-true _ _ (le-leb (sizedCode (v .sized)) 1 (sized-code-small (v .sized))) (eq-eqb (viewLength (v .rank) (own v)) _ refl)))
+      (both-true _ _ (le-leb (flagCode (v .sized)) 1 (flag-code-small (v .sized))) (eq-eqb (viewLength (v .rank) (own v)) _ refl)))
 
 -- from the view that was read to the bytes
 module _ (s : List ℕ) (p len : ℕ) (e : viewHeadOk s p len ≡ true) where
@@ -289,7 +289,7 @@ module _ (s : List ℕ) (p len : ℕ) (e : viewHeadOk s p len ≡ true) where
       whole s p (viewAt s p)
       (record {
         count = refl;
-        has = sym (sized-code-of (getD s (p + 1) 0) has);
+        has = sym (flag-code-of (getD s (p + 1) 0) has);
         entries =
             has-rows s (p + 2) 1 (getD s p 0) (entry ps) (λ k h. refl)
             (λ k h. let i : p + 2 + k * 1 + 0 ≡ p + 2 + k = omega arith in (rw i (sym (entry-at k h)), tt));

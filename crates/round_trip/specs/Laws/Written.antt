@@ -30,12 +30,12 @@ use Rattle.sheet.specs.declared.Step.the-variants.{Nothing, Load, Store, Whole}
 use Rattle.sheet.specs.declared.WholeStep.{WholeStep}
 use Rattle.sheet.specs.declared.WholeStep.the-variants.{Fill, Reduce, Transpose, MultiplyAdd}
 use Rattle.sheet.specs.declared.Sheet.{Sheet}
-use Rattle.sheet_bytes.specs.Bytes.{headBytes, fieldBytes, editionField, dimensionBytes, dimensionsBytes, layoutBytes, layoutField, entriesBytes, viewDimensionBytes, viewDimensionsBytes, clipBytes, sizedCode, viewBytes, viewField}
+use Rattle.sheet_bytes.specs.Bytes.{headBytes, fieldBytes, editionField, dimensionBytes, dimensionsBytes, layoutBytes, layoutField, entriesBytes, viewDimensionBytes, viewDimensionsBytes, clipBytes, flagCode, viewBytes, viewField}
 use Rattle.sheet_bytes.specs.Laws.Lengths.{length-layout, length-view, sized-within}
 use Rattle.step_bytes.specs.Bytes.{stepTag, windowBytes, wholeBytes, stepBytes, stepField}
 use Rattle.sheet_writer.specs.Bytes.{layoutsBytes, viewsBytes, stepsBytes, sheetBytes}
 use Rattle.round_trip.specs.Typed.{AreBytes, U16, U32, DimensionFits, LayoutFits, ClipFits, ViewFits, StepFits, SheetFits}
-use Rattle.round_trip.specs.Laws.Codes.{clamp-code-small, reduce-code-between, combine-code-small, object-code-small, viewing-code-small, sized-code-small}
+use Rattle.round_trip.specs.Laws.Codes.{clamp-code-small, reduce-code-between, combine-code-small, object-code-small, viewing-code-small, flag-code-small}
 use Rattle.round_trip.specs.Laws.Layouts.{layout-held}
 use Rattle.round_trip.specs.Laws.Views.{view-held}
 use Rattle.round_trip.specs.Laws.Steps.{step-short, tag-range}
@@ -108,14 +108,14 @@ below-view v e f =
     let r = view-most v e in
     let w = view-held v e in
     let n = sizedRank (v .sized) (v .rank) in
-    let a = v .rank ∷ sizedCode (v .sized) ∷ [] in
+    let a = v .rank ∷ flagCode (v .sized) ∷ [] in
     let b = entriesBytes (v .rank) (v .permutation) in
     let c = viewDimensionsBytes n (v .dimensions) in
     let entries = below-each (v .rank) (λ (k : ℕ). getD (v .permutation) k 0 ∷ []) (λ k h. (omega (arith, view-entry v e k h), tt)) in
     let dims = below-each n (λ (k : ℕ). viewDimensionBytes (theViewDimension (v .dimensions) k)) (λ k h. below-view-dimension (theViewDimension (v .dimensions) k) (w .given k h) (f .stride k)) in
     below-append (a ++ b ++ c ++ clipBytes (v .rows)) (clipBytes (v .columns))
     (below-append (a ++ b ++ c) (clipBytes (v .rows))
-    (below-append (a ++ b) c (below-append a b (omega arith, (omega (arith, sized-code-small (v .sized)), tt)) entries) dims)
+    (below-append (a ++ b) c (below-append a b (omega arith, (omega (arith, flag-code-small (v .sized)), tt)) entries) dims)
     (below-clip (v .rows) (f .rows)))
     (below-clip (v .columns) (f .columns))
 

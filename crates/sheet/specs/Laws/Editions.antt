@@ -3,13 +3,12 @@ use Prim.Native.Nat.{ℕ, _<_, _≤_}
 use mathlib.Core.Path.{_≡_}
 use mathlib.Core.Bool.{true}
 use native.Mathlib.Nat.{le-refl}
-use native.Mathlib.Omega.{arith}
-use borrow.Author.Tests.{eqb-true}
+use Rattle.numbers.specs.Choice.{between-low}
 use Rattle.sheet.specs.Sizes.{sidePlaces, stepPlaces, recordPlaces}
-use Rattle.sheet.specs.Editions.{editionOk, limits}
+use Rattle.sheet.specs.Editions.{newestEdition, editionOk, limits}
 
 pub edition-some : (edition : ℕ) → editionOk edition ≡ true → 0 < edition
-edition-some edition e = let q = eqb-true edition 1 e in omega arith
+edition-some edition e = between-low 1 newestEdition edition e
 
 pub limits-side : (edition : ℕ) → limits edition .side ≤ sidePlaces
 unfolding limits

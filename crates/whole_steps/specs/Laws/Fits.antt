@@ -7,7 +7,7 @@ use lib.ListN.{length}
 use Rattle.kinds.specs.Widths.{width, fits}
 use Rattle.sheet.specs.Sizes.{registerCount, elementPlaces}
 use Rattle.sheet.specs.declared.WholeStep.{WholeStep}
-use Rattle.sheet.specs.declared.WholeStep.the-variants.{Fill, Reduce, Transpose, MultiplyAdd}
+use Rattle.sheet.specs.declared.WholeStep.the-variants.{Fill, Reduce, Transpose, MultiplyAdd, Vector}
 use Rattle.registers.specs.Types.{theType}
 use Rattle.registers.specs.Sized.{Sized}
 use Rattle.registers.specs.Fits.{Fit}

@@ -13,7 +13,7 @@ use Rattle.sheet.specs.Editions.{limits, sideOk}
 use Rattle.sheet.specs.Steps.{fillOk, reduceOk, transposeOk, multiplyOk, wholeOk}
 use Rattle.sheet.specs.Laws.Editions.{limits-side}
 use Rattle.sheet.specs.declared.WholeStep.{WholeStep}
-use Rattle.sheet.specs.declared.WholeStep.the-variants.{Fill, Reduce, Transpose, MultiplyAdd}
+use Rattle.sheet.specs.declared.WholeStep.the-variants.{Fill, Reduce, Transpose, MultiplyAdd, Vector}
 use Rattle.registers.specs.Types.{matrixType, theType}
 use Rattle.registers.specs.Sized.{SizedType, Sized}
 use Rattle.registers.specs.Laws.Sized.{sized-with}

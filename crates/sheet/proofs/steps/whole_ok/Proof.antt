@@ -26,6 +26,12 @@ enum-known-step-4 c = search needs
 multiply-ok-requires : tie.Need-multiply-ok-requires
 multiply-ok-requires c κs = search needs
 
+enum-known-step-5 : tie.Need-enum-known-step-5
+enum-known-step-5 c = search needs
+
+vector-ok-requires : tie.Need-vector-ok-requires
+vector-ok-requires c κs = search needs
+
 returns : tie.Need-returns
 returns c = rw (c .before .before .step .given .1) (c .fill-ok .ensures)
 
@@ -37,6 +43,9 @@ returns-3 c = rw (c .before .before .step3 .given .1) (c .transpose-ok .ensures)
 
 returns-4 : tie.Need-returns-4
 returns-4 c = rw (c .before .before .step4 .given .1) (c .multiply-ok .ensures)
+
+returns-5 : tie.Need-returns-5
+returns-5 c = rw (c .before .before .step5 .given .1) (c .vector-ok .ensures)
 
 pub whole-ok-spec : {M : Type 1} → statement M
 whole-ok-spec =
@@ -50,7 +59,10 @@ whole-ok-spec =
     transpose-ok-requires
     enum-known-step-4
     multiply-ok-requires
+    enum-known-step-5
+    vector-ok-requires
     returns
     returns-2
     returns-3
-    returns-4)
+    returns-4
+    returns-5)

@@ -5,7 +5,8 @@ use borrow.Author.Needs.{needs}
 use lib.ListN.{length-append}
 use Rattle.numbers.specs.Lists.{puts-after}
 use Rattle.sheet.specs.Views.{sizedRank}
-use Rattle.sheet_bytes.specs.Bytes.{entriesBytes, viewDimensionsBytes, clipBytes, sizedCode, viewBytes}
+use Rattle.sheet_bytes.specs.Bytes.{entriesBytes, viewDimensionsBytes, clipBytes, viewBytes}
+use Rattle.sheet.specs.Codes.{flagCode}
 use Rattle.sheet_bytes.specs.Laws.Puts.{puts-at}
 use Rattle.sheet_bytes.specs.Laws.Lengths.{length-view, length-entries, length-view-dimensions, sized-within}
 use Rattle.sheet_bytes.proofs.views.put_view_content.Statement.{statement}
@@ -14,8 +15,8 @@ use Rattle.sheet_bytes.proofs.views.put_view_content.Tie as tie
 sized-rank-requires : tie.Need-sized-rank-requires
 sized-rank-requires c κs = search needs
 
-sized-code-requires : tie.Need-sized-code-requires
-sized-code-requires c κs = search needs
+flag-code-requires : tie.Need-flag-code-requires
+flag-code-requires c κs = search needs
 
 put-pair-requires : tie.Need-put-pair-requires
 put-pair-requires c κs =
@@ -79,13 +80,13 @@ returns c =
     let s = c .before .before .before .before .before .before .before .before .before .before .before .before .before .before .before .before .before .before .before .before .before .sized-rank .ensures in
     let p = length-entries (v .rank) (v .permutation) in
     let d = length-view-dimensions (sizedRank (v .sized) (v .rank)) (v .dimensions) in
-    let head = v .rank ∷ sizedCode (v .sized) ∷ [] in
+    let head = v .rank ∷ flagCode (v .sized) ∷ [] in
     let entries = entriesBytes (v .rank) (v .permutation) in
     let dimensions = viewDimensionsBytes (sizedRank (v .sized) (v .rank)) (v .dimensions) in
     rw (append-assoc (head ++ entries ++ dimensions) (clipBytes (v .rows)) (clipBytes (v .columns)))
     (puts-at o (a .at) (head ++ entries ++ dimensions) (clipBytes (v .rows) ++ clipBytes (v .columns)) (simp length-append (omega arith))
     (puts-at o (a .at) (head ++ entries) dimensions (omega arith)
-    (puts-after o (a .at) head entries (rw (c .before .before .before .before .before .before .before .before .before .before .before .before .before .before .before .sized-code .ensures) at (c .before .before .before .before .before .before .before .before .before .before .before .before .before .before .put-pair .ensures)) (c .before .before .before .before .before .before .before .before .before .before .put-permutation .ensures))
+    (puts-after o (a .at) head entries (rw (c .before .before .before .before .before .before .before .before .before .before .before .before .before .before .before .flag-code .ensures) at (c .before .before .before .before .before .before .before .before .before .before .before .before .before .before .put-pair .ensures)) (c .before .before .before .before .before .before .before .before .before .before .put-permutation .ensures))
     (rw s at (c .before .before .before .before .before .before .put-view-dimensions .ensures)))
     (c .before .before .put-clips .ensures))
 
@@ -94,7 +95,7 @@ put-view-content-spec =
     tie.close
     (tie.spec
     sized-rank-requires
-    sized-code-requires
+    flag-code-requires
     put-pair-requires
     add-put-permutation
     put-permutation-requires
