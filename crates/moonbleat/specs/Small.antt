@@ -11,7 +11,7 @@ use lib.IntN.{ℤ}
 use lib.ListN.{length}
 use Rattle.numbers.specs.Choice.{pick, pick-case}
 use Rattle.sheet.specs.Sheets.{emptySheet, noTensors, writable}
-use Rattle.sheet.specs.Steps.{theStep}
+use Rattle.sheet.specs.Steps.{theStep, stepOk}
 use Rattle.refusals.specs.declared.Refusal.{Refusal}
 use Rattle.sheet.specs.declared.Tensors.{Tensors}
 use Rattle.sheet.specs.declared.Sheet.{Sheet}
@@ -22,7 +22,7 @@ use Rattle.sheet_reader.specs.declared.ReadAnswer.{ReadAnswer}
 use Rattle.sheet_writer.specs.Bytes.{sheetBytes}
 use Rattle.sheet_writer.specs.Writing.{written}
 use Rattle.sheet_writer.specs.declared.WriteAnswer.{WriteAnswer}
-use Rattle.sheet.specs.Sizes.{matrixPlaces, recordPlaces, memoryLimit}
+use Rattle.sheet.specs.Sizes.{sidePlaces, matrixPlaces, recordPlaces, memoryLimit}
 use Rattle.sheet.specs.Laws.Within.{Within, within, within-places}
 use Rattle.round_trip.specs.Laws.Sheets.{sheet-short}
 use Rattle.round_trip.specs.Laws.Growing.{reading}
@@ -39,7 +39,7 @@ use Rattle.addressing.specs.declared.Located.{Located}
 use Rattle.accesses.specs.Refusals as accesses
 use Rattle.accesses.specs.Refusals.{elementOutcome, misplaced, otherRank, storeBlocked, firstRefused, sameAt, clashFrom, clashRefusal, elementsRefusal, accessRefusal}
 use Rattle.refusals.specs.declared.Stop.{Stop}
-use Rattle.whole_steps.specs.Laws.Within.{refusal-element}
+use Rattle.whole_steps.specs.Laws.Within.{whole-ok, refusal-element}
 use Rattle.checking.specs.Steps.{accessOf, objectRegister, accessCheck, checkedStep}
 use Rattle.carrying.specs.Steps.{Machine}
 use Rattle.checking.specs.Checking.{checkedFrom, checked, checkedSheet}
@@ -136,16 +136,17 @@ unfolding accessCheck accesses.checked
 moved-among before after t a s =
     pick-case (λ (c : StepCheck). c .stop .element ≤ matrixPlaces) (isEmpty t) _ _ (λ e. omega arith) (λ e. omega (arith, s, access-among a))
 
-step-element : (edition : ℕ) (tensors : Tensors) (ts : List MatrixType) (len : ℕ) (step : Step) → Sized ts → checkedStep edition tensors ts len step .stop .element ≤ matrixPlaces
+step-element : (edition : ℕ) (tensors : Tensors) (ts : List MatrixType) (len : ℕ) (step : Step) (layouts views : ℕ)
+    → stepOk edition layouts views step ≡ true → Sized ts → checkedStep edition tensors ts len step .stop .element ≤ matrixPlaces + sidePlaces
 unfolding checkedStep
-step-element edition tensors ts len Nothing s = omega arith
-step-element edition tensors ts len (Load register object window) s =
+step-element edition tensors ts len Nothing layouts views ok s = omega arith
+step-element edition tensors ts len (Load register object window) layouts views ok s =
     let t = theType ts (objectRegister register object) in
-    moved-among ts (withType ts register t) t (accessOf tensors true window t len) (sized-places t (s .each (objectRegister register object)))
-step-element edition tensors ts len (Store register window) s =
+    omega (arith, moved-among ts (withType ts register t) t (accessOf tensors true window t len) (sized-places t (s .each (objectRegister register object))))
+step-element edition tensors ts len (Store register window) layouts views ok s =
     let t = theType ts register in
-    moved-among ts ts t (accessOf tensors false window t len) (sized-places t (s .each register))
-step-element edition tensors ts len (Whole whole) s = refusal-element edition ts len whole
+    omega (arith, moved-among ts ts t (accessOf tensors false window t len) (sized-places t (s .each register)))
+step-element edition tensors ts len (Whole whole) layouts views ok s = refusal-element edition ts len whole (whole-ok edition whole ok .parts)
 
 abbrev SmallCheck : CheckAnswer → Type 0
 SmallCheck c = Small (c .refusal) (c .count)
@@ -162,7 +163,7 @@ module _ (sh : Sheet) (w : Within sh) (len : ℕ) where
       pick-case SmallCheck (eqb (c .stop .number) 0) _ _
       (λ e. from-small n (k + 1) (c .types) (count + c .placed) (omega arith) (omega (arith, step-placed (sh .edition) (sh .tensors) ts len step s))
       (check-sized (sh .edition) (sh .tensors) ts len step (sh .edition) (sh .tensors .layouts) (sh .tensors .views) ok s))
-      (λ e. (omega (arith, within-places w), omega (arith, step-element (sh .edition) (sh .tensors) ts len step s), omega arith))
+      (λ e. (omega (arith, within-places w), omega (arith, step-element (sh .edition) (sh .tensors) ts len step (sh .tensors .layouts) (sh .tensors .views) ok s), omega arith))
 
   checked-small : SmallCheck (checked sh len)
   unfolding checked
