@@ -102,12 +102,12 @@ edge (pos a) n = n - 1
 edge (negsuc a) n = 0
 
 -- Rule 4: c, and m-c if that is at or above n
-unfoldable pub folded : ℕ → ℕ → ℕ → ℕ
-folded n m c = pick (leb n c) (m - c) c
+unfoldable pub turnedBack : ℕ → ℕ → ℕ → ℕ
+turnedBack n m c = pick (leb n c) (m - c) c
 
 -- Rule 4, MirrorRepeat: m = 2n-2, c mod m, and m-c if that is at or above n; for n = 1 it gives 0
 unfoldable pub mirrored : ℤ → ℕ → ℕ
-mirrored c n = pick (eqb n 1) 0 (folded n (2 * n - 2) (remainder c (2 * n - 2)))
+mirrored c n = pick (eqb n 1) 0 (turnedBack n (2 * n - 2) (remainder c (2 * n - 2)))
 
 -- Rule 4 outside on a load
 abbrev pub onLoad : ClampMode → ℤ → ℕ → Clamped

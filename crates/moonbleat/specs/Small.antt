@@ -54,7 +54,7 @@ use Rattle.records.specs.declared.Decoded.{Decoded}
 use Rattle.translating.specs.Translating.{fitsRoom, translated}
 use Rattle.judging.specs.Judging.{tapeRecord, decodedOk, decodedTypes, rangeFrom, tapeRefusal}
 use Rattle.running.specs.Running.{ran, ranDecoded, runRefusal, runTape}
-use Rattle.running.specs.Laws.Turns.{Ready, ready-start, turn-next, turns-end}
+use Rattle.running.specs.Laws.Turns.{RunReady, ready-start, turn-next, turns-end}
 use Rattle.records.specs.Laws.{fit-few}
 use Rattle.judging.specs.Laws.Turns.{tape-fit, tape-clear}
 use Rattle.translating.specs.declared.TranslateAnswer.{TranslateAnswer}
@@ -132,7 +132,7 @@ access-among a =
 
 -- of at most a register's
 moved-among : (before after : List MatrixType) (t : MatrixType) (a : Access) → elementsOf a ≤ matrixPlaces → accessCheck before after t a .stop .element ≤ matrixPlaces
-unfolding accessCheck accesses.checked
+unfolding accessCheck accesses.checkedElements
 moved-among before after t a s =
     pick-case (λ (c : StepCheck). c .stop .element ≤ matrixPlaces) (isEmpty t) _ _ (λ e. omega arith) (λ e. omega (arith, s, access-among a))
 
@@ -209,7 +209,7 @@ range-small (suc n) sh len the k ts l =
     (λ e. (omega arith, omega arith, omega arith))
 
 -- records of at most a register's elements each
-ran-few : (n : ℕ) (sh : Sheet) → Within sh → (len : ℕ) (the : ℕ → Decoded) (goal : Machine) (left k : ℕ) (m : Machine) → k + left ≡ n → Ready (n - k) sh len the k m goal
+ran-few : (n : ℕ) (sh : Sheet) → Within sh → (len : ℕ) (the : ℕ → Decoded) (goal : Machine) (left k : ℕ) (m : Machine) → k + left ≡ n → RunReady (n - k) sh len the k m goal
     → goal .count ≤ n * matrixPlaces
 ran-few n sh w len the goal zero k m e r =
     let q = ap (λ (x : Machine). x .count) (turns-end n sh len the k m goal r (omega arith)) in omega (arith, q, r .few)

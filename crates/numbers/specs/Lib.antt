@@ -6,3 +6,4 @@ pub mod Lines
 pub mod Places
 pub mod Joins
 pub mod Remainders
+pub mod Orders

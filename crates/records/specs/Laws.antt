@@ -18,8 +18,8 @@ use Rattle.signed.specs.Laws.{spans-true, rise-difference, fall-difference, bit
 use Rattle.records.specs.declared.Record.{Record}
 use Rattle.records.specs.declared.Record.the-variants.{Copy, Take, Put, Fill, Whole}
 use Rattle.records.specs.declared.Decoded.the-variants.{Good}
-use Rattle.records.specs.Records.{recordLength, recordNumbers, tapeNumbers, moved, registerInRange, stepInRange, copyInRange, bytesInRange, fillInRange, wholeInRange, copyOf, bytesOf, fillOf, wholeOf, recordOf, recordAt}
-use Rattle.records.specs.Ranges.{Elements, Bytes, Within}
+use Rattle.records.specs.Records.{recordLength, recordNumbers, tapeNumbers, moved, registerInRange, stepInRange, copyInRange, bytesInRange, fillInRange, wholeInRange, copyOf, movedOf, fillOf, wholeOf, recordOf, recordAt}
+use Rattle.records.specs.Ranges.{Elements, Bytes, InRange}
 use Rattle.records.specs.Room.{recordsFit}
 
 register-true : (r : ℕ) → r < registerCount → registerInRange (pos r) ≡ true
@@ -49,8 +49,8 @@ copy-back r o p q =
     rw (both-true _ _ (register-true r p) (both-true _ _ (register-true o q) (both-true _ _ none-true (both-true _ _ none-true none-true))))
 
 bytes-back : (take : Bool) (r f n b u d : ℕ) → Elements r f n → Bytes b u d
-    → bytesOf take (pos r) (pos f) (pos n) (pos b) (difference u d) ≡ Good (moved take r f n b u d)
-unfolding bytesOf bytesInRange pick
+    → movedOf take (pos r) (pos f) (pos n) (pos b) (difference u d) ≡ Good (moved take r f n b u d)
+unfolding movedOf bytesInRange pick
 bytes-back take r f n b u d p q =
     rw
     (both-true _ _ (register-true r (p .register)) (both-true _ _ (least-true 0 f (omega arith)) (both-true _ _ (least-true 1 n (p .some)) (both-true _ _ (least-true 0 b (omega arith)) (step-true b u d q)))), up-back b u d q, down-back b u d q)
@@ -66,7 +66,7 @@ unfolding wholeOf wholeInRange pick
 whole-back s = rw (both-true _ _ (least-true 0 s (omega arith)) (both-true _ _ none-true (both-true _ _ none-true (both-true _ _ none-true none-true))))
 
 -- the first record of a tape, and the others
-pub record-back : (r : Record) (t : List ℤ) → Within r → recordAt (recordNumbers r ++ t) 0 ≡ Good r
+pub record-back : (r : Record) (t : List ℤ) → InRange r → recordAt (recordNumbers r ++ t) 0 ≡ Good r
 unfolding recordOf pick is moved
 record-back (Copy r o) t h = copy-back r o (h .0) (h .1)
 record-back (Take r f n b u d) t h = bytes-back true r f n b u d (h .0) (h .1)
@@ -92,11 +92,11 @@ pub all-append : (P : Record → Type 0) (rs qs : List Record) → AllRecords P 
 all-append P [] qs p q = q
 all-append P (r ∷ rs) qs p q = (p .0, all-append P rs qs (p .1) q)
 
-abbrev pub AllWithin : List Record → Type 0
-AllWithin rs = AllRecords Within rs
+abbrev pub AllInRange : List Record → Type 0
+AllInRange rs = AllRecords InRange rs
 
 -- record k of a written tape
-pub tape-back : (rs : List Record) (t : List ℤ) (k : ℕ) → AllWithin rs → k < length rs
+pub tape-back : (rs : List Record) (t : List ℤ) (k : ℕ) → AllInRange rs → k < length rs
     → recordAt (tapeNumbers rs ++ t) (k * recordLength) ≡ Good (getD rs k (Whole 0))
 tape-back [] t k h l = absurd (not-suc-le-zero l)
 tape-back (r ∷ rs) t zero h l = rw append-assoc (record-back r (tapeNumbers rs ++ t) (h .0))
@@ -106,7 +106,7 @@ tape-back (r ∷ rs) t (suc k) h l =
 
 -- ---- ranges and lengths
 
-pub moved-within : (take : Bool) {r f n b u d : ℕ} → Elements r f n → Bytes b u d → Within (moved take r f n b u d)
+pub moved-within : (take : Bool) {r f n b u d : ℕ} → Elements r f n → Bytes b u d → InRange (moved take r f n b u d)
 unfolding moved
 moved-within true p q = (p, q)
 moved-within false p q = (p, q)

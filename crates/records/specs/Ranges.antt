@@ -21,13 +21,13 @@ pub record Bytes (b u d : ℕ) : Type 0 where
   pub down : d ≤ 65535
   pub way : min u d ≡ 0
 
-abbrev pub Within : Record → Type 0
-Within (Copy register object) = (register < registerCount) × (object < registerCount)
-Within (Take register first count byte up down) = Elements register first count × Bytes byte up down
-Within (Put register first count byte up down) = Elements register first count × Bytes byte up down
-Within (Fill register first count value) = Elements register first count × (value < 2 ^ 32)
-Within (Whole step) = step < 2 ^ 31
+abbrev pub InRange : Record → Type 0
+InRange (Copy register object) = (register < registerCount) × (object < registerCount)
+InRange (Take register first count byte up down) = Elements register first count × Bytes byte up down
+InRange (Put register first count byte up down) = Elements register first count × Bytes byte up down
+InRange (Fill register first count value) = Elements register first count × (value < 2 ^ 32)
+InRange (Whole step) = step < 2 ^ 31
 
-abbrev pub Sound : Decoded → Type 0
-Sound (Good r) = Within r
-Sound Bad = Unit {0}
+abbrev pub GoodInRange : Decoded → Type 0
+GoodInRange (Good r) = InRange r
+GoodInRange Bad = Unit {0}

@@ -8,6 +8,7 @@ use borrow.Author.Tests.{eqb-true, eqb-false}
 use lib.Dec.{eqb, leb}
 use lib.IntN.{ℤ}
 use lib.ListN.{length, getD}
+use Rattle.numbers.specs.Orders.{in-order-keeps}
 use Rattle.numbers.specs.Choice.{pick-case}
 use Rattle.kinds.specs.Widths.{bytesOf}
 use Rattle.sheet.specs.Sizes.{memoryLimit}
@@ -28,17 +29,10 @@ use Rattle.sheet_reader.specs.Reading.{readSheet}
 use Rattle.judging.specs.Judging.{tapeRecord, decodedOk, decodedTypes, rangeFrom, rangeRefusal}
 use Rattle.judging.specs.Laws.Turns.{tape-clear}
 use Rattle.judging.specs.Laws.Records.{whole-named}
-use Rattle.running.specs.Records.{inOrder, ranRecordWith, ranRecord}
+use Rattle.running.specs.Records.{ranRecordWith, ranRecord}
 use Rattle.running.specs.Running.{ranDecoded, ranFrom, ran, runRefusal, ranMemory}
 use Rattle.running.specs.Laws.Records.{decoded-types, decoded-length}
 use Rattle.running.specs.Outside.{OutsideRecord, OutsideFrom}
-
--- what holds before the elements of a record, and after each, holds after all
-in-order-keeps : (P : State → Type 0) (act : ℕ → State → State) (n : ℕ) → ((i : ℕ) → i < n → (s : State) → P s → P (act i s))
-    → (s : State) → P s → P (inOrder act n s)
-unfolding inOrder
-in-order-keeps P act zero h s q = q
-in-order-keeps P act (suc n) h s q = h n (omega arith) (inOrder act n s) (in-order-keeps P act n (λ i l. h i (omega arith)) s q)
 
 module _ (sh : Sheet) (len p : ℕ) where
   abbrev Kept : Machine → Machine → Type 0

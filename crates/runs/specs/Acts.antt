@@ -12,7 +12,7 @@ use Rattle.outcomes.specs.declared.Outcome.{Outcome}
 use Rattle.outcomes.specs.declared.Outcome.the-variants.{Skipped, Filled, Discarded, Placed}
 use Rattle.runs.specs.declared.Run.{Run}
 use Rattle.runs.specs.declared.Run.the-variants.{Idle, Bytes, Fills}
-use Rattle.runs.specs.declared.Turn.{Turn}
+use Rattle.runs.specs.declared.Progress.{Progress}
 use Rattle.runs.specs.Runs.{meetByte, meetFill, next, emit, held, ended, runs}
 
 -- one element meets its byte, or is given bits
@@ -83,7 +83,7 @@ unfolding pour each
 same-bits f n k v w e h = rw (add-one, e, h)
 
 -- what one turn keeps
-pub record Kept (r : Run) (k : ℕ) (o : Outcome) (t : Turn) : Type 0 where
+pub record Kept (r : Run) (k : ℕ) (o : Outcome) (t : Progress) : Type 0 where
   pub same : acts (t .done) ++ acts (t .held) ≡ acts r ++ one k o
   pub ends : Ends (t .held) (suc k)
 

@@ -27,7 +27,7 @@ use Rattle.registers.specs.Laws.Sized.{sized-places}
 use Rattle.registers.specs.declared.MatrixType.{MatrixType}
 use Rattle.addressing.specs.Valid.{SizedAccess}
 use Rattle.addressing.specs.declared.Access.{Access}
-use Rattle.accesses.specs.Refusals.{checked, checkedAccess}
+use Rattle.accesses.specs.Refusals.{checkedElements, checkedAccess}
 use Rattle.checking.specs.Steps.{isViewed, viewNamed, accessOf, stepCheck, movedCheck, accessCheck}
 use Rattle.checking.specs.Clear.{Clear}
 use Rattle.checking.specs.Laws.Names.{window-layout, window-view}
@@ -81,5 +81,5 @@ module _ (before after : List MatrixType) (t : MatrixType) (a : Access) where
   access-moved e = rw e
 
   pub access-clear : accessCheck before after t a .stop .number ≡ 0 → Clear t a
-  unfolding checked
+  unfolding checkedElements
   access-clear h = let e = not-empty h in record { filled = e; clear = rw (access-moved e) at h }

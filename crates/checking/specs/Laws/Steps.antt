@@ -69,8 +69,8 @@ check-registers edition tensors ts len (Store register window) =
     pick-case (λ (c : StepCheck). length (c .types) ≡ length ts) (isEmpty (theType ts register)) _ _ (λ e. refl) (λ e. refl)
 check-registers edition tensors ts len (Whole whole) = length-set ts (wholeResult whole) _
 
-checked-most : (f : ℕ → Located) (n : ℕ) (s : Stop) → accesses.checked f n s .placed ≤ n
-unfolding accesses.checked
+checked-most : (f : ℕ → Located) (n : ℕ) (s : Stop) → accesses.checkedElements f n s .placed ≤ n
+unfolding accesses.checkedElements
 checked-most f n s = pick-case (λ (x : ℕ). x ≤ n) (eqb (s .number) 0) (placedCount f n) 0 (λ e. placed-most f n) (λ e. omega arith)
 
 moved-most : (before after : List MatrixType) (t : MatrixType) (a : Access) → elementsOf a ≤ matrixPlaces → accessCheck before after t a .placed ≤ matrixPlaces
@@ -93,5 +93,5 @@ step-placed edition tensors ts len (Whole whole) s = omega arith
 
 -- an access that is not refused has placed what it counts
 pub access-placed : (a : Access) → checkedAccess a .stop .number ≡ 0 → checkedAccess a .placed ≡ placedCount (elementOutcome a) (elementsOf a)
-unfolding accesses.checked pick
+unfolding accesses.checkedElements pick
 access-placed a h = rw (eq-eqb (accesses.accessRefusal a .number) 0 h)
