@@ -2,4 +2,5 @@ pub mod Widths
 pub mod Values
 pub mod Interpretations
 pub mod Laws
+pub mod Signs
 pub mod ModuloLaws

@@ -7,6 +7,8 @@ use borrow.Author.Tests.{ltb-true, ltb-false, le-ltb, lt-ltb, le-leb, lt-leb, le
 use lib.Dec.{eqb, ltb, leb, leb·suc-suc}
 use lib.IntN.{ℤ, pos, negsuc, subℕ, _-ℤ_}
 use Rattle.numbers.specs.Choice.{pick, both, stop, pass, both-left, both-right, both-true}
+use Rattle.kinds.specs.Widths.{s32}
+use Rattle.kinds.specs.Signs.{value-lower, value-upper, width-s32}
 use Rattle.signed.specs.Numbers.{rise, fall, is, atLeast, spans, difference, signedOf, bitsOf}
 
 pub is-parts : (n : ℕ) (x : ℤ) → is n x ≡ both (leb (fall x) 0) (eqb (rise x) n)
@@ -74,14 +76,12 @@ fall-difference u d = ap fall (minus u d) ∙ sub-fall u d
 -- ---- bits
 
 pub lower : (v : ℕ) → v < 2 ^ 31 → signedOf v ≡ pos v
-unfolding signedOf pick
-lower v h = rw (lt-ltb v (2 ^ 31) h)
+lower v h = value-lower s32 v (rw width-s32 (omega arith))
 
 pub upper : (v : ℕ) → v < 2 ^ 32 → 2 ^ 31 ≤ v → signedOf v ≡ negsuc (2 ^ 32 - 1 - v)
-unfolding signedOf pick
 upper v f h =
     let e : 2 ^ 32 - 1 - v ≡ 2 ^ 32 - suc v = omega arith in
-    rw (le-ltb v (2 ^ 31) h, minus v (2 ^ 32), lt-ltb v (2 ^ 32) f, e)
+    rw e (rw width-s32 at (value-upper s32 v refl (rw width-s32 (omega arith)) (rw width-s32 f)))
 
 pub bits-signed : (v : ℕ) → v < 2 ^ 32 → bitsOf (signedOf v) ≡ v
 bits-signed v h = by (ltb v (2 ^ 31)) refl
