@@ -154,9 +154,9 @@ pub record Marking (entries : List ℕ) (m k : ℕ) (ws : List ℕ) : Type 0 whe
   pub far : all k (λ (i : ℕ). not (meets (sameEntry entries) i i)) ≡ true
 
 -- without a mark every byte is new
-unmarked : (x : ℕ) → unmarked noMarks x ≡ true
+start-unmarked : (x : ℕ) → unmarked noMarks x ≡ true
 unfolding unmarked pick
-unmarked x =
+start-unmarked x =
     let e : bitAt (getD noMarks (wordOf x) 0) (bitOf x) ≡ 0 = rw (none-marked (wordOf x)) (ap (λ (n : ℕ). n % 2) (zero-div (2 ^ bitOf x))) in
     by-test (hasByte x) (λ h. rw h (eq-eqb _ 0 e)) (λ h. rw h)
 
@@ -171,7 +171,7 @@ module _ (entries : List ℕ) (m : ℕ) where
       record {
         inside = zero-le;
         marks = no-marks;
-        each = unmarked;
+        each = start-unmarked;
         far = all-none _;
       }
 
