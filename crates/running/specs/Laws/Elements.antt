@@ -1,5 +1,5 @@
 -- The turns over the elements of a take, a put and a fill.
-use Prim.Native.Nat.{ℕ, zero, suc, _+_, _≤_}
+use Prim.Native.Nat.{ℕ, zero, suc, _+_, _<_, _≤_}
 use mathlib.Core.Path.{_≡_, refl, sym, ap, _∙_}
 use mathlib.Core.List.{List}
 use native.Mathlib.Numerals.{add-one}
@@ -37,6 +37,13 @@ module _ (act : ℕ → State → State) where
   pub order-start : (es m : List ℕ) (n : ℕ) → state es m (n + 0) ≡ inOrder act 0 (state es m n)
   unfolding inOrder
   order-start es m n = rw (add-zero n)
+
+-- what holds before the elements of a record, and after each, holds after all
+pub order-holds : (P : State → Type 0) (act : ℕ → State → State) (n : ℕ) → ((i : ℕ) → i < n → (s : State) → P s → P (act i s))
+    → (s : State) → P s → P (inOrder act n s)
+unfolding inOrder
+order-holds P act zero h s q = q
+order-holds P act (suc n) h s q = h n (omega arith) (inOrder act n s) (order-holds P act n (λ i l. h i (omega arith)) s q)
 
 -- one turn of the loop over the elements of a take, a put and a fill
 module _ (register first i : ℕ) where
