@@ -39,7 +39,7 @@ use Rattle.judging.specs.Laws.Turns.{tape-clear}
 use Rattle.judging.specs.Laws.Records.{whole-named}
 use Rattle.running.specs.Records.{ranRecordWith}
 use Rattle.running.specs.Running.{ranDecoded, ranFrom, ran, runRefusal, runTape, ranMemory}
-use Rattle.running.specs.Laws.Elements.{order-holds}
+use Rattle.running.specs.Laws.Elements.{in-order-keeps}
 use Rattle.running.specs.Laws.Records.{decoded-types, decoded-length, decoded-formed}
 use Rattle.running.specs.Laws.Fits.{decoded-fits}
 use Rattle.running.specs.Outside.{OutsideRecord, OutsideFrom}
@@ -52,14 +52,14 @@ module _ (sh : Sheet) (len p : ℕ) where
   unfolding ranRecordWith performedStep
   record-kept (Good (Copy register object)) m e o = refl
   record-kept (Good (Take register first count byte up down)) m e o =
-      order-holds (λ (s : State). getD (s .memory) p 0 ≡ getD (m .memory) p 0) _ count (λ i l s q. q) (stateOf m) refl
+      in-order-keeps (λ (s : State). getD (s .memory) p 0 ≡ getD (m .memory) p 0) _ count (λ i l s q. q) (stateOf m) refl
   record-kept (Good (Put register first count byte up down)) m e o =
       let size = bytesOf (theType (m .registers .types) register .kind) in
-      order-holds (λ (s : State). getD (s .memory) p 0 ≡ getD (m .memory) p 0) _ count
+      in-order-keeps (λ (s : State). getD (s .memory) p 0 ≡ getD (m .memory) p 0) _ count
       (λ i l s q. with-outside (s .memory) (byteAt byte up down i) size (elementOf (s .elements) register (first + i)) p (λ j h. o i j l h) ∙ q)
       (stateOf m) refl
   record-kept (Good (Fill register first count value)) m e o =
-      order-holds (λ (s : State). getD (s .memory) p 0 ≡ getD (m .memory) p 0) _ count (λ i l s q. q) (stateOf m) refl
+      in-order-keeps (λ (s : State). getD (s .memory) p 0 ≡ getD (m .memory) p 0) _ count (λ i l s q. q) (stateOf m) refl
   record-kept (Good (Whole k)) m e o = rw (whole-named sh (m .registers .types) len k e .is)
   record-kept Bad m e o = refl
 

@@ -39,11 +39,11 @@ module _ (act : ℕ → State → State) where
   order-start es m n = rw (add-zero n)
 
 -- what holds before the elements of a record, and after each, holds after all
-pub order-holds : (P : State → Type 0) (act : ℕ → State → State) (n : ℕ) → ((i : ℕ) → i < n → (s : State) → P s → P (act i s))
+pub in-order-keeps : (P : State → Type 0) (act : ℕ → State → State) (n : ℕ) → ((i : ℕ) → i < n → (s : State) → P s → P (act i s))
     → (s : State) → P s → P (inOrder act n s)
 unfolding inOrder
-order-holds P act zero h s q = q
-order-holds P act (suc n) h s q = h n (omega arith) (inOrder act n s) (order-holds P act n (λ i l. h i (omega arith)) s q)
+in-order-keeps P act zero h s q = q
+in-order-keeps P act (suc n) h s q = h n (omega arith) (inOrder act n s) (in-order-keeps P act n (λ i l. h i (omega arith)) s q)
 
 -- one turn of the loop over the elements of a take, a put and a fill
 module _ (register first i : ℕ) where

@@ -27,7 +27,7 @@ use Rattle.judging.specs.Laws.Elements.{bytes-filled, bytes-elements, fill-fill
 use Rattle.judging.specs.Laws.Records.{whole-named, whole-within}
 use Rattle.running.specs.Records.{ranRecordWith, ranRecord}
 use Rattle.running.specs.Running.{ranDecoded}
-use Rattle.running.specs.Laws.Elements.{order-holds}
+use Rattle.running.specs.Laws.Elements.{in-order-keeps}
 
 module _ (sh : Sheet) (m : Machine) (w : Formed m) (f : FitMachine m) where
   abbrev ts : List MatrixType
@@ -53,15 +53,15 @@ module _ (sh : Sheet) (m : Machine) (w : Formed m) (f : FitMachine m) where
   record-fits v (Take register first count byte up down) e =
       let g = given register (bytes-filled _ first count len byte up down e) in
       let n = bytes-elements _ first count len byte up down e in
-      order-holds (Fits ts) _ count
+      in-order-keeps (Fits ts) _ count
       (λ i l s q. took-fits ts (w .sized) register (first + i) g (inside register first count i n l) s q (byteAt byte up down i)) (stateOf m) f
   record-fits v (Put register first count byte up down) e =
       let size = bytesOf (theType ts register .kind) in
-      order-holds (Fits ts) _ count (λ i l s q. put-fits ts size register (first + i) (byteAt byte up down i) s q) (stateOf m) f
+      in-order-keeps (Fits ts) _ count (λ i l s q. put-fits ts size register (first + i) (byteAt byte up down i) s q) (stateOf m) f
   record-fits v (Fill register first count value) e =
       let g = given register (fill-filled _ first count value e) in
       let n = fill-elements _ first count value e in
-      order-holds (Fits ts) _ count
+      in-order-keeps (Fits ts) _ count
       (λ i l s q. gave-fits ts (w .sized) register (first + i) g (inside register first count i n l) s q value (fill-fits _ first count value e)) (stateOf m) f
   record-fits v (Whole k) e =
       let n = whole-named sh ts len k e in
