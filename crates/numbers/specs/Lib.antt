@@ -4,6 +4,7 @@ pub mod Little
 pub mod Lists
 pub mod Lines
 pub mod Places
+pub mod Bytes
 pub mod Joins
 pub mod Remainders
 pub mod Orders

@@ -2,8 +2,7 @@
 -- each number fits its type. Of the numbers only those are named whose range no judge of the model tests.
 use Prim.Native.Nat.{ℕ, _<_}
 use mathlib.Core.Path.{_≡_}
-use mathlib.Core.List.{List}
-use lib.ListN.{length, getD}
+use lib.ListN.{length}
 use Rattle.sheet.specs.Sizes.{rankPlaces, layoutPlaces, viewPlaces, stepPlaces}
 use Rattle.sheet.specs.Layouts.{theDimension, theLayout}
 use Rattle.sheet.specs.Views.{theViewDimension, theView}
@@ -15,10 +14,6 @@ use Rattle.sheet.specs.declared.View.{View}
 use Rattle.sheet.specs.declared.Step.{Step}
 use Rattle.sheet.specs.declared.Step.the-variants.{Nothing, Load, Store, Whole}
 use Rattle.sheet.specs.declared.Sheet.{Sheet}
-
--- each number of s is a byte
-abbrev pub AreBytes : List ℕ → Type 0
-AreBytes s = (i : ℕ) → i < length s → getD s i 0 < 256
 
 abbrev pub U16 : ℕ → Type 0
 U16 x = x < 65536

@@ -11,6 +11,7 @@ use lib.ListN.{length, getD, length-append, getD-replicate}
 use Rattle.numbers.specs.Choice.{pick, both-left, both-right}
 use Rattle.numbers.specs.Lists.{each}
 use Rattle.numbers.specs.Places.{none-all, set-keeps}
+use Rattle.numbers.specs.Bytes.{AreBytes}
 use Rattle.refusals.specs.Refusals.{outOfOrder, unknownEdition}
 use Rattle.sheet.specs.Sizes.{rankPlaces, layoutPlaces, viewPlaces, stepPlaces}
 use Rattle.sheet.specs.Codes.{editionTag, layoutTag, viewTag, fillTag, multiplyTag}
@@ -34,7 +35,7 @@ use Rattle.sheet_bytes.specs.Bytes.{fieldBytes, layoutBytes, viewBytes}
 use Rattle.sheet_bytes.specs.Laws.Lengths.{length-field}
 use Rattle.step_bytes.specs.Bytes.{stepTag, stepBytes}
 use Rattle.sheet_writer.specs.Bytes.{sheetBytes}
-use Rattle.round_trip.specs.Typed.{AreBytes, U16, DimensionFits, ClipFits, LayoutArrays, LayoutFits, ViewArrays, ViewFits, StepFits, SheetFits}
+use Rattle.round_trip.specs.Typed.{U16, DimensionFits, ClipFits, LayoutArrays, LayoutFits, ViewArrays, ViewFits, StepFits, SheetFits}
 use Rattle.round_trip.specs.Longest.{longest}
 use Rattle.round_trip.specs.Laws.Stretches.{Has, has-at, has-back, has-join, low-at, high-at}
 use Rattle.round_trip.specs.Laws.Layouts.{layout-at-shaped, layout-at-long, has-layout, layout-at-fits}

@@ -10,6 +10,7 @@ use lib.Dec.{eqb}
 use lib.ListN.{length, getD}
 use Rattle.numbers.specs.Choice.{pick}
 use Rattle.numbers.specs.Little.{u16At, u32At}
+use Rattle.numbers.specs.Bytes.{AreBytes}
 use Rattle.sheet.specs.Sheets.{emptySheet}
 use Rattle.sheet.specs.declared.Sheet.{Sheet}
 use Rattle.fields.specs.Fields.{fieldAt}
@@ -23,7 +24,6 @@ use Rattle.sheet_reader.specs.Laws.Ways.{tagAt, lengthAt, nextAt, Goes, Ways, t
 use Rattle.sheet_reader.specs.declared.Given.{Given}
 use Rattle.sheet_reader.specs.declared.ReadAnswer.{ReadAnswer}
 use Rattle.sheet_bytes.specs.Bytes.{layoutBytes, viewBytes}
-use Rattle.round_trip.specs.Typed.{AreBytes}
 use Rattle.round_trip.specs.Longest.{longest, enough}
 use Rattle.round_trip.specs.Laws.Stretches.{has-same, u16-below}
 use Rattle.round_trip.specs.Laws.Layouts.{layout-at-shaped, layout-at-long, layout-of, has-layout}

@@ -9,6 +9,7 @@ use borrow.Author.Tests.{leb-true, le-leb, lt-ltb, le-ltb, ne-eqb}
 use lib.Dec.{leb, eqb}
 use lib.ListN.{length, getD}
 use Rattle.numbers.specs.Choice.{pick, pick-case, both-left, both-right, between, between-low, between-high, between-true}
+use Rattle.numbers.specs.Bytes.{AreBytes}
 use Rattle.sheet.specs.Sizes.{viewPlaces}
 use Rattle.sheet.specs.Editions.{fillLength}
 use Rattle.sheet.specs.Codes.{editionTag, layoutTag, viewTag, fillTag, loadTag, storeTag, reduceTag, transposeTag, multiplyTag, reduceMode, reduceCode, combineOf, combineCode, objectOf, viewingOf}
@@ -22,7 +23,7 @@ use Rattle.contents.specs.Contents.{fillAt, windowAt, loadAt, storeAt, reduceAt
 use Rattle.sheet_reader.specs.Reading.{fieldRefusal, stepRefusal}
 use Rattle.sheet_reader.specs.declared.Given.{Given}
 use Rattle.step_bytes.specs.Bytes.{wholeTag, stepTag, windowBytes, wholeBytes, stepBytes}
-use Rattle.round_trip.specs.Typed.{AreBytes, StepFits}
+use Rattle.round_trip.specs.Typed.{StepFits}
 use Rattle.round_trip.specs.Laws.Stretches.{Has, has-shift, has-back, u32-of, u32-below, has-u32}
 use Rattle.round_trip.specs.Laws.Codes.{one-of, reduce-mode-of, reduce-code-between, reduce-code-of, combine-of, combine-code-small, combine-code-of, object-of, object-code-of, viewing-of, viewing-code-of}
 

@@ -10,6 +10,7 @@ use lib.ListN.{length, getD}
 use Rattle.numbers.specs.Choice.{pick, pick-case, both-left, both-right, between-high}
 use Rattle.numbers.specs.Little.{u16Bytes, u32Bytes}
 use Rattle.numbers.specs.Lists.{each}
+use Rattle.numbers.specs.Bytes.{AreBytes}
 use Rattle.kinds.specs.Widths.{width, fits}
 use Rattle.sheet.specs.Sizes.{registerCount, layoutPlaces, viewPlaces, sizeLimit, sizeOk}
 use Rattle.sheet.specs.Editions.{editionOk, limits, sideOk}
@@ -34,7 +35,7 @@ use Rattle.sheet_bytes.specs.Bytes.{headBytes, fieldBytes, editionField, dimens
 use Rattle.sheet_bytes.specs.Laws.Lengths.{length-layout, length-view, sized-within}
 use Rattle.step_bytes.specs.Bytes.{stepTag, windowBytes, wholeBytes, stepBytes, stepField}
 use Rattle.sheet_writer.specs.Bytes.{layoutsBytes, viewsBytes, stepsBytes, sheetBytes}
-use Rattle.round_trip.specs.Typed.{AreBytes, U16, U32, DimensionFits, LayoutFits, ClipFits, ViewFits, StepFits, SheetFits}
+use Rattle.round_trip.specs.Typed.{U16, U32, DimensionFits, LayoutFits, ClipFits, ViewFits, StepFits, SheetFits}
 use Rattle.round_trip.specs.Laws.Codes.{clamp-code-small, reduce-code-between, combine-code-small, object-code-small, viewing-code-small, flag-code-small}
 use Rattle.round_trip.specs.Laws.Layouts.{layout-held}
 use Rattle.round_trip.specs.Laws.Views.{view-held}

@@ -41,5 +41,5 @@ module _ (edition : ℕ) (ts : List MatrixType) (es memory : List ℕ) (s : Size
   pub whole-fits : length ts ≡ registerCount → length es ≡ elementPlaces → (w : WholeStep) → WholeOk w
       → wholeRefusal edition ts (length memory) w .number ≡ 0 → Fit (wholeTypes ts w) (wholeElements ts es memory w)
   whole-fits p q w ok e =
-      fit-made ts es (wholeResult w) (wholeType ts w) (wholeElement ts es memory w) p q (ok .result) s (sized-type ts w s (ok .parts)) f
+      fit-made ts es (wholeResult w) (wholeType ts w) (wholeElement ts es memory w) p q s (sized-type ts w s (ok .parts)) f
       (element-fits w (ok .parts) e)
