@@ -1081,6 +1081,29 @@ misspelt 'bytes 0g\nbytes 0\nbytes 01 0200 01\n' "text:1:7: expected pairs of he
     'text:3:1: edition: length 2 runs past the end of the sheet by 1'
 misspelt 'edition 1\nallow refused\n' "text:2:7: 'allow refused' must stand before the first field"
 misspelt 'allow\n' 'text:1:1: the sheet has no edition' "text:1:6: expected 'refused'"
+# The longest sheet, which is read; its first step has no input.
+{
+    echo 'edition 2'
+    for number in 0 1 2 3; do
+        echo "layout L$number Constant"
+        yes '  dim size 1 stride 1 span 1' | head -n 5
+    done
+    for number in 0 1 2 3; do
+        echo "view V$number permutation 0 1 2 3 4"
+        yes '  dim size 1 stride 1' | head -n 5
+    done
+    yes "vector r1 s32 of r0 as u8 $weights bias 0" | head -n 32
+} > text
+call 0 asm text -o sheet
+says 'text: warning: refusal 7 at step 0: vector: register 0 is empty'
+sed -n 's/^#define MOONBLEAT_SHEET_MAX \([0-9]*\).*/\1/p' "$root/include/moonbleat.h" > expected
+wc -c < sheet > stdout
+same 'the length of the longest sheet' stdout expected
+call 0 show --asm sheet
+cp stdout text
+call 0 asm text -o again
+same 'the longest sheet of its own text' again sheet
+
 # Many errors: all are counted, the first ten printed.
 { echo 'edition 1'; yes 'fill r4 1x1 u8 0' | head -n 40; } > text
 call 3 asm text -o out
