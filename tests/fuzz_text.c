@@ -28,8 +28,9 @@ struct sample {
 /* Words that some line or other has. */
 static const char *const words[] = {
     "edition 1\n", "edition 2\n", "allow refused\n", "layout L0 Repeat\n", "view V0 permutation 0\n",
-    "dim size 8 stride 1 span 8\n", "clip rows 0 1\n", "fill r0 2x2 s8 -1\n", "load r0 L0 base 0\n", "store r0 L0 V0 base 16\n",
-    "reduce r1 of r0 1x1 both add\n", "transpose r1 of r0\n", "multiply-add r0 A r1 B r2 C r3\n",
+    "dim size 8 stride 1 span 8\n", "clip rows 0 1\n", "fill r0 2x2 s8 -1\n", "load r0 L0 base 0\n",
+    "store r0 L0 V0 base 16\n", "reduce r1 of r0 1x1 both add\n", "transpose r1 of r0\n",
+    "multiply-add r0 A r1 B r2 C r3\n",
     "vector r1 s32 of r0 as packed-s8 matrix s8 4x4 column-major stride 4 offset 64 bias 96\n",
     "vector r0 u32 of r1 as u16 matrix s32 16x1 row-major stride 0 offset 1\n", "bytes 01 0100 01\n",
     "bytes 20\n", " none ", " 255 ", " 256 ", " -1 ", " 0x10 ", " 65536 ", " 4294967296 ", " 99999999999999999999 ",
@@ -38,7 +39,8 @@ static const char *const words[] = {
 };
 
 static uint64_t state = 1;
-static size_t accepted, failed, read_sheets[MOONBLEAT_EDITION_MAX + 1]; /* those that are read, by edition */
+static size_t accepted, failed;
+static size_t read_sheets[MOONBLEAT_EDITION_MAX + 1]; /* by edition */
 
 /* A number below a limit (xorshift; the same in every run). */
 static size_t below(size_t limit)

@@ -132,10 +132,12 @@ int main(int argc, char **argv)
     closedir(folder);
     fclose(nowhere);
     printf("sheets put through their text: %zu", sheets);
-    if (!print_editions(read_sheets)) {
+    bool all_met = print_editions(read_sheets);
+    printf("\n");
+    if (!all_met) {
         fail(argv[1], "an edition was not met");
     }
-    printf("\nrefused by number:");
+    printf("refused by number:");
     for (size_t number = 1; number <= MOONBLEAT_REFUSED_RECORD; number++) {
         printf(" %zu:%zu", number, refused[number]);
         /* The tape's length is not asked for. */
