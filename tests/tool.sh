@@ -411,6 +411,9 @@ misstepped '14 1 16' 'vector: bias 0: bytes 4294967295 to 4294967298 do not all 
     "$edition_2 $column" 26 1300 01 05 00 00 01 02 08 00 0800 30000000 01 FFFFFFFF
 bytes sheet "$edition_2 $column" 26 1300 01 05 00 00 01 02 08 00 0800 30000000 01 38000000
 call 0 check sheet --memory 64
+call 0 asm "$strips/13-two-layer-network/sheet.txt" -o sheet
+refused '14 2 17' 'vector: matrix row 2, column 5: byte 30 does not lie in the memory of 30 bytes' check sheet --memory 30
+refused '14 3 14' 'vector: bias 2: bytes 64 to 67 do not all lie in the memory of 67 bytes' check sheet --memory 67
 round='10 1000 01 00 00000000 0100 0800 0100 0000 0400'
 misstepped '15 1 4' 'store: row 0, column 4: byte 0 has element 0 already, row 0, column 0' \
     "$edition $round $fill $store"
