@@ -42,7 +42,7 @@ field-number s tag p len g =
     (pick-most _ (pick-most _ (pick-most _ (pick-most _ (pick-most _ (omega arith) (omega arith)) (omega arith)) (omega arith)) (omega arith))
     (pick-most _ (pick-most _ (pick-most _ (pick-most _ (pick-most _ (omega arith) (omega arith)) (omega arith)) (omega arith)) (omega arith))
     (pick-most _ (omega arith)
-    (pick-most _ (pick-most _ (pick-most _ (pick-most _ (omega arith) (omega arith)) (omega arith)) (omega arith)) (omega arith)))))
+    (pick-most _ (pick-most _ (pick-most _ (pick-most _ (pick-most _ (omega arith) (omega arith)) (omega arith)) (omega arith)) (omega arith)) (omega arith)))))
 
 -- R of a reading that is over, P of one that goes on
 abbrev pub Goes : (ℕ → Sheet → Type 0) → (ReadAnswer → Type 0) → Turn → Type 0
