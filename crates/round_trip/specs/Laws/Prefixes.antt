@@ -76,9 +76,9 @@ module _ (s t : List ℕ) (bs : AreBytes s) (bt : AreBytes t) (same : (i : ℕ) 
     unfolding windowAt
     window-same q h = rw (same q (omega arith), same (q + 1) (omega arith), u32-same (q + 2) (omega arith))
 
-    numbers-same : vectorNumbers s p ≡ vectorNumbers t p
-    unfolding vectorNumbers
-    numbers-same =
+    step-at-same : (tag : ℕ) → stepAt s tag p ≡ stepAt t tag p
+    unfolding stepAt fillAt loadAt storeAt reduceAt transposeAt multiplyAt vectorAt vectorNumbers
+    step-at-same tag =
         rw (
           same p (omega arith),
           same (p + 1) (omega arith),
@@ -88,30 +88,13 @@ module _ (s t : List ℕ) (bs : AreBytes s) (bt : AreBytes t) (same : (i : ℕ) 
           same (p + 5) (omega arith),
           same (p + 6) (omega arith),
           same (p + 7) (omega arith),
-          u16-same (p + 8) (omega arith),
-          u32-same (p + 10) (omega arith),
           same (p + 14) (omega arith),
-          u32-same (p + 15) (omega arith),
-        )
-
-    vector-same : vectorAt s p ≡ vectorAt t p
-    unfolding vectorAt
-    vector-same = rw (same (p + 7) (omega arith), same (p + 14) (omega arith), numbers-same)
-
-    step-at-same : (tag : ℕ) → stepAt s tag p ≡ stepAt t tag p
-    unfolding stepAt fillAt loadAt storeAt reduceAt transposeAt multiplyAt
-    step-at-same tag =
-        rw (
-          same p (omega arith),
-          same (p + 1) (omega arith),
-          same (p + 2) (omega arith),
-          same (p + 3) (omega arith),
-          same (p + 4) (omega arith),
-          same (p + 5) (omega arith),
+          u16-same (p + 8) (omega arith),
           u32-same (p + 4) (omega arith),
+          u32-same (p + 10) (omega arith),
+          u32-same (p + 15) (omega arith),
           window-same (p + 1) (omega arith),
           window-same (p + 2) (omega arith),
-          vector-same,
         )
 
     -- it is judged the same

@@ -115,10 +115,10 @@ module _ (s : List ℕ) (p edition layouts views : ℕ) (few : views ≤ viewPla
       λ i. Store (a i) (w i)
   step-of (Whole whole) e h = whole-of s p edition whole h
 
--- a tag is known in each edition, or in those that have vectors
-known : (edition tag : ℕ) → pick (eqb tag vectorTag) (hasVectors edition) true ≡ true → tagKnown edition tag ≡ true
+-- a tag other than a vector step's is known in each edition, and that in those with vectors
+known-in : (edition tag : ℕ) → pick (eqb tag vectorTag) (hasVectors edition) true ≡ true → tagKnown edition tag ≡ true
 unfolding tagKnown
-known edition tag e = rw e (pick-case (λ (b : Bool). b ≡ true) (eqb edition 0) true true (λ q. refl) (λ q. refl))
+known-in edition tag e = rw e (pick-case (λ (b : Bool). b ≡ true) (eqb edition 0) true true (λ q. refl) (λ q. refl))
 
 -- a whole step's tag and bytes: the length that its tag has, at most 19, a tag of a step, and one that its edition knows
 record Tagged (edition : ℕ) (w : WholeStep) : Type 0 where
@@ -131,15 +131,15 @@ record Tagged (edition : ℕ) (w : WholeStep) : Type 0 where
 tagged : (edition : ℕ) (w : WholeStep) → Tagged edition w
 unfolding stepLength fillLength vectorOk pick
 tagged edition (Fill register rows columns kind value) =
-    record { long = refl; short = omega arith; low = omega arith; high = omega arith; known = λ e. known edition fillTag refl }
+    record { long = refl; short = omega arith; low = omega arith; high = omega arith; known = λ e. known-in edition fillTag refl }
 tagged edition (Reduce result source rows columns mode combine) =
-    record { long = refl; short = omega arith; low = omega arith; high = omega arith; known = λ e. known edition reduceTag refl }
+    record { long = refl; short = omega arith; low = omega arith; high = omega arith; known = λ e. known-in edition reduceTag refl }
 tagged edition (Transpose result source) =
-    record { long = refl; short = omega arith; low = omega arith; high = omega arith; known = λ e. known edition transposeTag refl }
+    record { long = refl; short = omega arith; low = omega arith; high = omega arith; known = λ e. known-in edition transposeTag refl }
 tagged edition (MultiplyAdd result a b c) =
-    record { long = refl; short = omega arith; low = omega arith; high = omega arith; known = λ e. known edition multiplyTag refl }
+    record { long = refl; short = omega arith; low = omega arith; high = omega arith; known = λ e. known-in edition multiplyTag refl }
 tagged edition (Vector v) =
-    record { long = refl; short = omega arith; low = omega arith; high = omega arith; known = λ e. known edition vectorTag (both-left _ _ e) }
+    record { long = refl; short = omega arith; low = omega arith; high = omega arith; known = λ e. known-in edition vectorTag (both-left _ _ e) }
 
 -- a step's content has at most 19 bytes
 pub step-short : (edition : ℕ) (st : Step) → length (stepBytes edition st) ≤ 19
@@ -166,8 +166,8 @@ module _ (edition layouts views : ℕ) where
   pub tag-known : (st : Step) → stepOk edition layouts views st ≡ true → tagKnown edition (stepTag st) ≡ true
   unfolding pick
   tag-known Nothing e = absurd (true≢false (sym e))
-  tag-known (Load register object window) e = known edition loadTag refl
-  tag-known (Store register window) e = known edition storeTag refl
+  tag-known (Load register object window) e = known-in edition loadTag refl
+  tag-known (Store register window) e = known-in edition storeTag refl
   tag-known (Whole whole) e = tagged edition whole .known e
 
 -- a tag from a fill's to the last is judged as a step's
