@@ -14,7 +14,7 @@ use Rattle.numbers.specs.Places.{none-all, set-keeps}
 use Rattle.numbers.specs.Bytes.{AreBytes}
 use Rattle.refusals.specs.Refusals.{outOfOrder, unknownEdition}
 use Rattle.sheet.specs.Sizes.{rankPlaces, layoutPlaces, viewPlaces, stepPlaces}
-use Rattle.sheet.specs.Codes.{editionTag, layoutTag, viewTag, fillTag, multiplyTag}
+use Rattle.sheet.specs.Codes.{editionTag, layoutTag, viewTag, fillTag, lastStepTag}
 use Rattle.sheet.specs.Layouts.{noDimension, noLayout, theLayout}
 use Rattle.sheet.specs.Views.{noViewDimension, noClip, noView, theView}
 use Rattle.sheet.specs.Steps.{noCell}
@@ -151,7 +151,7 @@ module _ (s : List ℕ) (at : ℕ) (sh : Sheet) (g : GrownFrom s at sh) (inside 
         stands = stands-more s at sh sh′ viewTag (viewBytes v) g more long t (has-view s (at + 3) len (taken .head));
       }
 
-  step-from : (taken : StepTaken s (at + 3) (lengthAt s at) (givenOf sh) (tagAt s at)) → fillTag ≤ tagAt s at → tagAt s at ≤ multiplyTag → GrownFrom s (nextAt s at) (withStep sh (stepAt s (tagAt s at) (at + 3)))
+  step-from : (taken : StepTaken s (at + 3) (lengthAt s at) (givenOf sh) (tagAt s at)) → fillTag ≤ tagAt s at → tagAt s at ≤ lastStepTag → GrownFrom s (nextAt s at) (withStep sh (stepAt s (tagAt s at) (at + 3)))
   step-from taken low high =
       let st = stepAt s (tagAt s at) (at + 3) in
       let sh′ = withStep sh st in

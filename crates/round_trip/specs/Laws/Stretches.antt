@@ -38,7 +38,7 @@ module _ (s : List ℕ) (p : ℕ) where
       let e : i + suc (length a) ≡ i + 1 + length a = omega arith in
       rw e (has-rest (i + 1) a b (h .1))
 
-  has-append : (i : ℕ) (a b : List ℕ) → Has s p i a → Has s p (i + length a) b → Has s p i (a ++ b)
+  pub has-append : (i : ℕ) (a b : List ℕ) → Has s p i a → Has s p (i + length a) b → Has s p i (a ++ b)
   has-append i [] b h g = rw add-zero at g
   has-append i (x ∷ a) b h g =
       let e : i + suc (length a) ≡ i + 1 + length a = omega arith in
