@@ -3,3 +3,5 @@ pub mod Values
 pub mod Interpretations
 pub mod Laws
 pub mod ModuloLaws
+pub mod Raised
+pub mod Sums

@@ -4,5 +4,6 @@ pub mod Little
 pub mod Lists
 pub mod Lines
 pub mod Places
+pub mod First
 pub mod Joins
 pub mod Remainders
