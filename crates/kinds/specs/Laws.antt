@@ -1,11 +1,13 @@
 -- Laws of the width and of the bytes of an element, for the layers above.
 use mathlib.Core.Path.{_≡_, refl}
+use mathlib.Core.Bool.{true}
 use mathlib.Core.Logic.{_⊎_, inl, inr}
 use Prim.Native.Nat.{ℕ, _*_, _/_, _≤_}
 use native.Mathlib.Omega.{arith}
 use lib.Dec.{ltb}
-use Rattle.numbers.specs.Choice.{pick-case}
-use Rattle.kinds.specs.Widths.{width, bytesOf}
+use borrow.Author.Tests.{le-ltb}
+use Rattle.numbers.specs.Choice.{pick, pick-case, between-low}
+use Rattle.kinds.specs.Widths.{wordKind, width, bytesOf}
 
 -- an element has 1, 2 or 4 bytes
 abbrev pub ElementSize : ℕ → Type 0
@@ -18,6 +20,12 @@ width-case kind P a b d = pick-case P (ltb kind 2) _ _ (λ e. a) (λ e. pick-cas
 
 pub width-le : (kind : ℕ) → width kind ≤ 32
 width-le kind = width-case kind (λ (w : ℕ). w ≤ 32) (omega arith) (omega arith) (omega arith)
+
+pub word-width : (kind : ℕ) → wordKind kind ≡ true → width kind ≡ 32
+unfolding width pick
+word-width kind e =
+    let h = between-low 4 5 kind e in
+    rw (le-ltb kind 2 (omega arith), le-ltb kind 4 h)
 
 pub bytes-size : (kind : ℕ) → ElementSize (bytesOf kind)
 unfolding bytesOf

@@ -4,3 +4,5 @@ pub mod Interpretations
 pub mod Laws
 pub mod Signs
 pub mod ModuloLaws
+pub mod Raised
+pub mod Sums

@@ -54,7 +54,7 @@ pub fn fits(kind: u8, x: u32) -> bool
     (x as u64) < modulus(kind)
 }
 
-fn signed(kind: u8) -> bool
+pub fn signed(kind: u8) -> bool
     ensures { λ r. ⌜ r ≡ signed kind ⌝ }
 {
     kind % 2 == 1
@@ -81,7 +81,7 @@ fn taken(kind: u8, x: u32) -> u64
 }
 
 // The value of raw bits plus 2^32, which is never below zero.
-fn raised(kind: u8, x: u32) -> u64
+pub fn raised(kind: u8, x: u32) -> u64
     ensures { λ r. ⌜ r ≡ x + (2 ^ 32 - taken kind x) ⌝ }
 {
     x as u64 + (4294967296 - taken(kind, x))

@@ -5,6 +5,7 @@ pub mod Lists
 pub mod Lines
 pub mod Places
 pub mod Bytes
+pub mod First
 pub mod Joins
 pub mod Remainders
 pub mod Orders

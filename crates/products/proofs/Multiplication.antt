@@ -2,31 +2,23 @@
 use mathlib.Core.Path.{_≡_, refl, ap, _∙_}
 use mathlib.Core.List.{List}
 use mathlib.Core.Bool.{true}
-use Prim.Native.Nat.{ℕ, zero, suc, _+_, _*_, _%_, _^_, _<_, _≤_}
-use native.Mathlib.Nat.{mul-le-mul, add-comm}
+use Prim.Native.Nat.{ℕ, zero, suc, _+_, _*_, _%_, _^_, _<_}
+use native.Mathlib.Nat.{add-comm}
 use native.Mathlib.Numerals.{add-one}
 use native.Mathlib.Omega.{arith}
 use lib.IntN.{ℤ, _*ℤ_}
 use lib.ListN.{getD}
 use Rattle.numbers.specs.Remainders.{remainder}
 use Rattle.kinds.specs.ModuloLaws.{dot-more, sum-more}
+use Rattle.kinds.specs.Sums.{sumZ}
 use Rattle.registers.specs.Sized.{SizedType}
 use Rattle.registers.specs.Laws.Sized.{sized-places}
 use Rattle.registers.specs.Laws.Grids.{row-end, blank-given}
 use Rattle.registers.specs.declared.MatrixType.{MatrixType}
 use Rattle.products.specs.Laws.Shapes.{rows-agree, inner-agree, columns-agree}
-use Rattle.products.specs.Multiplying.{sumZ, valueAt, productAt, multiplied}
+use Rattle.products.specs.Multiplying.{valueAt, productAt, multiplied}
 use Rattle.products.specs.Shapes.{multiplyAgrees}
 use Rattle.products.specs.Residues.{residueAt, residuesOf, dotOf, dotPlus}
-
--- a product of two residues and a third fit 64 bits
-pub sum-fits : (s x y : ℕ) → s < 2 ^ 32 → x < 2 ^ 32 → y < 2 ^ 32 → s + x * y < 2 ^ 64
-sum-fits s x y a b e =
-    let h : x * y ≤ 4294967295 * 4294967295 = mul-le-mul {n₂ = 4294967295} {m₂ = 4294967295} (omega arith) (omega arith) in
-    omega arith
-
-pub product-fits : (x y : ℕ) → x < 2 ^ 32 → y < 2 ^ 32 → x * y < 2 ^ 64
-product-fits x y b e = omega (arith, sum-fits 0 x y (omega arith) b e)
 
 -- one more product
 pub dot-next : (x y : List ℕ) (p q n t : ℕ) {s a b : ℕ} → s ≡ dotOf x y p q n t → a ≡ getD x (p + t) 0 → b ≡ getD y (q + t * n) 0

@@ -1,16 +1,12 @@
 -- Multiply-add: exact A times B plus C, modulo 2^32.
 use mathlib.Core.List.{List}
-use Prim.Native.Nat.{ℕ, zero, suc, _^_}
-use lib.IntN.{ℤ, pos, _+ℤ_, _*ℤ_}
+use Prim.Native.Nat.{ℕ, _^_}
+use lib.IntN.{ℤ, _+ℤ_, _*ℤ_}
 use Rattle.kinds.specs.Values.{value}
+use Rattle.kinds.specs.Sums.{sumZ}
 use Rattle.numbers.specs.Remainders.{remainder}
 use Rattle.registers.specs.Grids.{matrixAt}
 use Rattle.registers.specs.declared.MatrixType.{MatrixType}
-
--- the sum of g 0 .. g (n - 1)
-unfoldable pub sumZ : (ℕ → ℤ) → ℕ → ℤ
-sumZ g zero = pos 0
-sumZ g (suc n) = sumZ g n +ℤ g n
 
 -- the value of element (i, j) of register r, which holds a matrix of type t
 abbrev pub valueAt : List ℕ → ℕ → MatrixType → ℕ → ℕ → ℤ

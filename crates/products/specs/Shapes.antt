@@ -2,7 +2,8 @@
 use mathlib.Core.Bool.{Bool}
 use Prim.Native.Nat.{ℕ}
 use lib.Dec.{eqb}
-use Rattle.numbers.specs.Choice.{pick, both, between}
+use Rattle.numbers.specs.Choice.{pick, both}
+use Rattle.kinds.specs.Widths.{wordKind}
 use Rattle.refusals.specs.Refusals.{emptyRegister, shapesDisagree}
 use Rattle.registers.specs.Types.{isEmpty}
 use Rattle.registers.specs.declared.MatrixType.{MatrixType}

@@ -45,6 +45,14 @@ block-same rows columns f h e =
     line-same blank 0 (numbered columns f) (numbered columns h) (rows * columns)
     (λ k l. e (k / columns) (k % columns) (number-row rows columns k l) (number-column rows columns k l))
 
+-- a block of one column
+pub column-block : (rows : ℕ) (g : ℕ → ℕ) → line blank 0 g rows ≡ block rows 1 (λ (i j : ℕ). g i)
+unfolding block
+column-block rows g =
+    let e : rows ≡ rows * 1 = omega arith in
+    line-same blank 0 g (numbered 1 (λ (i j : ℕ). g i)) rows (λ k l. let d : k ≡ k / 1 = omega arith in ap g d)
+    ∙ ap (λ (n : ℕ). line blank 0 (numbered 1 (λ (i j : ℕ). g i)) n) e
+
 -- the first i rows of a block
 unfoldable pub rowsOf : ℕ → (ℕ → ℕ → ℕ) → ℕ → List ℕ
 rowsOf columns f i = line blank 0 (numbered columns f) (i * columns)

@@ -16,11 +16,8 @@ returns-3 : tie.Need-returns-3
 unfolding multiplyAgrees
 returns-3 c = pass (search tests) (pass (search tests) (stop _ (search tests)))
 
-cast-between : tie.Need-cast-between
-cast-between c = search needs
-
-between-requires : tie.Need-between-requires
-between-requires c κs = search needs
+word-kind-requires : tie.Need-word-kind-requires
+word-kind-requires c κs = search needs
 
 returns-4 : tie.Need-returns-4
 unfolding multiplyAgrees
@@ -28,4 +25,4 @@ returns-4 c = pass (search tests) (pass (search tests) (pass (search tests) (sea
 
 pub multiply-agrees-spec : {M : Type 1} → statement M
 multiply-agrees-spec =
-    tie.close (tie.spec returns returns-2 returns-3 cast-between between-requires returns-4)
+    tie.close (tie.spec returns returns-2 returns-3 word-kind-requires returns-4)

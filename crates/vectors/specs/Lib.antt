@@ -1,0 +1,10 @@
+pub mod Places
+pub mod Refusals
+pub mod Saturation
+pub mod Components
+pub mod Results
+pub mod Within
+pub mod Residues
+pub mod Laws
+pub mod Theorems
+pub mod Examples
