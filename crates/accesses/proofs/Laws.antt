@@ -11,8 +11,8 @@ use lib.ListN.{length, getD, set, length-set}
 use lib.Seq.{getD-set-same, getD-set-other}
 use borrow.Author.Tests.{lt-ltb, le-ltb, eq-eqb, ne-eqb, eqb-true, eqb-false, not-true}
 use Rattle.numbers.specs.Choice.{pick, both}
-use Rattle.numbers.specs.All.{all-at, all-true}
-use Rattle.numbers.specs.Places.{by-test, by-order}
+use Rattle.numbers.specs.Laws.All.{all-at, all-true}
+use Rattle.numbers.specs.Laws.Choice.{by-test, by-order}
 use Rattle.outcomes.specs.declared.Outcome.{Outcome}
 use Rattle.outcomes.specs.declared.Outcome.the-variants.{Skipped, Filled, Discarded, Placed}
 use Rattle.addressing.specs.declared.Access.{Access}

@@ -12,9 +12,11 @@ use lib.ListN.{length, getD, set, length-set, length-replicate}
 use lib.Pow.{pow-pos, pow-lt, pow-add, shl-shr, shl-exact}
 use lib.Seq.{ext-getD, getD-set-same, getD-set-other}
 use borrow.Author.Tests.{eq-eqb, ne-eqb, ltb-true}
-use Rattle.numbers.specs.Choice.{pick, both, both-right}
-use Rattle.numbers.specs.All.{all, all-none, all-more, all-false}
-use Rattle.numbers.specs.Places.{by-test, by-place, by-order, none-all}
+use Rattle.numbers.specs.Choice.{pick, both}
+use Rattle.numbers.specs.Laws.Choice.{both-right, by-test, by-place, by-order}
+use Rattle.numbers.specs.All.{all}
+use Rattle.numbers.specs.Laws.All.{all-none, all-more, all-false}
+use Rattle.numbers.specs.Laws.Places.{none-all}
 use Rattle.accesses.specs.Refusals.{meets, apart}
 use Rattle.accesses.specs.Entries.{filledEntry, hasByte, hits, sameEntry}
 use Rattle.accesses.specs.Marks.{markWords, noMarks, wordOf, bitOf, bitAt, unmarked, withMark, withoutMarks, ClearFrom}

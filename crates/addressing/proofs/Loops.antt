@@ -9,8 +9,9 @@ use lib.Dec.{leb}
 use lib.IntN.{ℤ, pos, negsuc, _+ℤ_}
 use lib.ListN.{length, getD, set, replicate, length-set}
 use lib.Seq.{getD-set-same, getD-set-other}
-use Rattle.numbers.specs.Choice.{pick, pick-case}
-use Rattle.numbers.specs.Places.{by-place, none-all}
+use Rattle.numbers.specs.Choice.{pick}
+use Rattle.numbers.specs.Laws.Choice.{pick-case, by-place}
+use Rattle.numbers.specs.Laws.Places.{none-all}
 use Rattle.sheet.specs.Laws.Facts.{InSize, layout-most}
 use Rattle.sheet.specs.Layouts.{theDimension, layoutOk}
 use Rattle.sheet.specs.declared.ClampMode.{ClampMode}

@@ -1,6 +1,7 @@
 -- The ranges of a record's numbers: those that six signed 32-bit numbers can say, and that are not out of range.
 use Prim.Native.Nat.{ℕ, _≤_, _<_, _^_, min}
 use mathlib.Core.Path.{_≡_}
+use mathlib.Core.List.{List, [], _∷_}
 use Rattle.sheet.specs.Sizes.{registerCount}
 use Rattle.records.specs.declared.Record.{Record}
 use Rattle.records.specs.declared.Record.the-variants.{Copy, Take, Put, Fill, Whole}
@@ -31,3 +32,10 @@ InRange (Whole step) = step < 2 ^ 31
 abbrev pub GoodInRange : Decoded → Type 0
 GoodInRange (Good r) = InRange r
 GoodInRange Bad = Unit {0}
+
+abbrev pub AllRecords : (Record → Type 0) → List Record → Type 0
+AllRecords P [] = Unit {0}
+AllRecords P (r ∷ rs) = P r × AllRecords P rs
+
+abbrev pub AllInRange : List Record → Type 0
+AllInRange rs = AllRecords InRange rs

@@ -10,7 +10,7 @@ use lib.Dec.{leb}
 use lib.ListN.{length, getD, take, drop}
 use lib.Seq.{sets, sets-eq, take-at, take-all, length-take-le, getD-take}
 use Rattle.numbers.specs.Choice.{pick}
-use Rattle.numbers.specs.Places.{by-test, by-order}
+use Rattle.numbers.specs.Laws.Choice.{by-test, by-order}
 use Rattle.numbers.specs.Bytes.{AreBytes}
 use Rattle.sheet.specs.Sheets.{writable}
 use Rattle.sheet.specs.Laws.Within.{within, within-writable}

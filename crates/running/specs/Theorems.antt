@@ -8,8 +8,8 @@ use borrow.Author.Tests.{eqb-true, eqb-false}
 use lib.Dec.{eqb, leb}
 use lib.IntN.{ℤ}
 use lib.ListN.{length, getD}
-use Rattle.numbers.specs.Orders.{in-order-keeps}
-use Rattle.numbers.specs.Choice.{pick-case}
+use Rattle.numbers.specs.Laws.Orders.{in-order-keeps}
+use Rattle.numbers.specs.Laws.Choice.{pick-case}
 use Rattle.numbers.specs.Bytes.{AreBytes}
 use Rattle.kinds.specs.Widths.{bytesOf}
 use Rattle.sheet.specs.Sizes.{memoryLimit}

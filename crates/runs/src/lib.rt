@@ -5,7 +5,7 @@ ghost use lib.ListN.{length};
 ghost use lib.Seq.{sets};
 ghost use Rattle.sheet.specs.Sizes.{matrixPlaces, memoryLimit};
 ghost use Rattle.records.specs.Records.{recordLength, tapeNumbers};
-ghost use Rattle.records.specs.Laws.{AllInRange};
+ghost use Rattle.records.specs.Ranges.{AllInRange};
 ghost use Rattle.runs.specs.Runs.{progress, lone, meetByte, meetFill, next, emit, runRecords};
 ghost use Rattle.runs.specs.Ranges.{Fitting, Steady, SmallRun};
 use outcomes::Outcome;

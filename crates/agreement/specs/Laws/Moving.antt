@@ -17,8 +17,8 @@ use Rattle.carrying.specs.Steps.{Machine, stateOf, machineOf}
 use Rattle.records.specs.declared.Record.the-variants.{Fill}
 use Rattle.records.specs.Records.{moved}
 use Rattle.runs.specs.Runs.{runsRecords}
-use Rattle.runs.specs.Acts.{Act, meet, give, one, spread, pour}
-use Rattle.runs.specs.States.{fold, elementwise, fold-append, same-records}
+use Rattle.runs.specs.Acts.{Act, one, spread, pour, meet, give}
+use Rattle.runs.specs.Laws.States.{fold, elementwise, fold-append, same-records}
 use Rattle.running.specs.Records.{onElements, ranRecordWith, ranRecord}
 use Rattle.judging.specs.Laws.Bytes.{byte-natural}
 use Rattle.agreement.specs.Laws.Passing.{ranAll}

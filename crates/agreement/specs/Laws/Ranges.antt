@@ -6,7 +6,7 @@ use mathlib.Core.List.{List}
 use native.Mathlib.Omega.{arith}
 use borrow.Author.Tests.{ltb-true}
 use Rattle.kinds.specs.Widths.{width, fits}
-use Rattle.kinds.specs.Laws.{width-case, bytes-low}
+use Rattle.kinds.specs.Laws.Widths.{width-case, bytes-low}
 use Rattle.outcomes.specs.declared.Outcome.{Outcome}
 use Rattle.outcomes.specs.declared.Outcome.the-variants.{Skipped, Filled, Discarded, Placed}
 use Rattle.sheet.specs.Sizes.{registerCount, stepPlaces, memoryLimit}
@@ -29,9 +29,11 @@ use Rattle.checking.specs.Steps.{accessOf, objectRegister}
 use Rattle.checking.specs.Laws.Names.{load-register, load-object-ok, store-register}
 use Rattle.checking.specs.Laws.Steps.{check-sized}
 use Rattle.checking.specs.Laws.Turns.{within-step}
-use Rattle.records.specs.Laws.{AllInRange, all-append}
+use Rattle.records.specs.Ranges.{AllInRange}
+use Rattle.records.specs.Laws.Records.{all-append}
 use Rattle.records.specs.Ranges as ranges
-use Rattle.runs.specs.Ranges.{Fitting, runs-within}
+use Rattle.runs.specs.Ranges.{Fitting}
+use Rattle.runs.specs.Laws.Ranges.{runs-within}
 use Rattle.translating.specs.Tapes.{copyRecords, accessRecords, stepRecords, tapeFrom, tapeOf}
 use Rattle.agreement.specs.Laws.InRange.{Passable}
 use Rattle.agreement.specs.Laws.Stepping.{access-passable}

@@ -7,7 +7,7 @@ use native.Mathlib.Nat.{le-refl}
 use native.Mathlib.Omega.{arith}
 use lib.ListN.{length}
 use Rattle.numbers.specs.Bytes.{AreBytes}
-use Rattle.numbers.specs.Lists.{length-line}
+use Rattle.numbers.specs.Laws.Lists.{length-line}
 use Rattle.sheet.specs.Sizes.{registerCount, matrixPlaces}
 use Rattle.sheet.specs.Steps.{theStep, stepOk}
 use Rattle.sheet.specs.Laws.Within.{Within}

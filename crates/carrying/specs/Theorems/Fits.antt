@@ -5,7 +5,7 @@ use mathlib.Core.List.{List}
 use borrow.Author.Tests.{eqb-true}
 use lib.Dec.{eqb}
 use lib.ListN.{length}
-use Rattle.numbers.specs.Choice.{pick-case}
+use Rattle.numbers.specs.Laws.Choice.{pick-case}
 use Rattle.numbers.specs.Bytes.{AreBytes}
 use Rattle.sheet_reader.specs.Reading.{readSheet}
 use Rattle.registers.specs.Fits.{Fit}

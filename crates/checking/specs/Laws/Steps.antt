@@ -7,7 +7,8 @@ use native.Mathlib.Omega.{arith}
 use borrow.Author.Tests.{eq-eqb}
 use lib.Dec.{eqb}
 use lib.ListN.{length, length-set}
-use Rattle.numbers.specs.Choice.{pick, pick-case}
+use Rattle.numbers.specs.Choice.{pick}
+use Rattle.numbers.specs.Laws.Choice.{pick-case}
 use Rattle.refusals.specs.declared.Stop.{Stop}
 use Rattle.sheet.specs.Steps.{stepOk}
 use Rattle.sheet.specs.declared.Tensors.{Tensors}
@@ -15,7 +16,7 @@ use Rattle.sheet.specs.declared.Step.{Step}
 use Rattle.sheet.specs.declared.Step.the-variants.{Nothing, Load, Store, Whole}
 use Rattle.registers.specs.Types.{theType, isEmpty, withType}
 use Rattle.sheet.specs.Sizes.{matrixPlaces}
-use Rattle.registers.specs.Sized.{Sized, SizedType}
+use Rattle.registers.specs.Sized.{Sized}
 use Rattle.registers.specs.Laws.Sized.{sized-with, sized-places}
 use Rattle.registers.specs.declared.MatrixType.{MatrixType}
 use Rattle.whole_steps.specs.Whole.{wholeResult}
@@ -27,7 +28,6 @@ use Rattle.accesses.specs.Refusals.{checkedAccess, elementOutcome, placedCount}
 use Rattle.accesses.specs.Refusals as accesses
 use Rattle.accesses.specs.Laws.Accepted.{placed-most}
 use Rattle.checking.specs.Steps.{accessOf, objectRegister, accessCheck, checkedStep, stepTypes}
-use Rattle.checking.specs.Clear.{Clear}
 use Rattle.checking.specs.Laws.Accesses.{access-moved, access-clear}
 use Rattle.checking.specs.declared.StepCheck.{StepCheck}
 

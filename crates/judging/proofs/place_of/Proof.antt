@@ -1,4 +1,4 @@
-use Rattle.numbers.specs.Choice.{ways}
+use Rattle.numbers.specs.Laws.Choice.{ways}
 use Rattle.judging.specs.Records.{stepPlace}
 use Rattle.judging.proofs.place_of.Statement.{statement}
 use Rattle.judging.proofs.place_of.Tie as tie

@@ -5,8 +5,8 @@ use mathlib.Core.Bool.{Bool, true, false, not}
 use native.Mathlib.Nat.{mul-le-mul}
 use native.Mathlib.Omega.{arith}
 use borrow.Author.Tests.{leb-true, ltb-true, not-true}
-use Rattle.numbers.specs.Choice.{both-left, both-right}
-use Rattle.numbers.specs.All.{all-at}
+use Rattle.numbers.specs.Laws.Choice.{both-left, both-right}
+use Rattle.numbers.specs.Laws.All.{all-at}
 use Rattle.kinds.specs.Widths.{width, bytesOf, fits}
 use Rattle.sheet.specs.Sizes.{matrixPlaces}
 use Rattle.registers.specs.Types.{isEmpty}

@@ -6,8 +6,8 @@ use mathlib.Core.List.{List}
 use native.Mathlib.Omega.{arith}
 use borrow.Author.Tests.{ltb-true, lt-ltb, le-ltb}
 use lib.Dec.{ltb}
-use Rattle.numbers.specs.Choice.{pick, both, pick-case, both-right}
-use Rattle.numbers.specs.Places.{by-order}
+use Rattle.numbers.specs.Choice.{pick, both}
+use Rattle.numbers.specs.Laws.Choice.{pick-case, both-right, by-order}
 use Rattle.sheet.specs.Sizes.{stepPlaces}
 use Rattle.sheet.specs.Steps.{theStep, stepOk, stepUnused}
 use Rattle.sheet.specs.Laws.Within.{Within, within-places}

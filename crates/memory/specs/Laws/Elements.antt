@@ -7,9 +7,11 @@ use native.Mathlib.Nat.{mod-lt, mod-one, mul-le-mul-right}
 use native.Mathlib.Omega.{arith}
 use lib.ListN.{length, getD}
 use lib.Pow.{pow-add, mod-pow-add}
-use Rattle.numbers.specs.Lists.{line, length-line}
-use Rattle.numbers.specs.Lines.{line-outside, line-inside, lines-apart}
-use Rattle.numbers.specs.Bytes.{AreBytes, line-bytes}
+use Rattle.numbers.specs.Lists.{line}
+use Rattle.numbers.specs.Laws.Lists.{length-line}
+use Rattle.numbers.specs.Laws.Lines.{line-outside, line-inside, lines-apart}
+use Rattle.numbers.specs.Bytes.{AreBytes}
+use Rattle.numbers.specs.Laws.Bytes.{line-bytes}
 use Rattle.memory.specs.Elements.{elementAt, byteOf, withElement}
 
 pub length-with : (memory : List ℕ) (byte size x : ℕ) → length (withElement memory byte size x) ≡ length memory

@@ -1,7 +1,7 @@
 use mathlib.Core.Path.{refl}
-use Rattle.numbers.specs.Choice.{taken, left, went-not, went-past}
+use Rattle.numbers.specs.Laws.Choice.{taken, left, went-not, went-past}
 use Rattle.records.specs.Records.{movedOf}
-use Rattle.records.specs.Laws.{moved-within}
+use Rattle.records.specs.Laws.Records.{moved-within}
 use Rattle.records.proofs.Laws.{bytes-register, bytes-count, bytes-step, elements-read, bytes-read}
 use native.Mathlib.Omega.{arith}
 use borrow.Author.Needs.{needs}

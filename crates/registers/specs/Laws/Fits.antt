@@ -7,7 +7,8 @@ use native.Mathlib.Omega.{arith}
 use lib.ListN.{length, getD, replicate}
 use lib.Seq.{getD-set-same, getD-set-other}
 use Rattle.numbers.specs.Lists.{line}
-use Rattle.numbers.specs.Places.{by-place, none-all}
+use Rattle.numbers.specs.Laws.Choice.{by-place}
+use Rattle.numbers.specs.Laws.Places.{none-all}
 use Rattle.kinds.specs.Widths.{width}
 use Rattle.sheet.specs.Sizes.{registerCount, matrixPlaces, elementPlaces}
 use Rattle.registers.specs.Types.{noType, theType, withType}

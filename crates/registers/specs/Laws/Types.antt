@@ -7,8 +7,8 @@ use Prim.Native.Nat.{ℕ, _<_}
 use native.Mathlib.Omega.{arith}
 use borrow.Author.Tests.{eqb-false}
 use lib.ListN.{length, List·getD-eq-default}
-use Rattle.numbers.specs.Choice.{pick, pick-inv}
-use Rattle.numbers.specs.Places.{by-order}
+use Rattle.numbers.specs.Choice.{pick}
+use Rattle.numbers.specs.Laws.Choice.{pick-inv, by-order}
 use Rattle.registers.specs.Types.{noType, theType, isEmpty}
 use Rattle.registers.specs.declared.MatrixType.{MatrixType}
 

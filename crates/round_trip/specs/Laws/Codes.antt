@@ -7,7 +7,7 @@ use native.Mathlib.Omega.{arith}
 use borrow.Author.Tests.{ltb-true, ne-eqb}
 use lib.Dec.{eqb}
 use Rattle.numbers.specs.Choice.{pick}
-use Rattle.numbers.specs.Places.{by-place}
+use Rattle.numbers.specs.Laws.Choice.{by-place}
 use Rattle.sheet.specs.Sizes.{viewPlaces}
 use Rattle.sheet.specs.Codes.{clampCode, clampMode, reduceCode, reduceMode, combineCode, combineOf, memoryLayoutCode, memoryLayout, flagCode, none, objectCode, objectOf, viewingCode, viewingOf}
 use Rattle.sheet.specs.Steps.{objectOk, viewingOk}

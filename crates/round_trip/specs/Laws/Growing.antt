@@ -8,9 +8,10 @@ use native.Mathlib.Nat.{add-zero}
 use native.Mathlib.Omega.{arith}
 use borrow.Author.Tests.{eqb-true, le-ltb}
 use lib.ListN.{length, getD, length-append, getD-replicate}
-use Rattle.numbers.specs.Choice.{pick, both-left, both-right}
+use Rattle.numbers.specs.Choice.{pick}
+use Rattle.numbers.specs.Laws.Choice.{both-left, both-right}
 use Rattle.numbers.specs.Lists.{each}
-use Rattle.numbers.specs.Places.{none-all, set-keeps}
+use Rattle.numbers.specs.Laws.Places.{none-all, set-keeps}
 use Rattle.numbers.specs.Bytes.{AreBytes}
 use Rattle.refusals.specs.Refusals.{outOfOrder, unknownEdition}
 use Rattle.sheet.specs.Sizes.{rankPlaces, layoutPlaces, viewPlaces, stepPlaces}

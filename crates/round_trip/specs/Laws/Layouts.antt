@@ -7,10 +7,10 @@ use native.Mathlib.Nat.{add-zero}
 use native.Mathlib.Omega.{arith}
 use borrow.Author.Tests.{eqb-true, leb-true, le-leb, eq-eqb}
 use lib.ListN.{length, getD, replicate}
-use Rattle.numbers.specs.Choice.{both-left, both-right, both-true, between-low, between-true}
+use Rattle.numbers.specs.Laws.Choice.{both-left, both-right, both-true, between-low, between-true}
 use Rattle.numbers.specs.Little.{u16At, u32At}
 use Rattle.numbers.specs.Lists.{each, line}
-use Rattle.numbers.specs.Places.{places-given, places-past, places-count, places-are, places-all, Held, held}
+use Rattle.numbers.specs.Laws.Places.{places-given, places-past, places-count, places-are, places-all, Held, held}
 use Rattle.numbers.specs.Bytes.{AreBytes}
 use Rattle.sheet.specs.Sizes.{rankPlaces}
 use Rattle.sheet.specs.Codes.{clampMode, clampCode, undefined}

@@ -10,9 +10,10 @@ use borrow.Author.Tests.{lt-ltb, le-ltb, le-leb, eq-eqb}
 use lib.ListN.{length, getD, replicate, length-append}
 use Rattle.numbers.specs.Choice.{pick, both}
 use Rattle.numbers.specs.Little.{u16At}
-use Rattle.numbers.specs.Lists.{line, each, line-next}
-use Rattle.numbers.specs.Joins.{each-long}
-use Rattle.numbers.specs.Places.{places-are}
+use Rattle.numbers.specs.Lists.{line, each}
+use Rattle.numbers.specs.Laws.Lists.{line-next}
+use Rattle.numbers.specs.Laws.Joins.{each-long}
+use Rattle.numbers.specs.Laws.Places.{places-are}
 use Rattle.sheet.specs.Sizes.{layoutPlaces, viewPlaces, stepPlaces}
 use Rattle.sheet.specs.Editions.{limits}
 use Rattle.sheet.specs.Codes.{editionTag, layoutTag, viewTag}

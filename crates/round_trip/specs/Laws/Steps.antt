@@ -8,7 +8,8 @@ use native.Mathlib.Omega.{arith}
 use borrow.Author.Tests.{leb-true, le-leb, lt-ltb, le-ltb, ne-eqb}
 use lib.Dec.{leb, eqb}
 use lib.ListN.{length, getD}
-use Rattle.numbers.specs.Choice.{pick, pick-case, both-left, both-right, between, between-low, between-high, between-true}
+use Rattle.numbers.specs.Choice.{pick, between}
+use Rattle.numbers.specs.Laws.Choice.{pick-case, both-left, both-right, between-low, between-high, between-true}
 use Rattle.numbers.specs.Bytes.{AreBytes}
 use Rattle.numbers.specs.Little.{u16Bytes, u32Bytes}
 use Rattle.sheet.specs.Sizes.{viewPlaces}

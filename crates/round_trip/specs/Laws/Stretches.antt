@@ -9,9 +9,10 @@ use lib.ListN.{length, getD}
 use lib.Seq.{ext-getD}
 use Rattle.numbers.specs.Little.{u16At, u32At, u16Bytes, u32Bytes}
 use Rattle.numbers.specs.Lists.{each}
-use Rattle.numbers.specs.Joins.{length-each}
-use Rattle.numbers.specs.Places.{by-place}
-use Rattle.numbers.specs.Bytes.{AreBytes, byte-at}
+use Rattle.numbers.specs.Laws.Joins.{length-each}
+use Rattle.numbers.specs.Laws.Choice.{by-place}
+use Rattle.numbers.specs.Bytes.{AreBytes}
+use Rattle.numbers.specs.Laws.Bytes.{byte-at}
 use Rattle.round_trip.specs.Typed.{U16, U32}
 
 -- the bytes bs stand in s from p + i on

@@ -7,11 +7,12 @@ use native.Mathlib.Nat.{add-zero}
 use native.Mathlib.Omega.{arith}
 use borrow.Author.Tests.{eqb-true, leb-true, le-leb, le-ltb, eq-eqb, not-true}
 use lib.ListN.{length, getD, length-append}
-use Rattle.numbers.specs.Choice.{pick, both, between, both-left, both-right, both-true, between-low, between-true}
-use Rattle.numbers.specs.All.{all-at}
+use Rattle.numbers.specs.Choice.{pick, both, between}
+use Rattle.numbers.specs.Laws.Choice.{both-left, both-right, both-true, between-low, between-true}
+use Rattle.numbers.specs.Laws.All.{all-at}
 use Rattle.numbers.specs.Little.{u16At, u16Bytes}
 use Rattle.numbers.specs.Lists.{line}
-use Rattle.numbers.specs.Places.{places-given, places-past, places-count, places-are, places-all, Held, held}
+use Rattle.numbers.specs.Laws.Places.{places-given, places-past, places-count, places-are, places-all, Held, held}
 use Rattle.numbers.specs.Bytes.{AreBytes}
 use Rattle.sheet.specs.Sizes.{rankPlaces, sizeOk}
 use Rattle.sheet.specs.Codes.{flagCode}

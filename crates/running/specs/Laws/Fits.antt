@@ -6,7 +6,7 @@ use mathlib.Core.List.{List}
 use native.Mathlib.Omega.{arith}
 use borrow.Author.Tests.{leb-true, not-true}
 use lib.ListN.{length}
-use Rattle.numbers.specs.Orders.{in-order-keeps}
+use Rattle.numbers.specs.Laws.Orders.{in-order-keeps}
 use Rattle.kinds.specs.Widths.{bytesOf}
 use Rattle.sheet.specs.Sizes.{registerCount}
 use Rattle.sheet.specs.Laws.Within.{Within}

@@ -8,7 +8,7 @@ use borrow.Author.Tests.{lt-ltb}
 use lib.ListN.{length, length-set}
 use Rattle.numbers.specs.Choice.{pick}
 use Rattle.registers.specs.declared.MatrixType.{MatrixType}
-use Rattle.numbers.specs.Lists.{length-line}
+use Rattle.numbers.specs.Laws.Lists.{length-line}
 use Rattle.kinds.specs.Widths.{bytesOf}
 use Rattle.sheet.specs.Steps.{theStep}
 use Rattle.sheet.specs.declared.Sheet.{Sheet}

@@ -2,7 +2,7 @@ use Prim.Native.Nat.{ℕ, _*_, _≤_, _<_}
 use native.Mathlib.Nat.{mul-le-mul}
 use mathlib.Core.Path.{refl}
 use borrow.Author.Tests.{eq-eqb, ne-eqb}
-use Rattle.numbers.specs.Choice.{taken, left}
+use Rattle.numbers.specs.Laws.Choice.{taken, left}
 use Rattle.sheet.specs.Sizes.{matrixPlaces, memoryLimit}
 use Rattle.runs.specs.Runs.{meetByte}
 use native.Mathlib.Omega.{arith}

@@ -6,7 +6,7 @@ use lib.ListN.{length}
 use lib.Seq.{sets}
 use Rattle.records.specs.Records.{recordLength, recordNumbers, tapeNumbers}
 use Rattle.records.specs.declared.Record.{Record}
-use Rattle.records.specs.Laws.{AllInRange}
+use Rattle.records.specs.Ranges.{AllInRange}
 use Rattle.runs.specs.declared.Run.{Run}
 use Rattle.runs.specs.Runs.{emit, runRecords}
 use native.Mathlib.Omega.{arith}

@@ -1,14 +1,14 @@
 -- What is known of a field that is taken.
 use Prim.Native.Nat.{ℕ, suc, _<_, _≤_}
-use mathlib.Core.Path.{_≡_, refl, sym, _∙_}
+use mathlib.Core.Path.{_≡_, refl}
 use mathlib.Core.Bool.{Bool, true, false}
 use mathlib.Core.List.{List}
 use native.Mathlib.Omega.{arith}
 use lib.ListN.{getD}
 use lib.Dec.{eqb, ltb}
 use borrow.Author.Tests.{eqb-true, ltb-true, ltb-false}
-use Rattle.numbers.specs.Choice.{pick, both, both-left, both-right, pick-case}
-use Rattle.refusals.specs.Refusals.{unknownTag, outOfOrder, wrongLength, beyondSizes, unknownEdition}
+use Rattle.numbers.specs.Choice.{pick}
+use Rattle.numbers.specs.Laws.Choice.{both-right, pick-case}
 use Rattle.sheet.specs.Sizes.{layoutPlaces, viewPlaces, stepPlaces}
 use Rattle.sheet.specs.Editions.{editionOk, tagKnown, limits}
 use Rattle.sheet.specs.Laws.Editions.{limits-steps}

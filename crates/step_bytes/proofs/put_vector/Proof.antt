@@ -1,6 +1,6 @@
 use denote.Ref.{now}
 use borrow.Author.Needs.{needs}
-use Rattle.numbers.specs.Lists.{puts-after}
+use Rattle.numbers.specs.Laws.Lists.{puts-after}
 use Rattle.step_bytes.specs.Bytes.{vectorOperands, vectorPlaces}
 use Rattle.step_bytes.proofs.put_vector.Statement.{statement}
 use Rattle.step_bytes.proofs.put_vector.Tie as tie

@@ -4,9 +4,10 @@ use mathlib.Core.List.{List}
 use Prim.Native.Nat.{ℕ, zero, suc, _*_, _^_, _<_, _≤_}
 use native.Mathlib.Omega.{arith}
 use lib.ListN.{length, length-set}
-use Rattle.numbers.specs.Bytes.{AreBytes, byte-at}
+use Rattle.numbers.specs.Bytes.{AreBytes}
+use Rattle.numbers.specs.Laws.Bytes.{byte-at}
 use Rattle.kinds.specs.Widths.{width, bytesOf}
-use Rattle.kinds.specs.Laws.{width-bytes}
+use Rattle.kinds.specs.Laws.Widths.{width-bytes}
 use Rattle.sheet.specs.Sizes.{registerCount, elementPlaces}
 use Rattle.outcomes.specs.declared.Outcome.{Outcome}
 use Rattle.outcomes.specs.declared.Outcome.the-variants.{Skipped, Filled, Discarded, Placed}

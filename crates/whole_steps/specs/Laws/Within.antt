@@ -5,8 +5,7 @@ use mathlib.Core.List.{List}
 use Prim.Native.Nat.{ℕ, _+_, _≤_}
 use native.Mathlib.Omega.{arith}
 use borrow.Author.Tests.{ltb-true}
-use Rattle.numbers.specs.Choice.{both-left, both-right, between-low, between-high}
-use Rattle.numbers.specs.Places.{by-order}
+use Rattle.numbers.specs.Laws.Choice.{both-left, both-right, between-low, between-high, by-order}
 use Rattle.kinds.specs.Widths.{kindOk}
 use Rattle.sheet.specs.Sizes.{sidePlaces, matrixPlaces}
 use Rattle.sheet.specs.Editions.{limits, sideOk}

@@ -4,7 +4,7 @@ use native.Mathlib.Nat.{mod-lt}
 use lib.Bits.{bitOr}
 use lib.ListN.{getD, set}
 use native.Mathlib.Omega.{arith}
-use Rattle.numbers.specs.Choice.{taken, left, went-not, went-past}
+use Rattle.numbers.specs.Laws.Choice.{taken, left, went-not, went-past}
 use Rattle.accesses.specs.Marks.{wordOf, bitOf, unmarked, withMark}
 use Rattle.accesses.proofs.Marks.{byte-some, word-inside, one-shifted}
 use borrow.Author.Needs.{needs}

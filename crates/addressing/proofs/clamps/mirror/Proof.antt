@@ -2,8 +2,8 @@ use Prim.Native.Nat.{_*_, _-_}
 use mathlib.Core.Path.{refl}
 use native.Mathlib.Omega.{arith}
 use borrow.Author.Needs.{needs}
-use Rattle.numbers.specs.Choice.{taken, left, tests}
-use Rattle.numbers.specs.Remainders.{remainder-lt}
+use Rattle.numbers.specs.Laws.Choice.{taken, left, tests}
+use Rattle.numbers.specs.Laws.Remainders.{remainder-lt}
 use Rattle.addressing.specs.Rules.{mirrored, turnedBack}
 use Rattle.addressing.specs.Plans.{integer}
 use Rattle.addressing.proofs.clamps.mirror.Statement.{statement}

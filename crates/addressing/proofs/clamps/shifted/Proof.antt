@@ -5,7 +5,7 @@ use lib.IntN.{pos, negsuc}
 use borrow.Author.Tests.{lt-ltb, le-ltb}
 use borrow.Author.Needs.{needs}
 use Rattle.kinds.specs.Widths.{s16}
-use Rattle.kinds.specs.Signs.{value-lower, value-upper, width-s16}
+use Rattle.kinds.specs.Laws.Signs.{value-lower, value-upper, width-s16}
 use Rattle.addressing.specs.Rules.{twos}
 use Rattle.addressing.proofs.clamps.shifted.Statement.{statement}
 use Rattle.addressing.proofs.clamps.shifted.Tie as tie

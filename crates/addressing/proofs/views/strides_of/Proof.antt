@@ -1,8 +1,8 @@
 use Prim.Native.Nat.{ℕ, _^_, _≤_, zero-le}
 use mathlib.Core.Path.{refl}
 use borrow.Author.Needs.{needs}
-use Rattle.numbers.specs.Choice.{taken, left}
-use Rattle.numbers.specs.Places.{none-all}
+use Rattle.numbers.specs.Laws.Choice.{taken, left}
+use Rattle.numbers.specs.Laws.Places.{none-all}
 use Rattle.sheet.specs.Sizes.{rankPlaces, sizeLimit}
 use Rattle.addressing.specs.Plans.{stridesOf}
 use Rattle.addressing.proofs.views.strides_of.Statement.{statement}

@@ -1,6 +1,6 @@
 use Prim.Native.Nat.{_^_}
 use borrow.Author.Needs.{needs}
-use Rattle.numbers.specs.Choice.{taken, left}
+use Rattle.numbers.specs.Laws.Choice.{taken, left}
 use Rattle.sheet.specs.Sizes.{sizeLimit}
 use Rattle.addressing.proofs.Laws.{five-most}
 use Rattle.addressing.specs.Rules.{viewStrides}

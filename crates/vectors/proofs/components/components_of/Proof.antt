@@ -1,7 +1,8 @@
 use borrow.Author.Needs.{needs}
 use mathlib.Core.Path.{_≡_}
 use Prim.Native.Nat.{_-_, _≤_}
-use Rattle.numbers.specs.Lists.{line, line-start, line-step}
+use Rattle.numbers.specs.Lists.{line}
+use Rattle.numbers.specs.Laws.Lists.{line-start, line-step}
 use Rattle.vectors.specs.Residues.{residueAt, componentsOf}
 use lib.ListN.{replicate}
 use Rattle.sheet.specs.Sizes.{sidePlaces}

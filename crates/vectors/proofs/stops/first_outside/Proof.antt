@@ -2,7 +2,8 @@ use borrow.Author.Needs.{needs}
 use native.Mathlib.Omega.{arith}
 use mathlib.Core.Path.{_≡_, sym, _∙_}
 use Prim.Native.Nat.{ℕ, _-_, _≤_}
-use Rattle.numbers.specs.First.{firstFrom, first-found, first-next, first-end}
+use Rattle.numbers.specs.First.{firstFrom}
+use Rattle.numbers.specs.Laws.First.{first-found, first-next, first-end}
 use Rattle.vectors.specs.Refusals.{outside}
 use Rattle.vectors.specs.Places.{endOf}
 use borrow.Author.Tests.{lt-ltb, le-ltb}

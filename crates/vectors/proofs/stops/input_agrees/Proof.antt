@@ -1,5 +1,5 @@
 use borrow.Author.Needs.{needs}
-use Rattle.numbers.specs.Choice.{taken, left, tests, stop, pass}
+use Rattle.numbers.specs.Laws.Choice.{taken, left, tests, stop, pass}
 use Rattle.vectors.specs.Refusals.{inputAgrees}
 use mathlib.Core.Path.{refl}
 use Rattle.vectors.proofs.stops.input_agrees.Statement.{statement}

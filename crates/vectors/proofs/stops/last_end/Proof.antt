@@ -4,7 +4,7 @@ use Rattle.vectors.specs.Places.{matrixByte}
 use mathlib.Core.Path.{ap₂, _∙_}
 use Prim.Native.Nat.{_+_}
 use Rattle.vectors.specs.Residues.{lastEnd}
-use Rattle.kinds.specs.Laws.{bytes-high}
+use Rattle.kinds.specs.Laws.Widths.{bytes-high}
 use Rattle.vectors.proofs.stops.last_end.Statement.{statement}
 use Rattle.vectors.proofs.stops.last_end.Tie as tie
 

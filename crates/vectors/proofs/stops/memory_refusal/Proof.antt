@@ -2,7 +2,7 @@ use borrow.Author.Needs.{needs}
 use Rattle.vectors.specs.Refusals.{memoryRefusal, firstOutside}
 use Rattle.refusals.specs.Refusals.{outsideMemory, stopAt}
 use mathlib.Core.Path.{sym, _∙_, ap}
-use Rattle.numbers.specs.Choice.{tests, taken, left}
+use Rattle.numbers.specs.Laws.Choice.{tests, taken, left}
 use Rattle.vectors.specs.Laws.Refusals.{memory-clear}
 use native.Mathlib.Omega.{arith}
 use borrow.Author.Tests.{lt-ltb, le-ltb}

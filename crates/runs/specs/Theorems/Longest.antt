@@ -7,19 +7,18 @@ use native.Mathlib.Omega.{arith}
 use borrow.Author.Tests.{eqb-true, eqb-false}
 use lib.Dec.{eqb}
 use lib.IntN.{ℤ}
-use Rattle.numbers.specs.Choice.{pick-case}
-use Rattle.numbers.specs.Places.{by-order}
+use Rattle.numbers.specs.Laws.Choice.{pick-case, by-order}
 use Rattle.numbers.specs.Lists.{each}
 use Rattle.outcomes.specs.declared.Outcome.{Outcome}
 use Rattle.outcomes.specs.declared.Outcome.the-variants.{Skipped, Filled, Discarded, Placed}
 use Rattle.signed.specs.Numbers.{difference}
-use Rattle.records.specs.ByteSteps.{at-step, step-at}
+use Rattle.records.specs.Laws.ByteSteps.{at-step, step-at}
 use Rattle.runs.specs.declared.Run.{Run}
 use Rattle.runs.specs.declared.Run.the-variants.{Idle, Bytes, Fills}
 use Rattle.runs.specs.declared.Progress.{Progress}
 use Rattle.runs.specs.Runs.{lone, meetByte, meetFill, next, emit, held, ending, ended, runs}
 use Rattle.runs.specs.Even.{Stretch, bytes, fills, firstOf, countOf, EvenBytes, EvenFills, Even, Longest}
-use Rattle.runs.specs.Alike.{same-byte, same-value, alike-byte, alike-step, alike-value, one-sort}
+use Rattle.runs.specs.Laws.Alike.{same-byte, same-value, alike-byte, alike-step, alike-value, one-sort}
 
 -- a run of bytes that is taken, its step as an integer; up - down goes one way
 pub record LongestBytes (f : ℕ → Outcome) (n e m b u d : ℕ) : Type 0 where

@@ -6,7 +6,7 @@ use native.Mathlib.Nat.{sub-zero}
 use lib.IntN.{pos, negsuc}
 use borrow.Author.Tests.{lt-ltb, le-ltb, le-leb, lt-leb}
 use Rattle.numbers.specs.Choice.{pick, both}
-use Rattle.numbers.specs.Places.{by-test}
+use Rattle.numbers.specs.Laws.Choice.{by-test}
 use Rattle.kinds.specs.Widths.{width, s16, s32}
 use Rattle.kinds.specs.Values.{signed, negative, taken, value}
 

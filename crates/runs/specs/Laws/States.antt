@@ -15,8 +15,9 @@ use Rattle.records.specs.Records.{moved}
 use Rattle.runs.specs.declared.Run.{Run}
 use Rattle.runs.specs.declared.Run.the-variants.{Idle, Bytes, Fills}
 use Rattle.runs.specs.Runs.{next, held, runs, runRecords, endedRecords, runsRecords}
-use Rattle.runs.specs.Longest.{Open, held-open, ending-open}
-use Rattle.runs.specs.Acts.{Act, meet, give, one, spread, pour, acts, actsAll, kept, held-ends, runs-acts}
+use Rattle.runs.specs.Theorems.Longest.{Open, held-open, ending-open}
+use Rattle.runs.specs.Acts.{Act, one, spread, pour, acts, actsAll, meet, give}
+use Rattle.runs.specs.Theorems.Acts.{kept, held-ends, runs-acts}
 
 -- records on a state, one after the other
 unfoldable pub performAll : {S : Type 0} → (Record → S → S) → List Record → S → S

@@ -3,20 +3,19 @@ use Prim.Native.Nat.{ℕ, zero, suc, _+_, _≤_, _<_}
 use mathlib.Core.Path.{_≡_, refl, sym, ap, ap₂, subst, _∙_}
 use mathlib.Core.List.{List, [], _∷_, _++_, map, append-assoc, append-nil}
 use native.Mathlib.Omega.{arith}
-use Rattle.numbers.specs.Choice.{pick-case}
+use Rattle.numbers.specs.Laws.Choice.{pick-case, by-order}
 use Rattle.numbers.specs.Lists.{each}
-use Rattle.numbers.specs.Places.{by-order}
 use Rattle.outcomes.specs.declared.Outcome.{Outcome}
 use Rattle.outcomes.specs.declared.Outcome.the-variants.{Skipped, Filled, Discarded, Placed}
 use Rattle.signed.specs.Numbers.{rise, fall, difference}
-use Rattle.records.specs.ByteSteps.{rise-back, fall-back}
+use Rattle.records.specs.Laws.ByteSteps.{rise-back, fall-back}
 use Rattle.runs.specs.declared.Run.{Run}
 use Rattle.runs.specs.declared.Run.the-variants.{Idle, Bytes, Fills}
 use Rattle.runs.specs.declared.Progress.{Progress}
 use Rattle.runs.specs.Runs.{meetByte, meetFill, next, emit, held, ending, ended, runs}
 use Rattle.runs.specs.Even.{Stretch, bytes, fills, firstOf, countOf, endOf, Silent, Each, EvenBytes, Even, Longest, Gap, Covers, Given}
-use Rattle.runs.specs.Alike.{alike-byte, alike-step, alike-value, one-sort}
-use Rattle.runs.specs.Longest.{Open, LongestRun, AllRuns, none, more, held-open, runs-longest}
+use Rattle.runs.specs.Laws.Alike.{alike-byte, alike-step, alike-value, one-sort}
+use Rattle.runs.specs.Theorems.Longest.{Open, LongestRun, AllRuns, none, more, held-open, runs-longest}
 
 -- a stretch as a run: its step, how far up and how far down
 abbrev pub runOf : Stretch → Run

@@ -8,10 +8,11 @@ use native.Mathlib.Omega.{arith}
 use lib.IntN.{ℤ}
 use lib.ListN.{length, length-append}
 use lib.Seq.{sets, length-sets}
-use Rattle.numbers.specs.Lists.{each, each-more, each-fits, length-each-more, puts-after}
+use Rattle.numbers.specs.Lists.{each}
+use Rattle.numbers.specs.Laws.Lists.{each-more, each-fits, length-each-more, puts-after}
 use Rattle.outcomes.specs.declared.Outcome.{Outcome}
 use Rattle.records.specs.Records.{recordLength, tapeNumbers}
-use Rattle.records.specs.Laws.{length-tape, tape-append}
+use Rattle.records.specs.Laws.Records.{length-tape, tape-append}
 use Rattle.runs.specs.declared.Run.{Run}
 use Rattle.runs.specs.declared.Run.the-variants.{Idle, Bytes, Fills}
 use Rattle.runs.specs.declared.Progress.{Progress}
