@@ -14,7 +14,7 @@ use Rattle.runs.specs.declared.Run.{Run}
 use Rattle.runs.specs.declared.Run.the-variants.{Idle, Bytes, Fills}
 use Rattle.runs.specs.declared.Progress.{Progress}
 use Rattle.runs.specs.Runs.{meetByte, meetFill, next, emit, held, ended, runs}
-use Rattle.runs.specs.Acts.{Act, one, spread, pour, acts, actsAll}
+use Rattle.runs.specs.Acts.{Act, meet, give, one, spread, pour, acts, actsAll}
 
 -- ---- the open run, one element more
 
