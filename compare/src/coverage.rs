@@ -1,11 +1,14 @@
-//! What the cases met: a comparison that never saw a refusal or an outcome says nothing of it.
+//! What an edition's cases met: a comparison that never saw a refusal or an outcome says nothing
+//! of it.
 
 use std::collections::{BTreeMap, BTreeSet};
 
 use crate::case::Job;
 use crate::jobs::Answer;
 use crate::reference::{
-    check_step, read_sheet, Cause, Outcome, Sheet, Step, Type, Types, RECORD_NUMBERS,
+    check, do_step, read_sheet, Cause, Checked, Edition, Interpretation, Kind, Matrix,
+    MemoryLayout, Outcome, Refusal, Registers, Sheet, Step, VectorStep, COMPONENTS_A_WORD,
+    RECORD_NUMBERS, WHOLE_STEP,
 };
 use crate::tapes::Tape;
 
@@ -13,12 +16,16 @@ use crate::tapes::Tape;
 const PLACES: usize = 3;
 /// Places that are remembered of each refusal.
 const PLACES_KEPT: usize = 1_000;
+/// One in so many sheets is to have a vector step, where the edition has such steps.
+const VECTORS_ONE_IN: u64 = 3;
 const JOBS: [Job; 6] =
     [Job::Read, Job::Rewrite, Job::Check, Job::CarryOut, Job::Translate, Job::Run];
 
-/// Counts of answers, causes and outcomes.
-#[derive(Default)]
+/// Counts of answers, causes and outcomes of the sheets that were made for an edition.
 pub struct Coverage {
+    edition: Edition,
+    sheets: u64,
+    sheets_with_vectors: u64,
     answers: BTreeMap<(Job, u32), Answers>,
     causes: BTreeMap<Cause, u64>,
     sights: BTreeMap<String, u64>,
@@ -47,7 +54,23 @@ fn has_one_place(number: u32) -> bool {
     matches!(number, 0 | 6 | 16 | 18 | 19)
 }
 
+fn is_vector(step: &Step) -> bool {
+    matches!(step, Step::Vector(_))
+}
+
 impl Coverage {
+    /// Nothing met yet.
+    pub fn new(edition: Edition) -> Coverage {
+        Coverage {
+            edition,
+            sheets: 0,
+            sheets_with_vectors: 0,
+            answers: BTreeMap::new(),
+            causes: BTreeMap::new(),
+            sights: BTreeMap::new(),
+        }
+    }
+
     /// Notes an answer of a job and the reference's cause for it.
     pub fn answer(&mut self, job: Job, answer: &Answer, cause: Option<Cause>) {
         let answers = self.answers.entry((job, answer[0])).or_default();
@@ -60,19 +83,47 @@ impl Coverage {
         }
     }
 
-    /// Notes what an accepted sheet does.
-    pub fn sheet(&mut self, sheet: &[u8], memory_len: usize) {
-        let sheet = read_sheet(sheet).expect("accepted");
-        let mut types = Types::default();
-        for step in &sheet.steps {
-            let before = types;
-            let outcomes = check_step(&sheet, step, &mut types, memory_len).expect("accepted");
-            self.step(&sheet, step, &outcomes, &before);
+    /// Notes what carrying out a sheet does, and where it is refused.
+    pub fn sheet(&mut self, sheet: &[u8], memory: &[u8]) {
+        let steps = read_sheet(sheet).map_or(Vec::new(), |sheet| sheet.steps);
+        self.sheets += 1;
+        self.sheets_with_vectors += u64::from(steps.iter().any(is_vector));
+        match check(sheet, memory.len()) {
+            Ok(checked) => self.accepted(checked, memory.to_vec()),
+            Err(refusal) => self.refused(&steps, refusal, memory.len()),
         }
     }
 
-    fn step(&mut self, sheet: &Sheet, step: &Step, outcomes: &[Outcome], types: &Types) {
-        let kind = |register: usize| types[register].map_or(0, |type_: Type| type_.kind.0);
+    fn accepted(&mut self, checked: Checked, mut memory: Vec<u8>) {
+        let mut registers = Registers::default();
+        for (step, outcomes) in checked.sheet.steps.iter().zip(&checked.outcomes) {
+            self.step(&checked.sheet, step, outcomes, &registers, memory.len());
+            do_step(step, outcomes, &mut registers, &mut memory);
+        }
+    }
+
+    /// Notes a vector step that reads one byte beyond memory.
+    fn refused(&mut self, steps: &[Step], refusal: Refusal, memory_len: usize) {
+        let [step, element] = refusal.place.map(|number| number as usize);
+        if !matches!(refusal.cause, Cause::MatrixPastMemory | Cause::BiasPastMemory) {
+            return;
+        }
+        let Step::Vector(vector) = &steps[step] else { unreachable!("a vector step's cause") };
+        let end = vector.places().nth(element).map(|place| place.end);
+        if end == Some(memory_len as u64 + 1) {
+            self.sight(format!("{:?} by one byte", refusal.cause));
+        }
+    }
+
+    fn step(
+        &mut self,
+        sheet: &Sheet,
+        step: &Step,
+        outcomes: &[Outcome],
+        registers: &Registers,
+        memory_len: usize,
+    ) {
+        let kind = |register: usize| registers[register].as_ref().map_or(0, |m| m.type_.kind.0);
         match *step {
             Step::Load { register, object, layout, view, .. } => {
                 self.sight(format!("load of kind {}", kind(object.unwrap_or(register))));
@@ -94,6 +145,58 @@ impl Coverage {
                 self.sight(format!("transpose of kind {}", kind(source)));
             }
             Step::Fill { kind, .. } => self.sight(format!("fill of kind {}", kind.0)),
+            Step::Vector(ref vector) => {
+                let input = registers[vector.input].as_ref().expect("accepted");
+                self.input(vector, input);
+                self.matrix_and_bias(vector, memory_len);
+            }
+        }
+    }
+
+    fn input(&mut self, vector: &VectorStep, input: &Matrix) {
+        match vector.interpretation {
+            Interpretation::Plain(kind) => {
+                let own = input.type_.kind;
+                self.sight(format!("vector of kind {} as kind {}", own.0, kind.0));
+                let numbers = || input.elements.iter().map(|&bits| own.value(bits));
+                let (least, greatest) = kind.range();
+                if numbers().any(|number| number < least) {
+                    self.sight(format!("component below kind {}", kind.0));
+                }
+                if numbers().any(|number| number > greatest) {
+                    self.sight(format!("component above kind {}", kind.0));
+                }
+            }
+            Interpretation::Packed(kind) => {
+                let unused = vector.k.next_multiple_of(COMPONENTS_A_WORD) - vector.k;
+                self.sight(format!("vector packed as kind {}, {unused} unused", kind.0));
+            }
+        }
+        if vector.input == vector.result {
+            self.sight(String::from("vector result in its input"));
+        }
+    }
+
+    fn matrix_and_bias(&mut self, vector: &VectorStep, memory_len: usize) {
+        let VectorStep { kind, matrix, layout, .. } = vector;
+        let bias = if vector.bias.is_some() { "with" } else { "without" };
+        self.sight(format!("vector to kind {} {bias} bias", kind.0));
+        self.sight(format!("vector by {layout:?} matrix of kind {}", matrix.0));
+        let (lines, along) = match layout {
+            MemoryLayout::RowMajor => (vector.m, vector.k),
+            MemoryLayout::ColumnMajor => (vector.k, vector.m),
+        };
+        if lines > 1 && vector.stride == 0 {
+            self.sight(format!("vector by {layout:?} matrix, stride 0"));
+        } else if lines > 1 && usize::from(vector.stride) < along * matrix.size() {
+            self.sight(format!("vector by {layout:?} matrix, overlapping"));
+        }
+        let reads_last = |place: std::ops::Range<u64>| place.end == memory_len as u64;
+        if vector.places().take(vector.matrix_elements()).any(reads_last) {
+            self.sight(String::from("matrix element at the end of memory"));
+        }
+        if vector.places().skip(vector.matrix_elements()).any(reads_last) {
+            self.sight(String::from("bias element at the end of memory"));
         }
     }
 
@@ -123,12 +226,18 @@ impl Coverage {
         sort("placed", |outcome| matches!(outcome, Outcome::Placed(_)));
     }
 
-    /// Notes the records of a translated tape.
-    pub fn tape(&mut self, tape: &Tape) {
+    /// Notes the records of a sheet's tape, which was run.
+    pub fn tape(&mut self, sheet: &[u8], tape: &Tape) {
+        let steps = read_sheet(sheet).expect("accepted").steps;
+        let records = || tape.numbers.chunks_exact(RECORD_NUMBERS);
         for op in 0..5 {
-            if tape.numbers.chunks_exact(RECORD_NUMBERS).any(|record| record[0] == op) {
+            if records().any(|record| record[0] == op) {
                 self.sight(format!("record of op {op}"));
             }
+        }
+        let whole = |record: &[i32]| (record[0] == WHOLE_STEP).then(|| &steps[record[1] as usize]);
+        if records().filter_map(whole).any(is_vector) {
+            self.sight(String::from("record of a vector step"));
         }
     }
 
@@ -150,15 +259,18 @@ impl Coverage {
         }
         for cause in Cause::ALL {
             // The C interface writes only what it has read, so it hands no such model over.
-            let reachable = *cause != Cause::UnreadableModel;
+            let reachable = *cause != Cause::UnreadableModel && cause.edition() <= self.edition;
             if reachable && !self.causes.contains_key(cause) {
                 missing.push(format!("cause {cause:?} of refusal {}", cause.number()));
             }
         }
-        for sight in sights() {
+        for sight in sights(self.edition) {
             if !self.sights.contains_key(&sight) {
                 missing.push(sight);
             }
+        }
+        if self.edition.has_vectors() && VECTORS_ONE_IN * self.sheets_with_vectors < self.sheets {
+            missing.push(format!("a vector step in one of {VECTORS_ONE_IN} sheets"));
         }
         missing
     }
@@ -183,9 +295,9 @@ impl Coverage {
     }
 }
 
-/// Everything that accepted sheets are to be seen doing.
-fn sights() -> Vec<String> {
-    let mut sights = Vec::new();
+/// Everything that sheets of an edition are to be seen doing.
+fn sights(edition: Edition) -> Vec<String> {
+    let mut sights = if edition.has_vectors() { vector_sights() } else { Vec::new() };
     for sort in ["load skipped", "load filled", "load placed"] {
         sights.push(String::from(sort));
     }
@@ -215,5 +327,45 @@ fn sights() -> Vec<String> {
     }
     sights.extend([4, 5].map(|c| format!("multiply-add to kind {c}")));
     sights.extend((0..5).map(|op| format!("record of op {op}")));
+    sights
+}
+
+/// Everything that vector steps are to be seen doing.
+fn vector_sights() -> Vec<String> {
+    let mut sights = [
+        "vector result in its input",
+        "matrix element at the end of memory",
+        "bias element at the end of memory",
+        "MatrixPastMemory by one byte",
+        "BiasPastMemory by one byte",
+        "record of a vector step",
+    ]
+    .map(String::from)
+    .to_vec();
+    for kind in (0..6).map(Kind) {
+        sights.extend((0..6).map(|own| format!("vector of kind {own} as kind {}", kind.0)));
+        // No number of 32 bits or less is below s32 or above u32.
+        if kind != Kind::S32 {
+            sights.push(format!("component below kind {}", kind.0));
+        }
+        if kind != Kind::U32 {
+            sights.push(format!("component above kind {}", kind.0));
+        }
+    }
+    for kind in [Kind::S8, Kind::U8] {
+        let packed = |unused| format!("vector packed as kind {}, {unused} unused", kind.0);
+        sights.extend((0..COMPONENTS_A_WORD).map(packed));
+    }
+    for layout in [MemoryLayout::RowMajor, MemoryLayout::ColumnMajor] {
+        sights.extend((0..6).map(|kind| format!("vector by {layout:?} matrix of kind {kind}")));
+        sights.extend(
+            ["stride 0", "overlapping"].map(|how| format!("vector by {layout:?} matrix, {how}")),
+        );
+    }
+    for kind in [Kind::U32, Kind::S32] {
+        sights.extend(
+            ["with", "without"].map(|bias| format!("vector to kind {} {bias} bias", kind.0)),
+        );
+    }
     sights
 }

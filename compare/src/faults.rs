@@ -3,6 +3,7 @@
 use crate::case::{Case, Comparison};
 use crate::coverage::Coverage;
 use crate::jobs::{Answer, Jobs, Reference, State};
+use crate::reference::Edition;
 
 /// What an implementation does wrong.
 #[derive(Clone, Copy, Debug)]
@@ -114,8 +115,8 @@ impl Jobs for Faulty {
 fn found_out(jobs: &dyn Jobs) -> bool {
     let reference = Reference::default();
     let mut comparison =
-        Comparison { archive: jobs, reference: &reference, coverage: Coverage::default() };
-    (0..200).any(|number| comparison.compare(&Case::of_seed(1, number)).is_err())
+        Comparison { archive: jobs, reference: &reference, coverage: Coverage::new(Edition::One) };
+    (0..200).any(|number| comparison.compare(&Case::of_seed(Edition::One, 1, number)).is_err())
 }
 
 #[test]
@@ -128,6 +129,6 @@ fn each_fault_is_found_out() {
 
 #[test]
 fn no_cases_meet_nothing() {
-    let missing = Coverage::default().missing();
+    let missing = Coverage::new(Edition::One).missing();
     assert!(missing.len() > 200);
 }
