@@ -301,3 +301,21 @@ impl Comparison<'_> {
         Ok(())
     }
 }
+
+#[cfg(test)]
+mod tests {
+    use super::*;
+
+    /// The FNV-1a hash of some bytes.
+    fn hash(bytes: impl Iterator<Item = u8>) -> u64 {
+        bytes.fold(0xCBF2_9CE4_8422_2325, |hash, byte| {
+            (hash ^ u64::from(byte)).wrapping_mul(0x0100_0000_01B3)
+        })
+    }
+
+    #[test]
+    fn a_seed_gives_an_edition_the_same_sheets_still() {
+        let sheets = |edition| (0..1_000).flat_map(move |k| Case::of_seed(edition, 1, k).sheet);
+        assert_eq!(hash(sheets(Edition::One)), 0xC95C_BF9F_4656_CA79);
+    }
+}

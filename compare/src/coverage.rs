@@ -6,11 +6,11 @@ use std::collections::{BTreeMap, BTreeSet};
 use crate::case::Job;
 use crate::jobs::Answer;
 use crate::reference::{
-    check, do_step, read_sheet, Cause, Checked, Edition, Interpretation, Kind, Matrix,
-    MemoryLayout, Outcome, Refusal, Registers, Sheet, Step, VectorStep, COMPONENTS_A_WORD,
+    check, do_step, read_sheet, Cause, Checked, Edition, Outcome, Refusal, Registers, Sheet, Step,
     RECORD_NUMBERS, WHOLE_STEP,
 };
 use crate::tapes::Tape;
+use crate::vector_sights;
 
 /// How many different places a refusal is to be met at, where it has more than one.
 const PLACES: usize = 3;
@@ -22,6 +22,7 @@ const JOBS: [Job; 6] =
     [Job::Read, Job::Rewrite, Job::Check, Job::CarryOut, Job::Translate, Job::Run];
 
 /// Counts of answers, causes and outcomes of the sheets that were made for an edition.
+#[derive(Default)]
 pub struct Coverage {
     edition: Edition,
     sheets: u64,
@@ -61,14 +62,7 @@ fn is_vector(step: &Step) -> bool {
 impl Coverage {
     /// Nothing met yet.
     pub fn new(edition: Edition) -> Coverage {
-        Coverage {
-            edition,
-            sheets: 0,
-            sheets_with_vectors: 0,
-            answers: BTreeMap::new(),
-            causes: BTreeMap::new(),
-            sights: BTreeMap::new(),
-        }
+        Coverage { edition, ..Coverage::default() }
     }
 
     /// Notes an answer of a job and the reference's cause for it.
@@ -102,16 +96,12 @@ impl Coverage {
         }
     }
 
-    /// Notes a vector step that reads one byte beyond memory.
     fn refused(&mut self, steps: &[Step], refusal: Refusal, memory_len: usize) {
         let [step, element] = refusal.place.map(|number| number as usize);
-        if !matches!(refusal.cause, Cause::MatrixPastMemory | Cause::BiasPastMemory) {
-            return;
-        }
-        let Step::Vector(vector) = &steps[step] else { unreachable!("a vector step's cause") };
-        let end = vector.places().nth(element).map(|place| place.end);
-        if end == Some(memory_len as u64 + 1) {
-            self.sight(format!("{:?} by one byte", refusal.cause));
+        if let (14, Some(Step::Vector(vector))) = (refusal.cause.number(), steps.get(step)) {
+            if let Some(sight) = vector_sights::of_refused(vector, element, memory_len) {
+                self.sight(sight);
+            }
         }
     }
 
@@ -147,56 +137,10 @@ impl Coverage {
             Step::Fill { kind, .. } => self.sight(format!("fill of kind {}", kind.0)),
             Step::Vector(ref vector) => {
                 let input = registers[vector.input].as_ref().expect("accepted");
-                self.input(vector, input);
-                self.matrix_and_bias(vector, memory_len);
-            }
-        }
-    }
-
-    fn input(&mut self, vector: &VectorStep, input: &Matrix) {
-        match vector.interpretation {
-            Interpretation::Plain(kind) => {
-                let own = input.type_.kind;
-                self.sight(format!("vector of kind {} as kind {}", own.0, kind.0));
-                let numbers = || input.elements.iter().map(|&bits| own.value(bits));
-                let (least, greatest) = kind.range();
-                if numbers().any(|number| number < least) {
-                    self.sight(format!("component below kind {}", kind.0));
-                }
-                if numbers().any(|number| number > greatest) {
-                    self.sight(format!("component above kind {}", kind.0));
+                for sight in vector_sights::of_accepted(vector, input, memory_len) {
+                    self.sight(sight);
                 }
             }
-            Interpretation::Packed(kind) => {
-                let unused = vector.k.next_multiple_of(COMPONENTS_A_WORD) - vector.k;
-                self.sight(format!("vector packed as kind {}, {unused} unused", kind.0));
-            }
-        }
-        if vector.input == vector.result {
-            self.sight(String::from("vector result in its input"));
-        }
-    }
-
-    fn matrix_and_bias(&mut self, vector: &VectorStep, memory_len: usize) {
-        let VectorStep { kind, matrix, layout, .. } = vector;
-        let bias = if vector.bias.is_some() { "with" } else { "without" };
-        self.sight(format!("vector to kind {} {bias} bias", kind.0));
-        self.sight(format!("vector by {layout:?} matrix of kind {}", matrix.0));
-        let (lines, along) = match layout {
-            MemoryLayout::RowMajor => (vector.m, vector.k),
-            MemoryLayout::ColumnMajor => (vector.k, vector.m),
-        };
-        if lines > 1 && vector.stride == 0 {
-            self.sight(format!("vector by {layout:?} matrix, stride 0"));
-        } else if lines > 1 && usize::from(vector.stride) < along * matrix.size() {
-            self.sight(format!("vector by {layout:?} matrix, overlapping"));
-        }
-        let reads_last = |place: std::ops::Range<u64>| place.end == memory_len as u64;
-        if vector.places().take(vector.matrix_elements()).any(reads_last) {
-            self.sight(String::from("matrix element at the end of memory"));
-        }
-        if vector.places().skip(vector.matrix_elements()).any(reads_last) {
-            self.sight(String::from("bias element at the end of memory"));
         }
     }
 
@@ -237,7 +181,7 @@ impl Coverage {
         }
         let whole = |record: &[i32]| (record[0] == WHOLE_STEP).then(|| &steps[record[1] as usize]);
         if records().filter_map(whole).any(is_vector) {
-            self.sight(String::from("record of a vector step"));
+            self.sight(String::from(vector_sights::RECORD));
         }
     }
 
@@ -275,9 +219,14 @@ impl Coverage {
         missing
     }
 
-    /// How often each job gave each number.
+    /// How often each job gave each number, and how many sheets have vector steps.
     pub fn table(&self) -> String {
-        let mut table = format!("{:<8}", "number");
+        let mut table = String::new();
+        if self.edition.has_vectors() {
+            let (some, all) = (self.sheets_with_vectors, self.sheets);
+            table += &format!("{some} of {all} sheets have vector steps\n");
+        }
+        table += &format!("{:<8}", "number");
         for job in JOBS {
             table += &format!("{:>20}", format!("{job:?} (places)"));
         }
@@ -297,7 +246,7 @@ impl Coverage {
 
 /// Everything that sheets of an edition are to be seen doing.
 fn sights(edition: Edition) -> Vec<String> {
-    let mut sights = if edition.has_vectors() { vector_sights() } else { Vec::new() };
+    let mut sights = if edition.has_vectors() { vector_sights::every() } else { Vec::new() };
     for sort in ["load skipped", "load filled", "load placed"] {
         sights.push(String::from(sort));
     }
@@ -327,45 +276,5 @@ fn sights(edition: Edition) -> Vec<String> {
     }
     sights.extend([4, 5].map(|c| format!("multiply-add to kind {c}")));
     sights.extend((0..5).map(|op| format!("record of op {op}")));
-    sights
-}
-
-/// Everything that vector steps are to be seen doing.
-fn vector_sights() -> Vec<String> {
-    let mut sights = [
-        "vector result in its input",
-        "matrix element at the end of memory",
-        "bias element at the end of memory",
-        "MatrixPastMemory by one byte",
-        "BiasPastMemory by one byte",
-        "record of a vector step",
-    ]
-    .map(String::from)
-    .to_vec();
-    for kind in (0..6).map(Kind) {
-        sights.extend((0..6).map(|own| format!("vector of kind {own} as kind {}", kind.0)));
-        // No number of 32 bits or less is below s32 or above u32.
-        if kind != Kind::S32 {
-            sights.push(format!("component below kind {}", kind.0));
-        }
-        if kind != Kind::U32 {
-            sights.push(format!("component above kind {}", kind.0));
-        }
-    }
-    for kind in [Kind::S8, Kind::U8] {
-        let packed = |unused| format!("vector packed as kind {}, {unused} unused", kind.0);
-        sights.extend((0..COMPONENTS_A_WORD).map(packed));
-    }
-    for layout in [MemoryLayout::RowMajor, MemoryLayout::ColumnMajor] {
-        sights.extend((0..6).map(|kind| format!("vector by {layout:?} matrix of kind {kind}")));
-        sights.extend(
-            ["stride 0", "overlapping"].map(|how| format!("vector by {layout:?} matrix, {how}")),
-        );
-    }
-    for kind in [Kind::U32, Kind::S32] {
-        sights.extend(
-            ["with", "without"].map(|bias| format!("vector to kind {} {bias} bias", kind.0)),
-        );
-    }
     sights
 }

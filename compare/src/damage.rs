@@ -35,25 +35,8 @@ const RESULT_KIND: &[u8] = &[3, 4, 5, 6];
 const INTERPRETATION: &[u8] = &[5, 6, 7, 8, 9, 10];
 const MEMORY_LAYOUT: &[u8] = &[1, 2];
 const BIAS: &[u8] = &[0, 2];
+/// A byte of a longer number.
 const LONGER: &[u8] = &[];
-/// A vector step up to its bias; a stride and an offset stand before that.
-const VECTOR_LIMITS: [&[u8]; 15] = [
-    REGISTER,
-    RESULT_KIND,
-    REGISTER,
-    INTERPRETATION,
-    KIND,
-    SIDE,
-    SIDE,
-    MEMORY_LAYOUT,
-    LONGER,
-    LONGER,
-    LONGER,
-    LONGER,
-    LONGER,
-    LONGER,
-    BIAS,
-];
 
 /// What sheets get in place of a tag, a length and their edition. A later edition's additions
 /// stay out of an earlier one's stock, so that a seed gives the earlier one the same sheets still.
@@ -80,8 +63,7 @@ impl Stock {
         stock
     }
 
-    /// The limits of the one-byte numbers of an edition or a step, in their order; none for a
-    /// byte of a longer number.
+    /// The limits of the one-byte numbers of an edition or a step, in their order.
     fn byte_limits(&self, tag: u8) -> Vec<&[u8]> {
         match tag {
             0x01 => vec![&self.editions],
@@ -91,7 +73,11 @@ impl Stock {
             0x23 => vec![REGISTER, REGISTER, SIDE, SIDE, MODE, COMBINE],
             0x24 => vec![REGISTER, REGISTER],
             0x25 => vec![REGISTER, REGISTER, REGISTER, REGISTER],
-            VECTOR if self.edition.has_vectors() => VECTOR_LIMITS.to_vec(),
+            VECTOR if self.edition.has_vectors() => {
+                let numbers = [REGISTER, RESULT_KIND, REGISTER, INTERPRETATION, KIND, SIDE, SIDE];
+                let stride_and_offset = [LONGER; 6];
+                [&numbers[..], &[MEMORY_LAYOUT], &stride_and_offset, &[BIAS]].concat()
+            }
             _ => vec![],
         }
     }
@@ -111,6 +97,7 @@ pub fn damage(random: &mut Random, sheet: &[u8], edition: Edition) -> Vec<u8> {
 pub fn noise(random: &mut Random, edition: Edition) -> Vec<u8> {
     let mut sheet = if random.percent(70) { vec![1, 1, 0, edition.number()] } else { Vec::new() };
     let start = sheet.len();
+    // Cutting alone makes few sheets without an edition.
     let empty = edition > Edition::One && random.percent(10);
     sheet.resize(start + if empty { 0 } else { random.below(80) }, 0);
     random.fill(&mut sheet[start..]);
@@ -133,7 +120,7 @@ fn damage_once(random: &mut Random, sheet: &mut Vec<u8>, stock: &Stock) {
         0 => sheet.truncate(random.below(sheet.len() + 1)),
         1 => sheet.extend((0..random.between(1, 4)).map(|_| random.pick(&stock.tags))),
         2 => sheet[start] = random.pick(&stock.tags),
-        3 => change_length(random, sheet, start, end, stock),
+        3 => change_length(random, sheet, (start, end), &stock.lengths),
         4 => drop(sheet.drain(start..end)),
         5 => repeat_field(random, sheet, start, end, fields.len()),
         6 => exchange(sheet, fields[random.below(fields.len())], (start, end)),
@@ -178,15 +165,8 @@ pub fn fields(sheet: &[u8]) -> Vec<Field> {
 
 /// Another length, most often one that some tag has or nearly has; now and then with as much
 /// content.
-fn change_length(
-    random: &mut Random,
-    sheet: &mut Vec<u8>,
-    start: usize,
-    end: usize,
-    stock: &Stock,
-) {
-    let length =
-        if random.percent(90) { random.pick(&stock.lengths) } else { random.bits() as u16 };
+fn change_length(random: &mut Random, sheet: &mut Vec<u8>, (start, end): Field, lengths: &[u16]) {
+    let length = if random.percent(90) { random.pick(lengths) } else { random.bits() as u16 };
     sheet[start + 1..start + 3].copy_from_slice(&length.to_le_bytes());
     if random.percent(50) {
         let mut content = sheet[start + 3..end].to_vec();

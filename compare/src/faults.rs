@@ -5,7 +5,7 @@ use crate::coverage::Coverage;
 use crate::jobs::{Answer, Jobs, Reference, State};
 use crate::reference::{
     check, do_step, read_sheet, Cause, Edition, Interpretation, Kind, Matrix, MemoryLayout,
-    Registers, Step, VectorStep,
+    Registers, Step, VectorStep, BIAS_SIZE,
 };
 
 /// So many cases find each fault out.
@@ -180,7 +180,9 @@ fn perform_with(fault: Fault, vector: &VectorStep, input: &Matrix, memory: &[u8]
     let mut input = input.clone();
     match (fault, vector.interpretation) {
         (Fault::ReadsColumnsAsRows, _) => faulty.layout = MemoryLayout::RowMajor,
-        (Fault::AddsTheNextBias, _) => faulty.bias = vector.bias.map(|offset| offset + 4),
+        (Fault::AddsTheNextBias, _) => {
+            faulty.bias = vector.bias.map(|offset| offset + BIAS_SIZE as u32)
+        }
         (Fault::SaturatesToUnsigned, Interpretation::Plain(kind)) if kind.is_signed() => {
             faulty.interpretation = Interpretation::Plain(Kind(kind.0 - 1));
         }

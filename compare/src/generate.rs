@@ -4,8 +4,8 @@ use crate::random::Random;
 use crate::reference::{
     check, check_step, sheet_bytes, whole_type, Cause, Checked, ClampMode, Clip, Combine,
     Dimension, Edition, Interpretation, Kind, Layout, MemoryLayout, Outcome, ReduceMode, Sheet,
-    Step, Type, Types, VectorStep, View, ViewDimension, COMPONENTS_A_WORD, MEMORY_MAX, REGISTERS,
-    SIDE_MAX,
+    Step, Type, Types, VectorStep, View, ViewDimension, BIAS_SIZE, COMPONENTS_A_WORD, MEMORY_MAX,
+    REGISTERS, SIDE_MAX,
 };
 
 const STEPS_MAX: usize = 32;
@@ -189,10 +189,15 @@ fn ends(checked: &Checked) -> impl Iterator<Item = usize> + '_ {
         _ => None,
     });
     let read = checked.sheet.steps.iter().filter_map(|step| match step {
-        Step::Vector(vector) => vector.places().map(|place| place.end as usize).max(),
+        Step::Vector(vector) => Some(end(vector)),
         _ => None,
     });
     placed.chain(read)
+}
+
+/// Where the last of the bytes that a vector step reads ends.
+fn end(vector: &VectorStep) -> usize {
+    vector.places().map(|place| place.end as usize).max().expect("a matrix has elements")
 }
 
 fn layout(random: &mut Random) -> Layout {
@@ -587,28 +592,24 @@ impl StepMaker<'_> {
     /// A vector step with an input of some type.
     fn vector_of(&mut self, input: usize, type_: Type) -> VectorStep {
         let (interpretation, k) = self.interpretation(type_);
-        let matrix = Kind(self.random.below(6) as u8);
-        let m = self.side();
-        let layout = self.random.pick(&[MemoryLayout::RowMajor, MemoryLayout::ColumnMajor]);
-        let (lines, along) = match layout {
-            MemoryLayout::RowMajor => (m, k),
-            MemoryLayout::ColumnMajor => (k, m),
-        };
-        let line = along * matrix.size();
-        let stride = self.stride(line);
-        VectorStep {
+        let mut vector = VectorStep {
             result: if self.random.percent(30) { input } else { self.any_register() },
-            kind: Kind(self.random.pick(&[4, 5])),
+            kind: self.random.pick(&[Kind::U32, Kind::S32]),
             input,
             interpretation,
-            matrix,
-            m,
+            matrix: Kind(self.random.below(6) as u8),
+            m: self.side(),
             k,
-            layout,
-            stride,
-            offset: self.offset((lines - 1) * usize::from(stride) + line),
-            bias: self.random.percent(50).then(|| self.offset(4 * m)),
-        }
+            layout: self.random.pick(&[MemoryLayout::RowMajor, MemoryLayout::ColumnMajor]),
+            stride: 0,
+            offset: 0,
+            bias: None,
+        };
+        let (_, line) = vector.lines();
+        vector.stride = self.stride(line);
+        vector.offset = self.offset(end(&vector));
+        vector.bias = self.random.percent(50).then(|| self.offset(BIAS_SIZE * vector.m));
+        vector
     }
 
     /// An interpretation of an input and the number of components that it gives; now and then

@@ -233,7 +233,7 @@ fn hex(bytes: &[u8]) -> String {
 #[cfg(test)]
 mod tests {
     use super::*;
-    use crate::reference::Edition;
+    use crate::reference::{check, Edition};
 
     #[test]
     fn what_does_not_matter_is_taken_away() {
@@ -242,5 +242,24 @@ mod tests {
         assert_eq!((small.memory.len(), small.tapes.len()), (0, 0));
         assert!(small.sheet.contains(&1));
         assert!(small.sheet.len() <= 4, "{small}");
+    }
+
+    #[test]
+    fn a_vector_step_becomes_one_product() {
+        let accepted_vector = |case: &Case| {
+            let checked = check(&case.sheet, case.memory.len()).ok()?;
+            checked.sheet.steps.into_iter().find_map(|step| match step {
+                Step::Vector(vector) => Some(vector),
+                _ => None,
+            })
+        };
+        let with_bias = |case: &Case| {
+            accepted_vector(case).is_some_and(|vector| vector.k > 1 && vector.bias.is_some())
+        };
+        let mut cases = (0..).map(|number| Case::of_seed(Edition::Two, 1, number));
+        let case = cases.find(with_bias).expect("there are some");
+        let small = shrink(case, &mut |case| accepted_vector(case).is_some());
+        let vector = accepted_vector(&small).expect("kept");
+        assert_eq!((vector.m, vector.k, vector.bias, small.memory.len()), (1, 1, None, 1));
     }
 }

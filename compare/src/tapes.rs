@@ -68,14 +68,17 @@ impl RecordMaker<'_> {
         [0, register as i32, object as i32, 0, 0, 0]
     }
 
-    /// A step of the sheet that can be done now, if some tries find one; now and then, where the
-    /// edition has them, a vector step that reads past memory.
+    /// A step of the sheet, where there is one now and then one that gets 14.
     fn whole_step(&mut self) -> Record {
-        if self.sheet.edition.has_vectors() && self.random.percent(40) {
-            if let Some(number) = self.step_past_memory() {
-                return [WHOLE_STEP, number as i32, 0, 0, 0, 0];
-            }
-        }
+        let number = match self.step_past_memory() {
+            Some(number) if self.random.percent(40) => number,
+            _ => self.step_to_do(),
+        };
+        [WHOLE_STEP, number as i32, 0, 0, 0, 0]
+    }
+
+    /// A step of the sheet that can be done now, if some tries find one.
+    fn step_to_do(&mut self) -> usize {
         let mut number = 0;
         for _ in 0..6 {
             number = self.random.below(self.sheet.steps.len() + 1);
@@ -86,10 +89,10 @@ impl RecordMaker<'_> {
                 }
             }
         }
-        [WHOLE_STEP, number as i32, 0, 0, 0, 0]
+        number
     }
 
-    /// A vector step with an input that fits, but with an element outside memory.
+    /// The first vector step whose input fits now, but whose elements do not all lie in memory.
     fn step_past_memory(&self) -> Option<usize> {
         self.sheet.steps.iter().position(|step| {
             let refused = whole_type(step, &self.types, self.memory_len).and_then(Result::err);

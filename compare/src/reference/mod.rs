@@ -24,7 +24,7 @@ pub use sheet::{
     Sheet, Step, View, ViewDimension,
 };
 pub use tape::{run_tape, translate, Record, Translated, WHOLE_STEP};
-pub use vector::{Interpretation, MemoryLayout, VectorStep, COMPONENTS_A_WORD};
+pub use vector::{Interpretation, MemoryLayout, VectorStep, BIAS_SIZE, COMPONENTS_A_WORD};
 pub use whole::whole_type;
 
 /// The longest memory, in bytes.

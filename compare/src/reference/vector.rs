@@ -11,7 +11,7 @@ use super::registers::{Matrix, Type};
 /// Components in a word of a packed input.
 pub const COMPONENTS_A_WORD: usize = 4;
 /// The bytes of a bias element.
-const BIAS_SIZE: u64 = 4;
+pub const BIAS_SIZE: usize = 4;
 
 /// A vector step: M by K elements times K components give M elements.
 #[derive(Clone, Copy, PartialEq, Eq, Debug)]
@@ -98,6 +98,15 @@ impl VectorStep {
         matrix.chain((0..self.m).filter_map(|row| self.bias_place(row)))
     }
 
+    /// The matrix's rows, or its columns where they lie side by side, and the bytes of one.
+    pub fn lines(&self) -> (usize, usize) {
+        let (lines, along) = match self.layout {
+            MemoryLayout::RowMajor => (self.m, self.k),
+            MemoryLayout::ColumnMajor => (self.k, self.m),
+        };
+        (lines, along * self.matrix.size())
+    }
+
     fn matrix_place(&self, row: usize, column: usize) -> Range<u64> {
         let (line, along) = match self.layout {
             MemoryLayout::RowMajor => (row as u64, column as u64),
@@ -109,8 +118,8 @@ impl VectorStep {
     }
 
     fn bias_place(&self, row: usize) -> Option<Range<u64>> {
-        let byte = u64::from(self.bias?) + row as u64 * BIAS_SIZE;
-        Some(byte..byte + BIAS_SIZE)
+        let byte = u64::from(self.bias?) + (row * BIAS_SIZE) as u64;
+        Some(byte..byte + BIAS_SIZE as u64)
     }
 
     /// The result of a step that is known to be accepted.
