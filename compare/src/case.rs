@@ -317,5 +317,6 @@ mod tests {
     fn a_seed_gives_an_edition_the_same_sheets_still() {
         let sheets = |edition| (0..1_000).flat_map(move |k| Case::of_seed(edition, 1, k).sheet);
         assert_eq!(hash(sheets(Edition::One)), 0xC95C_BF9F_4656_CA79);
+        assert_eq!(hash(sheets(Edition::Two)), 0x075D_D235_26F5_0940);
     }
 }

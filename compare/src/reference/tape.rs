@@ -12,6 +12,7 @@ const COPY: i32 = 0;
 const TAKE: i32 = 1;
 const PUT: i32 = 2;
 const FILL: i32 = 3;
+/// The op of a step that the tape does not take apart.
 pub const WHOLE_STEP: i32 = 4;
 const BYTE_STEP_MAX: i32 = 65_535;
 
