@@ -123,15 +123,18 @@ impl Coverage {
                 self.sight(format!("store of kind {}", kind(register)));
                 self.access("store", sheet, layout, view, outcomes);
             }
-            Step::Reduce { mode, combine, source, .. } => {
+            Step::Reduce { result, mode, combine, source, .. } => {
+                self.onto("reduce", result, &[source]);
                 self.sight(format!("reduce {mode:?} {combine:?}"));
                 self.sight(format!("reduce {combine:?} of kind {}", kind(source)));
             }
-            Step::MultiplyAdd { a, b, c, .. } => {
+            Step::MultiplyAdd { result, a, b, c } => {
+                self.onto("multiply-add", result, &[a, b, c]);
                 self.sight(format!("multiply-add of kinds {} and {}", kind(a), kind(b)));
                 self.sight(format!("multiply-add to kind {}", kind(c)));
             }
-            Step::Transpose { source, .. } => {
+            Step::Transpose { result, source } => {
+                self.onto("transpose", result, &[source]);
                 self.sight(format!("transpose of kind {}", kind(source)));
             }
             Step::Fill { kind, .. } => self.sight(format!("fill of kind {}", kind.0)),
@@ -141,6 +144,13 @@ impl Coverage {
                     self.sight(sight);
                 }
             }
+        }
+    }
+
+    /// A result may name a source, whose old contents are read.
+    fn onto(&mut self, step: &str, result: usize, sources: &[usize]) {
+        if let Some(source) = sources.iter().position(|&source| source == result) {
+            self.sight(format!("{step} onto source {source}"));
         }
     }
 
@@ -275,6 +285,8 @@ fn sights(edition: Edition) -> Vec<String> {
         sights.extend((0..6).map(|b| format!("multiply-add of kinds {a} and {b}")));
     }
     sights.extend([4, 5].map(|c| format!("multiply-add to kind {c}")));
+    sights.extend(["reduce", "transpose"].map(|step| format!("{step} onto source 0")));
+    sights.extend((0..3).map(|source| format!("multiply-add onto source {source}")));
     sights.extend((0..5).map(|op| format!("record of op {op}")));
     sights
 }

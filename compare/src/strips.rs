@@ -1,4 +1,4 @@
-//! The strips of the scope and one beside them: sheets and memories from the files under `strips/`, and what the
+//! The strips of the scope and two beside them: sheets and memories from the files under `strips/`, and what the
 //! scope says that they give.
 
 use crate::jobs::{Jobs, State};
@@ -16,8 +16,8 @@ pub struct Strip {
 pub enum Expected {
     /// The sides of a register's u8 matrix and its elements.
     Register(usize, [u8; 2], &'static [u32]),
-    /// The first bytes of memory; the others keep what they held.
-    Memory(&'static [u8]),
+    /// The bytes of memory from a place on; the others keep what they held.
+    Memory(usize, &'static [u8]),
     /// Number and place of a refusal.
     Refusal([u32; 3]),
 }
@@ -33,7 +33,7 @@ macro_rules! strip {
     };
 }
 
-/// Every strip, in the scope's order; the last is none of the scope's.
+/// Every strip, in the scope's order; the last two are none of the scope's.
 pub fn strips() -> Vec<Strip> {
     use Expected::*;
     vec![
@@ -43,14 +43,18 @@ pub fn strips() -> Vec<Strip> {
         strip!("04-mirror-repeat", Register(1, [1, 8], &[2, 1, 0, 1, 2, 3, 2, 1])),
         strip!("04-mirror-repeat-of-one", Register(1, [1, 8], &[0; 8])),
         strip!("05-undefined", Refusal([13, 1, 0])),
-        strip!("06-clamped-store", Memory(&[16, 17, 18, 19])),
+        strip!("06-clamped-store", Memory(0, &[16, 17, 18, 19])),
         strip!("07-permuted-view", Register(0, [3, 2], &[0, 3, 1, 4, 2, 5])),
         strip!("08-clip", Register(0, [2, 4], &[99, 99, 0, 1, 99, 99, 4, 5])),
         strip!("09-large-index", Refusal([12, 1, 1])),
-        strip!("10-stride-zero-single", Memory(&[5])),
+        strip!("10-stride-zero-single", Memory(0, &[5])),
         strip!("10-stride-zero-pair", Refusal([15, 1, 1])),
         strip!("11-two-by-two-add", Register(1, [1, 1], &[47])),
         strip!("12-blocks-of-two", Register(1, [1, 8], &[0, 0, 1, 1, 2, 2, 3, 3])),
+        strip!(
+            "13-two-layer-network",
+            Memory(80, &[0xF4, 0x01, 0, 0, 0xC5, 0x03, 0, 0, 0x48, 0xF4, 0xFF, 0xFF])
+        ),
     ]
 }
 
@@ -98,7 +102,9 @@ fn check_strip(jobs: &dyn Jobs, strip: &Strip) -> Result<(), String> {
             equal("type", &state.types[4 * register..][..4], &[0, rows, columns, 0])?;
             equal("elements", &state.elements[at..at + elements.len()], elements)?;
         }
-        Expected::Memory(bytes) => expected_memory[..bytes.len()].copy_from_slice(bytes),
+        Expected::Memory(at, bytes) => {
+            expected_memory[at..at + bytes.len()].copy_from_slice(bytes);
+        }
         Expected::Refusal(refusal) => expected_answer = refusal,
     }
     equal("number and place", &answer[..3], &expected_answer)?;
@@ -142,6 +148,6 @@ mod tests {
 
     #[test]
     fn the_reference_gives_what_the_scope_says() {
-        assert_eq!(check_strips(&Reference::default()), Ok(14));
+        assert_eq!(check_strips(&Reference::default()), Ok(15));
     }
 }
