@@ -17,7 +17,7 @@ use Rattle.sheet.specs.declared.Window.{Window}
 use Rattle.sheet.specs.declared.Sheet.{Sheet}
 use Rattle.sheet.specs.declared.Step.{Step}
 use Rattle.sheet.specs.declared.Step.the-variants.{Nothing, Load, Store, Whole}
-use Rattle.sheet.specs.Laws.Within.{InRange, within-places}
+use Rattle.sheet.specs.Laws.Within.{Within, within-places}
 use Rattle.registers.specs.Types.{theType}
 use Rattle.registers.specs.Registers.{emptyRegisters}
 use Rattle.registers.specs.Sized.{SizedType, Sized}
@@ -74,7 +74,7 @@ module _ (len : ℕ) (most : len ≤ memoryLimit) where
         access-within false register window (theType ts register) (store-register layouts views register window ok) (s .each register)
     step-within ts k (Whole whole) edition layouts views l ok s = (omega arith, tt)
 
-    module _ (w : InRange sh) where
+    module _ (w : Within sh) where
       from-within : (n k : ℕ) (ts : List MatrixType) → k + n ≤ sh .steps → Sized ts → AllInRange (tapeFrom n sh len k ts)
       unfolding tapeFrom
       from-within zero k ts l s = tt

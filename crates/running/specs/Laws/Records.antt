@@ -16,7 +16,7 @@ use Rattle.sheet.specs.Laws.Within.{Within}
 use Rattle.memory.specs.Laws.Elements.{length-with}
 use Rattle.registers.specs.Types.{theType}
 use Rattle.sheet.specs.Sizes.{matrixPlaces}
-use Rattle.registers.specs.Registers.{stepPlace, elementOf}
+use Rattle.registers.specs.Registers.{placeOf, elementOf}
 use Rattle.registers.specs.Sized.{Sized}
 use Rattle.transfers.specs.Acts.{State}
 use Rattle.carrying.specs.Steps.{Machine, performedStep, stateOf}
@@ -26,8 +26,7 @@ use Rattle.records.specs.declared.Record.{Record}
 use Rattle.records.specs.declared.Record.the-variants.{Copy, Take, Put, Fill, Whole}
 use Rattle.records.specs.declared.Decoded.{Decoded}
 use Rattle.records.specs.declared.Decoded.the-variants.{Good, Bad}
-use Rattle.judging.specs.Records.{recordOk, recordTypes, elementsOk}
-use Rattle.judging.specs.Records as judged
+use Rattle.judging.specs.Records.{recordOk, recordTypes, elementsOk, stepPlace}
 use Rattle.judging.specs.Judging.{placeNamed, decodedOk, decodedTypes}
 use Rattle.judging.specs.Laws.Elements.{elements-fit, bytes-elements, fill-elements}
 use Rattle.judging.specs.Laws.Records.{whole-named, record-sized, record-registers}
@@ -61,7 +60,7 @@ module _ (sh : Sheet) (m : Machine) (len : ℕ) where
 
   record-places : (r : Record) → length (ranRecord sh r m .registers .elements) ≡ length (m .registers .elements)
   unfolding ranRecordWith
-  record-places (Copy register object) = length-line (m .registers .elements) (stepPlace register 0) (elementOf (m .registers .elements) object) matrixPlaces
+  record-places (Copy register object) = length-line (m .registers .elements) (placeOf register 0) (elementOf (m .registers .elements) object) matrixPlaces
   record-places (Take register first count byte up down) =
       order-keeps _ (λ (s : State). length (s .elements)) (λ i s. length-set (s .elements) _ _) count (stateOf m)
   record-places (Put register first count byte up down) =
@@ -119,7 +118,7 @@ module _ (sh : Sheet) (m : Machine) (len : ℕ) where
 -- with what stands at the place of the step that a record in range names, it does what it does with the sheet
 pub named-ran : (sh : Sheet) (ts : List MatrixType) (len : ℕ) (d : Decoded) {at : ℕ} → at ≡ placeNamed (sh .steps) d → decodedOk sh ts len d ≡ true
     → (m : Machine) → ranDecodedWith (sh .tensors) (theStep (sh .step) at) d m ≡ ranDecoded sh d m
-unfolding ranRecordWith judged.placeOf pick
+unfolding ranRecordWith stepPlace pick
 named-ran sh ts len (Good (Copy register object)) so e m = refl
 named-ran sh ts len (Good (Take register first count byte up down)) so e m = refl
 named-ran sh ts len (Good (Put register first count byte up down)) so e m = refl
