@@ -67,7 +67,7 @@ module _ (len : ℕ) (most : len ≤ memoryLimit) where
     step-within ts k (Load register object window) edition layouts views l ok s =
         let few = load-register layouts views register object window ok in
         let t = theType ts (objectRegister register object) in
-        all-append ranges.Within (copyRecords register object) (accessRecords (accessOf (sh .tensors) true window t len) register)
+        all-append ranges.InRange (copyRecords register object) (accessRecords (accessOf (sh .tensors) true window t len) register)
         (copies-within register object few (load-object-ok layouts views register object window ok))
         (access-within true register window t few (s .each (objectRegister register object)))
     step-within ts k (Store register window) edition layouts views l ok s =
@@ -81,7 +81,7 @@ module _ (len : ℕ) (most : len ≤ memoryLimit) where
       from-within (suc n) k ts l s =
           let st = theStep (sh .step) k in
           let ok = within-step sh w k (omega arith) in
-          all-append ranges.Within (stepRecords (sh .tensors) ts len k st) _
+          all-append ranges.InRange (stepRecords (sh .tensors) ts len k st) _
           (step-within ts k st (sh .edition) (sh .tensors .layouts) (sh .tensors .views) (omega (arith, within-places w)) ok s)
           (from-within n (k + 1) _ (omega arith) (check-sized (sh .edition) (sh .tensors) ts len st (sh .edition) (sh .tensors .layouts) (sh .tensors .views) ok s))
 
