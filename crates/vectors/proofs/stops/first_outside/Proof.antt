@@ -1,11 +1,11 @@
-use borrow.Author.Needs.{needs}
-use native.Mathlib.Omega.{arith}
 use mathlib.Core.Path.{_≡_, sym, _∙_}
 use Prim.Native.Nat.{ℕ, _-_, _≤_}
-use Rattle.numbers.specs.First.{firstFrom, first-found, first-next, first-end}
-use Rattle.vectors.specs.Refusals.{outside}
-use Rattle.vectors.specs.Places.{endOf}
+use native.Mathlib.Omega.{arith}
+use borrow.Author.Needs.{needs}
 use borrow.Author.Tests.{lt-ltb, le-ltb}
+use Rattle.numbers.specs.First.{firstFrom, first-found, first-next, first-end}
+use Rattle.vectors.specs.Places.{endOf}
+use Rattle.vectors.specs.Refusals.{outside}
 use Rattle.vectors.proofs.stops.first_outside.Statement.{statement}
 use Rattle.vectors.proofs.stops.first_outside.Tie as tie
 
