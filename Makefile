@@ -11,14 +11,15 @@
 #   make test       these, those of the header's promises, and those of an installed library
 #   make text-test  try the text form and the diagnoses, with sanitizers: on all sheets of the
 #                   comparison, and on TEXTS damaged texts
-#   make compare    hold the archive to the second implementation; SHEETS=n SEED=n for other sheets
+#   make compare    hold the archive to the second implementation on SHEETS sheets of each edition;
+#                   SHEETS=n SEED=n for other sheets
 #   make bench      time the archive beside it
 #   make night-speed  time a night of NIGHT sheets with eight cards
 #   make lint       cppcheck, warnings as errors, and the header as C++
 #   make check      lint, test, text-test and compare: all but the proofs
 #   make memcheck   the tool's tests with sanitizers, then with each third call (of diff and night:
-#                   each ninth) under valgrind, then 1,000 sheets of the comparison under it: some
-#                   three minutes
+#                   each ninth) under valgrind, then 500 sheets of each edition of the comparison
+#                   under it: some three minutes
 #
 # The archive is made by `rt staticlib moonbleat`, which proves what is not proved yet: some
 # minutes the first time. ARCHIVE=path names another one.
@@ -143,7 +144,7 @@ memcheck: all
 	$(MAKE) $(SANITIZED) tool-test
 	RUNNER='$(VALGRIND) $(LEAKS)' EVERY=3 tests/tool.sh $(TOOL)
 	RUNNER='$(VALGRIND) $(LEAKS)' EVERY=9 tests/night.sh $(TOOL)
-	CARGO_TARGET_X86_64_UNKNOWN_LINUX_GNU_RUNNER='$(VALGRIND)' $(CARGO) run $(CARGO_WORDS) -- --sheets 1000
+	CARGO_TARGET_X86_64_UNKNOWN_LINUX_GNU_RUNNER='$(VALGRIND)' $(CARGO) run $(CARGO_WORDS) -- --sheets 500
 
 # The sheets of the comparison as files.
 $(SHEET_FILES): $(ARCHIVE) $(wildcard compare/src/*.rs compare/src/reference/*.rs)

@@ -198,7 +198,9 @@ static void close_field(struct assembler *assembler)
         }
         set_computed(assembler);
         write_field(assembler);
-        note_field(&assembler->reading, assembler->form);
+        note_field(&assembler->reading, &(struct field){.form = assembler->form,
+                                                        .content = assembler->parts[0].bytes,
+                                                        .content_len = assembler->parts[0].len});
         assembler->form = NULL;
     }
 }
@@ -385,7 +387,7 @@ static bool take_lines(struct assembler *assembler, const char *text, size_t len
 static void judge_sheet(struct assembler *assembler)
 {
     const struct bytes *sheet = &assembler->assembly->sheet;
-    struct reading reading = {{0}, EDITION_RANK};
+    struct reading reading = {.rank = EDITION_RANK};
     struct field field;
     size_t at = 0, origin = 0;
     for (; field_at(sheet->at, sheet->len, at, &field); at = field_end(&field)) {
@@ -397,7 +399,7 @@ static void judge_sheet(struct assembler *assembler)
             report_field(assembler, &assembler->origins[origin], &sentence);
         }
         if (field.form != NULL) {
-            note_field(&reading, field.form);
+            note_field(&reading, &field);
         }
     }
     struct text sentence = {.len = 0};

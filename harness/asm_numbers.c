@@ -29,7 +29,8 @@ static bool parse_integer(struct token token, int64_t *number)
 static bool parse_name(const struct number_form *form, struct token token, int64_t *number)
 {
     for (int64_t i = form->low; i <= form->high; i++) {
-        if (is_word(token, form->name_of((uint32_t)i))) {
+        const char *name = form->name_of((uint32_t)i);
+        if (name != NULL && is_word(token, name)) {
             *number = i;
             return true;
         }
@@ -57,15 +58,26 @@ static bool parse_word(const struct number_form *form, struct token token, int64
     return parse_integer((struct token){token.at + 1, token.len - 1, token.column + 1}, number);
 }
 
+/* Adds ": row or column", all names that a form's numbers have. */
+static void add_names(struct text *text, const struct number_form *form)
+{
+    const char *before = ":";
+    for (int64_t i = form->low; i <= form->high; i++) {
+        const char *name = form->name_of((uint32_t)i);
+        if (name != NULL) {
+            add_text(text, "%s %s", before, name);
+            before = " or";
+        }
+    }
+}
+
 /* What may stand in a number's place, in words. */
 static struct text expected(const struct number_form *form)
 {
     struct text text = {.len = 0};
     add_text(&text, "expected the %s", form->name);
     if (form->name_of != NULL) {
-        for (int64_t i = form->low; i <= form->high; i++) {
-            add_text(&text, "%s %s", i == form->low ? ":" : " or", form->name_of((uint32_t)i));
-        }
+        add_names(&text, form);
     } else if (prefix_of(form->sort) != '\0') {
         add_text(&text, " as %c0", prefix_of(form->sort));
     } else {
@@ -87,7 +99,7 @@ struct bounds {
 static struct range width_range(const struct number_form *form)
 {
     int64_t size = INT64_C(1) << 8 * form->width;
-    return form->sort == SIGNED ? (struct range){-size / 2, size / 2 - 1} : (struct range){0, size - 1};
+    return form->sort == SIGNED ? (struct range){-size / 2, size / 2 - 1, NULL} : (struct range){0, size - 1, NULL};
 }
 
 /* The range of a number where it stands in the text. An element's value may be written by its sign
@@ -95,7 +107,7 @@ static struct range width_range(const struct number_form *form)
 static struct range text_range(const struct number_form *form, const struct bounds *bounds)
 {
     bool names_part = form->sort == LAYOUT || form->sort == VIEW;
-    struct range range = {form->low, form->high};
+    struct range range = {form->low, form->high, NULL};
     if (bounds->allows_refused) {
         range = width_range(form);
     } else if (!names_part || bounds->before != NULL) {
@@ -112,7 +124,7 @@ static uint32_t judged(struct line *line, const struct number_form *form, const 
                        size_t column)
 {
     struct range range = text_range(form, bounds);
-    if (!is_none(form, number) && (number < range.low || number > range.high)) {
+    if (!is_none(form, number) && !is_within(number, range)) {
         struct text sentence = {.len = 0};
         add_out_of_range(&sentence, form->name, number, range);
         report(line, column, &sentence);
@@ -217,8 +229,9 @@ void take_part(struct line *line, const struct reading *before, const struct par
             continue;
         }
         uint32_t bits = number->lacking;
-        bool computed = number->sort == COUNT || number->sort == SIZED;
-        if (!computed) {
+        if (number->sort == HAS_BIAS) {
+            bits = is_word(peek(line), number[1].keyword);
+        } else if (!is_computed(number->sort)) {
             given = is_given(line, number, given);
             bits = given ? take_number(line, form, number, &bounds) : bits;
         }

@@ -69,6 +69,10 @@ const struct command asm_command = {
                "  fill r0 1x8 u8 0\n"
                "  load r1 object r0 L0 base 0\n"
                "\n"
+               "Edition 2 also has the vector step, a matrix in memory times a vector, with a bias or without:\n"
+               "\n"
+               "  vector r2 s32 of r1 as packed-s8 matrix s8 4x6 row-major stride 6 offset 16 bias 64\n"
+               "\n"
                "The first ten errors are printed as TEXT:LINE:COLUMN: and a sentence. A sheet that is read but\n"
                "refused whatever the memory is written with a warning. Behind a first line 'allow refused'\n"
                "numbers may be out of their ranges and fields out of order, with a warning too.\n",

@@ -16,7 +16,7 @@ static void json_value(struct json *json, const struct value *value, const char 
     const struct number_form *form = value->form;
     if (form->name_of != NULL) {
         json_text(json, key, form->name_of(value->raw));
-    } else if (is_none(form, value->raw)) {
+    } else if (is_none(form, value->raw) || lacks_bias(value)) {
         json_null(json, key);
     } else {
         json_number(json, key, number_of(form, value->raw));

@@ -10,7 +10,7 @@
 static bool find_field_fault(const struct refused *refused, struct text *cause)
 {
     size_t place = refused->answer[MOONBLEAT_PLACE];
-    struct reading reading = {{0}, EDITION_RANK};
+    struct reading reading = {.rank = EDITION_RANK};
     struct field field;
     size_t at = 0;
     for (; field_at(refused->sheet, refused->sheet_len, at, &field); at = field_end(&field)) {
@@ -18,7 +18,7 @@ static bool find_field_fault(const struct refused *refused, struct text *cause)
         if (number != 0) {
             return at == place && number == refused->answer[MOONBLEAT_NUMBER];
         }
-        note_field(&reading, field.form);
+        note_field(&reading, &field);
     }
     size_t left = refused->sheet_len - at;
     if (left > 0) {

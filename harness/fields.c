@@ -39,10 +39,21 @@ static const char *combine_name(uint32_t combine)
     return combine < LENGTH(names) ? names[combine] : NULL;
 }
 
+static const char *memory_layout_name(uint32_t layout)
+{
+    static const char *const names[] = {
+        [MOONBLEAT_ROW_MAJOR] = "row-major",
+        [MOONBLEAT_COLUMN_MAJOR] = "column-major",
+    };
+    return layout < LENGTH(names) ? names[layout] : NULL;
+}
+
 /* -- Numbers ---------------------------------------------------------------------------------- */
 
-#define EDITION_MIN 1
-#define EDITION_MAX 1
+/* The editions that brought fields. */
+#define FIRST_EDITION 1
+#define VECTOR_EDITION 2
+
 #define REGISTER_MAX (MOONBLEAT_REGISTERS - 1)
 #define EXTENT_MAX 4096
 #define OFFSET_MIN (-4096)
@@ -52,13 +63,13 @@ static const char *combine_name(uint32_t combine)
 #define NUMBER(name, keyword, sort, width, low, high) {name, keyword, sort, width, low, high, NULL, false, 0}
 #define OPTIONAL(name, keyword, sort, width, low, high, lacking) \
     {name, keyword, sort, width, low, high, NULL, true, lacking}
-#define NAMES(name, sort, low, high, namer) {name, NULL, sort, 1, low, high, namer, false, 0}
+#define NAMES(name, keyword, sort, low, high, namer) {name, keyword, sort, 1, low, high, namer, false, 0}
 
 #define WRITTEN(name) NUMBER(name, NULL, RESULT, 1, 0, REGISTER_MAX)
 #define READ(name, keyword) NUMBER(name, keyword, REGISTER, 1, 0, REGISTER_MAX)
-#define SIDES \
-    NUMBER("rows", NULL, ROWS, 1, 1, MOONBLEAT_SIDE_MAX), \
-    NUMBER("columns", NULL, COLUMNS, 1, 1, MOONBLEAT_SIDE_MAX)
+#define SIDES(rows, columns) \
+    NUMBER(rows, NULL, ROWS, 1, 1, MOONBLEAT_SIDE_MAX), \
+    NUMBER(columns, NULL, COLUMNS, 1, 1, MOONBLEAT_SIDE_MAX)
 #define DIMENSION_COUNT NUMBER("dimension count", NULL, COUNT, 1, 1, DIMENSIONS_MAX)
 #define ADDRESSING \
     NUMBER("layout", NULL, LAYOUT, 1, 0, MOONBLEAT_LAYOUTS_MAX - 1), \
@@ -66,11 +77,11 @@ static const char *combine_name(uint32_t combine)
     NUMBER("base", "base", PLAIN, 4, 0, UINT32_MAX)
 
 static const struct number_form edition_numbers[] = {
-    NUMBER("edition", NULL, PLAIN, 1, EDITION_MIN, EDITION_MAX),
+    NUMBER("edition", NULL, PLAIN, 1, FIRST_EDITION, MOONBLEAT_EDITION_MAX),
 };
 static const struct number_form layout_numbers[] = {
     DIMENSION_COUNT,
-    NAMES("clamp mode", MODE, MOONBLEAT_CLAMP_UNDEFINED, MOONBLEAT_CLAMP_MIRROR_REPEAT, clamp_mode_name),
+    NAMES("clamp mode", NULL, MODE, MOONBLEAT_CLAMP_UNDEFINED, MOONBLEAT_CLAMP_MIRROR_REPEAT, clamp_mode_name),
     OPTIONAL("clamp value", "value", PLAIN, 4, 0, UINT32_MAX, 0),
 };
 static const struct number_form dimension_numbers[] = {
@@ -99,8 +110,8 @@ static const struct number_form clip_numbers[] = {
 };
 static const struct number_form fill_numbers[] = {
     WRITTEN("register"),
-    SIDES,
-    NAMES("kind", KIND, MOONBLEAT_U8, MOONBLEAT_S32, kind_name),
+    SIDES("rows", "columns"),
+    NAMES("kind", NULL, KIND, MOONBLEAT_U8, MOONBLEAT_S32, kind_name),
     NUMBER("value", NULL, VALUE, 4, 0, UINT32_MAX),
 };
 static const struct number_form load_numbers[] = {
@@ -115,9 +126,9 @@ static const struct number_form store_numbers[] = {
 static const struct number_form reduce_numbers[] = {
     WRITTEN("result"),
     READ("source", "of"),
-    SIDES,
-    NAMES("mode", MODE, MOONBLEAT_REDUCE_ROW, MOONBLEAT_REDUCE_2X2, reduce_mode_name),
-    NAMES("combine", MODE, MOONBLEAT_COMBINE_ADD, MOONBLEAT_COMBINE_XOR, combine_name),
+    SIDES("rows", "columns"),
+    NAMES("mode", NULL, MODE, MOONBLEAT_REDUCE_ROW, MOONBLEAT_REDUCE_2X2, reduce_mode_name),
+    NAMES("combine", NULL, MODE, MOONBLEAT_COMBINE_ADD, MOONBLEAT_COMBINE_XOR, combine_name),
 };
 static const struct number_form transpose_numbers[] = {
     WRITTEN("result"),
@@ -129,11 +140,25 @@ static const struct number_form multiply_add_numbers[] = {
     READ("B", "B"),
     READ("C", "C"),
 };
+static const struct number_form vector_numbers[] = {
+    WRITTEN("result"),
+    NAMES("result kind", NULL, KIND, MOONBLEAT_U32, MOONBLEAT_S32, kind_name),
+    READ("input", "of"),
+    NAMES("input interpretation", "as", MODE, MOONBLEAT_U8, MOONBLEAT_PACKED_U8, interpretation_name),
+    NAMES("matrix interpretation", "matrix", MODE, MOONBLEAT_U8, MOONBLEAT_S32, kind_name),
+    SIDES("M", "K"),
+    NAMES("memory layout", NULL, MODE, MOONBLEAT_ROW_MAJOR, MOONBLEAT_COLUMN_MAJOR, memory_layout_name),
+    NUMBER("stride", "stride", PLAIN, 2, 0, UINT16_MAX),
+    NUMBER("matrix offset", "offset", PLAIN, 4, 0, UINT32_MAX),
+    NUMBER("bias", NULL, HAS_BIAS, 1, 0, 1),
+    OPTIONAL("bias offset", "bias", BIAS, 4, 0, UINT32_MAX, 0),
+};
 
 /* -- Fields ----------------------------------------------------------------------------------- */
 
 #define PART(repeat, word, plural, words, numbers) {repeat, word, plural, words, numbers, LENGTH(numbers)}
-#define STEP(tag, name, words, numbers) {tag, STEP_RANK, name, {PART(ONCE, NULL, NULL, words, numbers)}, 1}
+#define STEP(tag, since, name, words, numbers) \
+    {tag, since, STEP_RANK, name, {PART(ONCE, NULL, NULL, words, numbers)}, 1}
 
 const struct rank_form rank_forms[RANKS] = {
     [EDITION_RANK] = {"edition", '\0', 1},
@@ -144,11 +169,13 @@ const struct rank_form rank_forms[RANKS] = {
 
 const struct field_form field_forms[] = {
     {MOONBLEAT_TAG_EDITION,
+     FIRST_EDITION,
      EDITION_RANK,
      "edition",
      {PART(ONCE, NULL, NULL, "edition {edition}", edition_numbers)},
      1},
     {MOONBLEAT_TAG_LAYOUT,
+     FIRST_EDITION,
      LAYOUT_RANK,
      "layout",
      {PART(ONCE, NULL, NULL, "{dimension count}, clamp mode {clamp mode}, clamp value {clamp value}", layout_numbers),
@@ -156,6 +183,7 @@ const struct field_form field_forms[] = {
            "block {block}, size {size}, stride {stride}, offset {offset}, span {span}", dimension_numbers)},
      2},
     {MOONBLEAT_TAG_VIEW,
+     FIRST_EDITION,
      VIEW_RANK,
      "view",
      {PART(ONCE, NULL, NULL, "{dimension count}, {has-dimensions}, permutation", view_numbers),
@@ -165,18 +193,24 @@ const struct field_form field_forms[] = {
            "clip: rows from {row offset}, span {row span}; columns from {column offset}, span {column span}",
            clip_numbers)},
      4},
-    STEP(MOONBLEAT_TAG_FILL, "fill", "fill register {register}, {rows} by {columns} of {kind}, with {value}",
-         fill_numbers),
-    STEP(MOONBLEAT_TAG_LOAD, "load", "load register {register}, {object}, layout {layout}, {view}, base {base}",
-         load_numbers),
-    STEP(MOONBLEAT_TAG_STORE, "store", "store register {register}, layout {layout}, {view}, base {base}",
-         store_numbers),
-    STEP(MOONBLEAT_TAG_REDUCE, "reduce",
+    STEP(MOONBLEAT_TAG_FILL, FIRST_EDITION, "fill",
+         "fill register {register}, {rows} by {columns} of {kind}, with {value}", fill_numbers),
+    STEP(MOONBLEAT_TAG_LOAD, FIRST_EDITION, "load",
+         "load register {register}, {object}, layout {layout}, {view}, base {base}", load_numbers),
+    STEP(MOONBLEAT_TAG_STORE, FIRST_EDITION, "store",
+         "store register {register}, layout {layout}, {view}, base {base}", store_numbers),
+    STEP(MOONBLEAT_TAG_REDUCE, FIRST_EDITION, "reduce",
          "reduce register {source} to register {result}, {rows} by {columns}, mode {mode}, combine {combine}",
          reduce_numbers),
-    STEP(MOONBLEAT_TAG_TRANSPOSE, "transpose", "transpose register {source} to register {result}", transpose_numbers),
-    STEP(MOONBLEAT_TAG_MULTIPLY_ADD, "multiply-add",
+    STEP(MOONBLEAT_TAG_TRANSPOSE, FIRST_EDITION, "transpose", "transpose register {source} to register {result}",
+         transpose_numbers),
+    STEP(MOONBLEAT_TAG_MULTIPLY_ADD, FIRST_EDITION, "multiply-add",
          "multiply registers {A} and {B}, add register {C}, to register {result}", multiply_add_numbers),
+    STEP(MOONBLEAT_TAG_VECTOR, VECTOR_EDITION, "vector",
+         "multiply a {M} by {K} matrix of {matrix interpretation} ({memory layout}, stride {stride}, offset "
+         "{matrix offset}) and register {input} as {input interpretation}, {bias offset}, to register {result} of "
+         "{result kind}",
+         vector_numbers),
 };
 
 const size_t field_form_count = LENGTH(field_forms);
@@ -207,6 +241,11 @@ char prefix_of(enum sort sort)
     }
 }
 
+bool is_computed(enum sort sort)
+{
+    return sort == COUNT || sort == SIZED || sort == HAS_BIAS;
+}
+
 bool may_be_none(const struct number_form *form)
 {
     return form->sort == OBJECT || form->sort == VIEW;
@@ -215,6 +254,11 @@ bool may_be_none(const struct number_form *form)
 bool is_none(const struct number_form *form, int64_t number)
 {
     return may_be_none(form) && number == MOONBLEAT_NONE;
+}
+
+bool lacks_bias(const struct value *value)
+{
+    return value->form->sort == BIAS && value[-1].raw == 0;
 }
 
 /* -- Walking ---------------------------------------------------------------------------------- */

@@ -23,6 +23,8 @@ enum sort {
     SIGNED,   /* in two's complement */
     COUNT,    /* of the dimensions that follow */
     SIZED,    /* whether a view has dimensions of its own */
+    HAS_BIAS, /* whether there is the bias whose offset follows */
+    BIAS,     /* that offset */
     PERMUTED, /* one of the dimensions' numbers, each once */
     RESULT,   /* r0, a register that is written */
     REGISTER, /* r0, one that is read */
@@ -46,7 +48,7 @@ struct number_form {
     uint8_t width; /* bytes */
     int64_t low;   /* its range; some sorts have a narrower one, see range_of */
     int64_t high;
-    namer *name_of;   /* of a MODE or a KIND */
+    namer *name_of;   /* of a MODE or a KIND; a number without a name is out of the range */
     bool may_lack;    /* the text form may leave it out .. */
     uint32_t lacking; /* .. and then it is this number */
 };
@@ -68,6 +70,7 @@ enum rank { EDITION_RANK, LAYOUT_RANK, VIEW_RANK, STEP_RANK, RANKS };
 
 struct field_form {
     uint8_t tag;
+    uint8_t since; /* the edition that it comes with */
     enum rank rank;
     const char *name; /* also the first word of its line in the text form */
     struct part_form parts[PARTS_MAX];
@@ -127,12 +130,18 @@ uint32_t value_of_sort(const struct values *values, enum sort sort);
 /* The letter before a number of a sort in the text form; 0: none. */
 char prefix_of(enum sort sort);
 
+/* Whether a number follows from the others of its text: it is not written there. */
+bool is_computed(enum sort sort);
+
 /* What stands in place of an object or a view that there is none of. */
 #define NONE_WORD "none"
 
 /* Whether a number may say that there is none, and whether it does. */
 bool may_be_none(const struct number_form *form);
 bool is_none(const struct number_form *form, int64_t number);
+
+/* Whether a number of a field is the offset of a bias that there is not: the number before it says so. */
+bool lacks_bias(const struct value *value);
 
 /* The number that raw bits of a form stand for. */
 int64_t number_of(const struct number_form *form, uint32_t raw);

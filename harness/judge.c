@@ -7,7 +7,7 @@
 
 struct range range_of(const struct number_form *form, const struct reading *reading, uint32_t kind)
 {
-    struct range range = {form->low, form->high};
+    struct range range = {form->low, form->high, form->name_of};
     if (form->sort == LAYOUT || form->sort == VIEW) {
         int64_t last = (int64_t)reading->counts[form->sort == LAYOUT ? LAYOUT_RANK : VIEW_RANK] - 1;
         range.high = last < range.high ? last : range.high;
@@ -18,6 +18,29 @@ struct range range_of(const struct number_form *form, const struct reading *read
     return range;
 }
 
+bool is_within(int64_t number, struct range range)
+{
+    return number >= range.low && number <= range.high &&
+           (range.name_of == NULL || range.name_of((uint32_t)number) != NULL);
+}
+
+/* Adds "1 to 4096", or "0 to 5 or 8 to 9" where the numbers between have no name. */
+static void add_range(struct text *text, struct range range)
+{
+    const char *before = "";
+    for (int64_t first = range.low; first <= range.high; first++) {
+        if (is_within(first, range)) {
+            int64_t last = range.name_of == NULL ? range.high : first;
+            while (is_within(last + 1, range)) {
+                last++;
+            }
+            add_text(text, "%s%" PRId64 " to %" PRId64, before, first, last);
+            before = " or ";
+            first = last;
+        }
+    }
+}
+
 void add_out_of_range(struct text *text, const char *name, int64_t number, struct range range)
 {
     add_text(text, "%s %" PRId64 " ", name, number);
@@ -26,7 +49,8 @@ void add_out_of_range(struct text *text, const char *name, int64_t number, struc
     } else if (range.high == range.low) {
         add_text(text, "is not %" PRId64, range.low);
     } else {
-        add_text(text, "is not within %" PRId64 " to %" PRId64, range.low, range.high);
+        add_text(text, "is not within ");
+        add_range(text, range);
     }
 }
 
@@ -44,14 +68,36 @@ void add_field_name(struct text *text, const struct reading *reading, const stru
 
 /* -- Refusals 1 to 4 -------------------------------------------------------------------------- */
 
-static uint32_t judge_tag(const struct field *field, struct text *sentence)
+/* Whether the sheet's edition has a field; before an edition came, every one may be meant. */
+static bool is_known(const struct reading *reading, const struct field_form *form)
 {
-    if (field->form != NULL) {
+    return reading->edition == 0 || form->since <= reading->edition;
+}
+
+static void add_known_tags(struct text *text, const struct reading *reading)
+{
+    const char *before = "";
+    for (size_t i = 0; i < field_form_count; i++) {
+        if (is_known(reading, &field_forms[i])) {
+            add_text(text, "%s 0x%02X", before, (unsigned)field_forms[i].tag);
+            before = ",";
+        }
+    }
+}
+
+static uint32_t judge_tag(const struct reading *reading, const struct field *field, struct text *sentence)
+{
+    const struct field_form *form = field->form;
+    if (form != NULL && is_known(reading, form)) {
         return 0;
     }
-    add_text(sentence, "tag 0x%02X is none of", (unsigned)field->tag);
-    for (size_t i = 0; i < field_form_count; i++) {
-        add_text(sentence, "%s 0x%02X", i == 0 ? "" : ",", (unsigned)field_forms[i].tag);
+    add_text(sentence, "tag 0x%02X ", (unsigned)field->tag);
+    if (form == NULL) {
+        add_text(sentence, "is none of");
+        add_known_tags(sentence, reading);
+    } else {
+        add_text(sentence, "(%s) comes with edition %u, and the sheet has edition %u", form->name,
+                 (unsigned)form->since, reading->edition);
     }
     return MOONBLEAT_REFUSED_TAG;
 }
@@ -132,9 +178,11 @@ static bool judge_value(const struct reading *reading, const struct field *field
     if (is_none(value->form, value->raw) || value->form->sort == PERMUTED) {
         return true;
     }
-    struct range range = range_of(value->form, reading, value_of_sort(values, KIND));
+    bool no_bias = lacks_bias(value);
+    struct range range =
+        no_bias ? (struct range){0, 0, NULL} : range_of(value->form, reading, value_of_sort(values, KIND));
     int64_t number = number_of(value->form, value->raw);
-    if (number >= range.low && number <= range.high) {
+    if (is_within(number, range)) {
         return true;
     }
     if (field->form->rank != EDITION_RANK) {
@@ -145,6 +193,7 @@ static bool judge_value(const struct reading *reading, const struct field *field
         add_text(sentence, ": ");
     }
     add_out_of_range(sentence, value->form->name, number, range);
+    add_text(sentence, "%s", no_bias ? ", and there is no bias" : "");
     return false;
 }
 
@@ -214,7 +263,7 @@ uint32_t judge_field(const struct reading *reading, const struct field *field, s
     *sentence = (struct text){.len = 0};
     uint32_t refusal = judge_cut(reading, field, sentence);
     if (refusal == 0) {
-        refusal = judge_tag(field, sentence);
+        refusal = judge_tag(reading, field, sentence);
     }
     if (refusal == 0) {
         refusal = judge_order(reading, field, sentence);
@@ -228,8 +277,12 @@ uint32_t judge_field(const struct reading *reading, const struct field *field, s
     return field->form->rank == EDITION_RANK ? MOONBLEAT_REFUSED_EDITION : MOONBLEAT_REFUSED_NUMBER;
 }
 
-void note_field(struct reading *reading, const struct field_form *form)
+void note_field(struct reading *reading, const struct field *field)
 {
-    reading->counts[form->rank]++;
-    reading->rank = form->rank;
+    enum rank rank = field->form->rank;
+    if (rank == EDITION_RANK && reading->edition == 0 && field->content_len > 0) {
+        reading->edition = field->content[0];
+    }
+    reading->counts[rank]++;
+    reading->rank = rank;
 }

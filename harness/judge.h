@@ -11,13 +11,17 @@
 /* What came before a field. */
 struct reading {
     unsigned counts[RANKS];
-    enum rank rank; /* of the field before */
+    enum rank rank;   /* of the field before */
+    unsigned edition; /* 0: none came */
 };
 
 struct range {
     int64_t low;
     int64_t high;
+    namer *name_of; /* if not NULL, only numbers that have a name are meant */
 };
+
+bool is_within(int64_t number, struct range range);
 
 /* The range of a number behind what was read; `kind` is that of the field, for its value. */
 struct range range_of(const struct number_form *form, const struct reading *reading, uint32_t kind);
@@ -36,6 +40,6 @@ uint32_t judge_field(const struct reading *reading, const struct field *field, s
 #define NO_EDITION_SENTENCE "the sheet has no edition"
 
 /* Takes a field as read. */
-void note_field(struct reading *reading, const struct field_form *form);
+void note_field(struct reading *reading, const struct field *field);
 
 #endif

@@ -1,6 +1,5 @@
 #include "kinds.h"
 
-#include <stdbool.h>
 #include <stddef.h>
 
 #include "moonbleat.h"
@@ -23,6 +22,23 @@ const char *kind_name(uint32_t kind)
 {
     const struct kind *found = find_kind(kind);
     return found == NULL ? NULL : found->name;
+}
+
+const char *interpretation_name(uint32_t interpretation)
+{
+    switch (interpretation) {
+    case MOONBLEAT_PACKED_S8:
+        return "packed-s8";
+    case MOONBLEAT_PACKED_U8:
+        return "packed-u8";
+    default:
+        return kind_name(interpretation);
+    }
+}
+
+bool is_packed(uint32_t interpretation)
+{
+    return interpretation == MOONBLEAT_PACKED_S8 || interpretation == MOONBLEAT_PACKED_U8;
 }
 
 unsigned kind_bits(uint32_t kind)

@@ -51,7 +51,7 @@ static bool is_out(struct text *cause, const char *name, int64_t number, int64_t
     if (number >= low && number <= high) {
         return false;
     }
-    add_out_of_range(cause, name, number, (struct range){low, high});
+    add_out_of_range(cause, name, number, (struct range){low, high, NULL});
     return true;
 }
 
@@ -128,8 +128,10 @@ static bool find_whole_step_fault(const struct refused *refused, const struct re
         add_text(cause, "is none");
         return true;
     }
+    unsigned element;
     add_text(cause, "cannot be done: ");
-    return find_empty_register(&step, cause) || find_shape_fault(&step, cause);
+    return find_empty_register(&step, cause) || find_shape_fault(&step, cause) ||
+           find_operand_fault(&step, refused->memory_len, &element, cause);
 }
 
 static bool find_op_fault(const struct refused *refused, const struct record *record, struct text *cause)

@@ -15,7 +15,7 @@ static const struct refusal {
 } refusals[] = {
     {NOTHING, "not a refusal"},
     [MOONBLEAT_REFUSED_CUT_SHORT] = {BYTE, "a field's head or content runs past the end of the sheet"},
-    [MOONBLEAT_REFUSED_TAG] = {BYTE, "the field's tag is not a known one"},
+    [MOONBLEAT_REFUSED_TAG] = {BYTE, "the field's tag is not one that the sheet's edition has"},
     [MOONBLEAT_REFUSED_ORDER] = {BYTE, "a field is out of order, repeated or one too many, or there is no edition"},
     [MOONBLEAT_REFUSED_LENGTH] = {BYTE, "the field's length is not one that its tag has"},
     [MOONBLEAT_REFUSED_NUMBER] = {BYTE, "a number of the field is out of its range"},

@@ -25,10 +25,10 @@ static void print_number(FILE *file, const struct value *value, uint32_t kind)
     }
 }
 
-/* Whether a number is left out: asm computes it, or it says none. */
+/* Whether a number is left out: asm computes it, or there is none. */
 static bool is_left_out(const struct value *value)
 {
-    return value->form->sort == COUNT || value->form->sort == SIZED || is_none(value->form, value->raw);
+    return is_computed(value->form->sort) || is_none(value->form, value->raw) || lacks_bias(value);
 }
 
 static void print_field(FILE *file, const struct field *field, unsigned number)
@@ -79,14 +79,14 @@ size_t readable_bytes(const struct refused *sheet)
 void print_sheet_text(FILE *file, const struct refused *sheet)
 {
     size_t readable = readable_bytes(sheet);
-    struct reading reading = {{0}, EDITION_RANK};
+    struct reading reading = {.rank = EDITION_RANK};
     struct field field;
     if (sheet->answer[MOONBLEAT_NUMBER] != 0) {
         fprintf(file, "allow refused # %s\n", refusal_line(sheet).at);
     }
     for (size_t at = 0; field_at(sheet->sheet, readable, at, &field); at = field_end(&field)) {
         print_field(file, &field, reading.counts[field.form->rank]);
-        note_field(&reading, field.form);
+        note_field(&reading, &field);
     }
     print_bytes(file, sheet->sheet + readable, sheet->sheet_len - readable);
 }

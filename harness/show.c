@@ -25,6 +25,8 @@ static void show_number(FILE *file, const struct value *value, uint32_t kind)
         none ? fputs("its own object", file) : fprintf(file, "object register %" PRIu32, value->raw);
     } else if (form->sort == VIEW) {
         none ? fputs("no view", file) : fprintf(file, "view %" PRIu32, value->raw);
+    } else if (form->sort == BIAS) {
+        lacks_bias(value) ? fputs("no bias", file) : fprintf(file, "add the bias at offset %" PRIu32, value->raw);
     } else {
         fprintf(file, "%" PRId64, form->sort == VALUE ? element_value(kind, value->raw) : number_of(form, value->raw));
     }
@@ -105,7 +107,7 @@ static size_t show_fields(FILE *file, const uint8_t *sheet, size_t sheet_len, si
     struct field field;
     while (at < end && field_at(sheet, sheet_len, at, &field) && field.form != NULL) {
         show_field(file, &field, reading);
-        note_field(reading, field.form);
+        note_field(reading, &field);
         at = field_end(&field);
     }
     return at;
@@ -113,19 +115,19 @@ static size_t show_fields(FILE *file, const uint8_t *sheet, size_t sheet_len, si
 
 void show_sheet(FILE *file, const uint8_t *sheet, size_t sheet_len)
 {
-    struct reading reading = {{0}, EDITION_RANK};
+    struct reading reading = {.rank = EDITION_RANK};
     show_fields(file, sheet, sheet_len, 0, sheet_len, &reading);
 }
 
 void show_refused_sheet(FILE *file, const uint8_t *sheet, size_t sheet_len, size_t refused, const char *sentence)
 {
-    struct reading reading = {{0}, EDITION_RANK};
+    struct reading reading = {.rank = EDITION_RANK};
     struct field field;
     size_t at = show_fields(file, sheet, sheet_len, 0, refused, &reading);
     if (field_at(sheet, sheet_len, at, &field)) {
         show_field(file, &field, &reading);
         if (field.form != NULL) {
-            note_field(&reading, field.form);
+            note_field(&reading, &field);
         }
         at = field_end(&field);
     } else if (at < sheet_len) {

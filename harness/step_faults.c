@@ -5,6 +5,7 @@
 #include "kinds.h"
 #include "moonbleat.h"
 #include "places.h"
+#include "vectors.h"
 
 /* The field of a rank and a number. */
 static bool find_field(const struct refused *refused, enum rank rank, uint32_t number, struct field *field)
@@ -126,6 +127,22 @@ static bool find_multiply_fault(const struct step *step, struct text *cause)
     return !sides_fit || !kind_fits;
 }
 
+static bool find_input_fault(const struct step *step, struct text *cause)
+{
+    struct vector vector = vector_of(&step->values);
+    const uint8_t *type = type_of(step, vector.input);
+    bool packed = is_packed(vector.interpretation);
+    bool sides_fit = type[MOONBLEAT_TYPE_ROWS] == input_rows(&vector) && type[MOONBLEAT_TYPE_COLUMNS] == 1;
+    if (sides_fit && (!packed || type[MOONBLEAT_TYPE_KIND] == MOONBLEAT_U32)) {
+        return false;
+    }
+    add_text(cause, "input ");
+    add_type(cause, step, vector.input);
+    add_text(cause, " as %s: with K %u it must be %ux1%s", interpretation_name(vector.interpretation), vector.columns,
+             input_rows(&vector), packed ? " u32" : "");
+    return true;
+}
+
 bool find_shape_fault(const struct step *step, struct text *cause)
 {
     switch (step->field.tag) {
@@ -133,9 +150,41 @@ bool find_shape_fault(const struct step *step, struct text *cause)
         return find_reduce_fault(step, cause);
     case MOONBLEAT_TAG_MULTIPLY_ADD:
         return find_multiply_fault(step, cause);
+    case MOONBLEAT_TAG_VECTOR:
+        return find_input_fault(step, cause);
     default:
         return false;
     }
+}
+
+static void add_outside_memory(struct text *text, uint64_t byte, unsigned size, size_t memory_len)
+{
+    if (size > 1) {
+        add_text(text, "bytes %" PRIu64 " to %" PRIu64 " do not all", byte, byte + size - 1);
+    } else {
+        add_text(text, "byte %" PRIu64 " does not", byte);
+    }
+    add_text(text, " lie in the memory of %zu bytes", memory_len);
+}
+
+bool find_operand_fault(const struct step *step, size_t memory_len, unsigned *element, struct text *cause)
+{
+    if (step->field.tag != MOONBLEAT_TAG_VECTOR) {
+        return false;
+    }
+    struct vector vector = vector_of(&step->values);
+    struct operand operand;
+    if (!find_outside_operand(&vector, memory_len, &operand)) {
+        return false;
+    }
+    *element = operand.element;
+    if (operand.element < vector.rows * vector.columns) {
+        add_text(cause, "matrix row %u, column %u: ", *element / vector.columns, *element % vector.columns);
+    } else {
+        add_text(cause, "bias %u: ", *element - vector.rows * vector.columns);
+    }
+    add_outside_memory(cause, operand.byte, operand.size, memory_len);
+    return true;
 }
 
 /* The register whose type a load or a store goes by. */
@@ -217,12 +266,7 @@ static bool find_address_fault(const struct refused *refused, const struct acces
                                struct text *cause)
 {
     add_text(cause, ": ");
-    if (access->size > 1) {
-        add_text(cause, "bytes %" PRIu64 " to %" PRIu64 " do not all", place->byte, place->byte + access->size - 1);
-    } else {
-        add_text(cause, "byte %" PRIu64 " does not", place->byte);
-    }
-    add_text(cause, " lie in the memory of %zu bytes", refused->memory_len);
+    add_outside_memory(cause, place->byte, access->size, refused->memory_len);
     return place->outcome == PLACED && place->byte + access->size > refused->memory_len;
 }
 
@@ -258,32 +302,47 @@ static bool find_element_fault(const struct refused *refused, const struct acces
     }
 }
 
+/* Refusals 9 to 15 of a load or a store. */
+static bool find_access_fault(const struct refused *refused, const struct step *step, struct text *cause)
+{
+    struct access access;
+    if (!find_access(refused, step, &access)) {
+        return false;
+    }
+    switch (refused->answer[MOONBLEAT_NUMBER]) {
+    case MOONBLEAT_REFUSED_BASE:
+        return find_base_fault(&access, cause);
+    case MOONBLEAT_REFUSED_VIEW:
+        return find_view_fault(step, &access, cause);
+    case MOONBLEAT_REFUSED_BLOCK:
+        return find_block_fault(step, &access, cause);
+    default:
+        return find_element_fault(refused, &access, cause);
+    }
+}
+
+/* Refusal 14 of a vector step, at the library's own element. */
+static bool find_vector_fault(const struct refused *refused, const struct step *step, struct text *cause)
+{
+    unsigned element;
+    return find_operand_fault(step, refused->memory_len, &element, cause) &&
+           element == refused->answer[MOONBLEAT_SECOND_PLACE];
+}
+
 bool find_step_fault(const struct refused *refused, struct text *cause)
 {
     struct step step;
-    struct access access;
-    uint32_t number = refused->answer[MOONBLEAT_NUMBER];
     if (!find_step(refused, refused->answer[MOONBLEAT_PLACE], &step) || !find_types(refused, &step)) {
         return false;
     }
     add_text(cause, "%s: ", step.field.form->name);
-    if (number == MOONBLEAT_REFUSED_EMPTY_REGISTER) {
+    switch (refused->answer[MOONBLEAT_NUMBER]) {
+    case MOONBLEAT_REFUSED_EMPTY_REGISTER:
         return find_empty_register(&step, cause);
-    }
-    if (number == MOONBLEAT_REFUSED_SHAPE) {
+    case MOONBLEAT_REFUSED_SHAPE:
         return find_shape_fault(&step, cause);
-    }
-    if (!find_access(refused, &step, &access)) {
-        return false;
-    }
-    switch (number) {
-    case MOONBLEAT_REFUSED_BASE:
-        return find_base_fault(&access, cause);
-    case MOONBLEAT_REFUSED_VIEW:
-        return find_view_fault(&step, &access, cause);
-    case MOONBLEAT_REFUSED_BLOCK:
-        return find_block_fault(&step, &access, cause);
     default:
-        return find_element_fault(refused, &access, cause);
+        return step.field.tag == MOONBLEAT_TAG_VECTOR ? find_vector_fault(refused, &step, cause)
+                                                      : find_access_fault(refused, &step, cause);
     }
 }

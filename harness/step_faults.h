@@ -16,9 +16,10 @@ struct step {
 /* The step of a number, without the types; false if the sheet has none. */
 bool find_step(const struct refused *refused, uint32_t number, struct step *step);
 
-/* Refusals 7 and 8 of a step whose types are known; false if it gets none. */
+/* Refusals 7, 8 and, of a vector step, 14 of a step whose types are known; false if it gets none. */
 bool find_empty_register(const struct step *step, struct text *cause);
 bool find_shape_fault(const struct step *step, struct text *cause);
+bool find_operand_fault(const struct step *step, size_t memory_len, unsigned *element, struct text *cause);
 
 /* The cause of a refusal that names a step. */
 bool find_step_fault(const struct refused *refused, struct text *cause);

@@ -3,8 +3,9 @@
  *
  * A sheet is a short program: layouts and views that say where the elements of a matrix lie in
  * memory, and steps that fill, load, store, reduce, transpose and multiply-add matrices in four
- * registers. The library reads sheets, carries them out, translates them into tapes (flat lists
- * of copies) and runs tapes. It answers what a correct device must answer, byte for byte.
+ * registers and, from edition 2 on, multiply a vector in a register by a matrix in memory and add a
+ * bias. The library reads sheets, carries them out, translates them into tapes (flat lists of
+ * copies) and runs tapes. It answers what a correct device must answer, byte for byte.
  *
  * Link with libmoonbleat.a. The functions keep no state, allocate nothing and may be called from
  * any number of threads, each with arrays of its own.
@@ -17,9 +18,9 @@
  *   answer[0]  the same number
  *   answer[1]  its place (a byte of the sheet, a step or a record, by the table below; else 0)
  *   answer[2]  the second number of its place (an element, by the table below; else 0)
- *   answer[3]  byte-elements: how many elements of loads and stores had a byte in memory; for a
- *              running tape those of takes and puts, for a rewritten sheet its length in bytes,
- *              for a read sheet 0
+ *   answer[3]  byte-elements: how many elements of loads and stores had a byte in memory (what a
+ *              vector step reads is not counted); for a running tape those of takes and puts, for
+ *              a rewritten sheet its length in bytes, for a read sheet 0
  *
  * A refused input changes nothing: memory, the room of a tape and the room of a sheet are as
  * before, counts, records, types and elements are all 0, and so is answer[3]. Of an accepted
@@ -30,32 +31,38 @@
  *   no.  given when                                                          place
  *    1   fewer than 3 bytes are left for a field's head, or its content
  *        runs past the end of the sheet                                      byte of the head
- *    2   the tag is not a known one                                          byte of the head
- *    3   a field is out of order, the edition is repeated, there are too
- *        many layouts, views or steps; or the sheet has no edition           byte of the head,
+ *    2   the tag is unknown, or comes with a later edition than the sheet's
+ *        (0x26, the vector step, comes with edition 2)                       byte of the head
+ *    3   a field is out of order (any that comes before the edition), the
+ *        edition is repeated, there are too many layouts, views or steps;
+ *        or the sheet has no edition                                         byte of the head,
  *                                                                            or sheet length
  *    4   the length is not one that the tag has                              byte of the head
  *    5   a number is out of its range, names a layout or a view that is not
- *        given, or the permutation is none                                   byte of the head
- *    6   the edition is not 1                                                byte of the head
+ *        given, the permutation is none, or there is a bias offset but no
+ *        bias                                                                byte of the head
+ *    6   the edition is not 1 or 2                                           byte of the head
  *    7   a register that is read is empty                                    step
- *    8   shapes or kinds do not fit each other                               step
+ *    8   shapes or kinds do not fit each other; a vector step's input is not
+ *        K by 1, or packed and not u32, (K + 3) / 4 by 1                     step
  *    9   the base is not a multiple of 16                                    step
  *   10   a view without dimensions has another count than the layout         step
  *   11   a store goes through a block size above 1                           step
  *   12   the index after the view is 2^32 or more                            step, element
  *   13   the element lies outside and the clamp mode is Undefined            step, element
- *   14   the element's bytes do not all lie in memory                        step, element
+ *   14   the element's bytes do not all lie in memory; a vector step has
+ *        row * K + column for its matrix's elements, M * K + i for its
+ *        bias's                                                              step, element
  *   15   a store puts a later element where an earlier one is                step, element
  *   16   the tape has more than 1,024 records or more than the room holds    0
- *   17   a record is out of range; a record count is above 1,024 or goes
- *        past the tape                                                       record, or 0
+ *   17   a record is out of range, or a whole step would get 7, 8 or 14;
+ *        a record count is above 1,024 or goes past the tape                 record, or 0
  *   18   the memory is longer than 65,536 bytes                              0
  *   19   the room for the written sheet is too short                         0
  *
  * If several apply, 18 comes first, then the sheet's fields one by one (each 1, 2, 3, 4, 6, 5),
  * then its steps one by one (each 7 to 11, then 12 to 14 element by element, then 15), then 16
- * or 17.
+ * or 17. The elements of a vector step go by row, whatever its memory layout, then the bias.
  *
  * Pointers
  * --------
@@ -82,8 +89,11 @@ extern "C" {
 
 /* The version of this interface: a major one may break callers, a minor one adds to it. */
 #define MOONBLEAT_VERSION_MAJOR 1
-#define MOONBLEAT_VERSION_MINOR 1
+#define MOONBLEAT_VERSION_MINOR 2
 #define MOONBLEAT_VERSION_PATCH 0
+
+/* The newest edition of sheets that is taken, from 1 on. */
+#define MOONBLEAT_EDITION_MAX 2
 
 /* Sizes. */
 #define MOONBLEAT_MEMORY_MAX 65536        /* bytes of memory */
@@ -96,7 +106,7 @@ extern "C" {
 #define MOONBLEAT_LAYOUTS_MAX 4           /* layouts of a sheet */
 #define MOONBLEAT_VIEWS_MAX 4             /* views of a sheet */
 #define MOONBLEAT_STEPS_MAX 32            /* steps of a sheet */
-#define MOONBLEAT_SHEET_MAX 744           /* bytes of the longest sheet that is accepted */
+#define MOONBLEAT_SHEET_MAX 1096          /* bytes of the longest sheet that is accepted */
 #define MOONBLEAT_RECORDS_MAX 1024        /* records of a tape */
 #define MOONBLEAT_RECORD_NUMBERS 6        /* numbers of a record */
 #define MOONBLEAT_TAPE_NUMBERS 6144       /* numbers of the longest tape */
@@ -129,6 +139,20 @@ enum {
     MOONBLEAT_S32 = 5
 };
 
+/* Interpretations of a vector step's input beside the kinds: words of four components, lowest byte
+ * first. */
+enum {
+    MOONBLEAT_PACKED_S8 = 8,
+    MOONBLEAT_PACKED_U8 = 9
+};
+
+/* Memory layouts of a vector step's matrix: its stride leads from row to row or from column to
+ * column. */
+enum {
+    MOONBLEAT_ROW_MAJOR = 0,
+    MOONBLEAT_COLUMN_MAJOR = 1
+};
+
 /* Tags of a sheet's fields: a tag, a two-byte length, then the content. */
 enum {
     MOONBLEAT_TAG_EDITION = 0x01,
@@ -139,7 +163,8 @@ enum {
     MOONBLEAT_TAG_STORE = 0x22,
     MOONBLEAT_TAG_REDUCE = 0x23,
     MOONBLEAT_TAG_TRANSPOSE = 0x24,
-    MOONBLEAT_TAG_MULTIPLY_ADD = 0x25
+    MOONBLEAT_TAG_MULTIPLY_ADD = 0x25,
+    MOONBLEAT_TAG_VECTOR = 0x26 /* from edition 2 on */
 };
 
 /* In place of a load's object or of a view: none. */

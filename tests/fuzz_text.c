@@ -27,15 +27,20 @@ struct sample {
 
 /* Words that some line or other has. */
 static const char *const words[] = {
-    "edition 1\n", "allow refused\n", "layout L0 Repeat\n", "view V0 permutation 0\n", "dim size 8 stride 1 span 8\n",
-    "clip rows 0 1\n", "fill r0 2x2 s8 -1\n", "load r0 L0 base 0\n", "store r0 L0 V0 base 16\n",
-    "reduce r1 of r0 1x1 both add\n", "transpose r1 of r0\n", "multiply-add r0 A r1 B r2 C r3\n", "bytes 01 0100 01\n",
+    "edition 1\n", "edition 2\n", "allow refused\n", "layout L0 Repeat\n", "view V0 permutation 0\n",
+    "dim size 8 stride 1 span 8\n", "clip rows 0 1\n", "fill r0 2x2 s8 -1\n", "load r0 L0 base 0\n",
+    "store r0 L0 V0 base 16\n", "reduce r1 of r0 1x1 both add\n", "transpose r1 of r0\n",
+    "multiply-add r0 A r1 B r2 C r3\n",
+    "vector r1 s32 of r0 as packed-s8 matrix s8 4x4 column-major stride 4 offset 64 bias 96\n",
+    "vector r0 u32 of r1 as u16 matrix s32 16x1 row-major stride 0 offset 1\n", "bytes 01 0100 01\n",
     "bytes 20\n", " none ", " 255 ", " 256 ", " -1 ", " 0x10 ", " 65536 ", " 4294967296 ", " 99999999999999999999 ",
     " L3 ", " V4 ", " r4 ", " x ", "#", "\n", "\r\n", "\t", "0", "x", " object r1 ", " value 7 ", " offset -4097 ",
+    " bias 0 ", " bias ", " packed-u8 ", " as 6 ", " row-major ",
 };
 
 static uint64_t state = 1;
 static size_t accepted, failed;
+static size_t read_sheets[MOONBLEAT_EDITION_MAX + 1]; /* by edition */
 
 /* A number below a limit (xorshift; the same in every run). */
 static size_t below(size_t limit)
@@ -129,7 +134,9 @@ static void check_sheet(const struct sample *sample, const struct assembly *asse
     const struct bytes *sheet = &assembly->sheet;
     const struct refused read = {sheet->at, sheet->len, 0, NULL, answer};
     accepted++;
-    if (moonbleat_read(sheet->at, sheet->len, counts, answer) != 0 && !assembly->allows_refused) {
+    if (moonbleat_read(sheet->at, sheet->len, counts, answer) == 0) {
+        read_sheets[edition_of(sheet)]++;
+    } else if (!assembly->allows_refused) {
         fail(sample, "a text without errors that is not read");
     }
     if (!comes_back(&read)) {
@@ -174,6 +181,8 @@ int main(int argc, char **argv)
         }
         try_sample(&sample);
     }
-    printf("texts: %zu, of which %zu give a sheet; %zu failed\n", count, accepted, failed);
-    return failed != 0 || accepted == 0 || accepted == count;
+    printf("texts: %zu, of which %zu give a sheet", count, accepted);
+    bool met = accepted < count && print_editions(read_sheets);
+    printf("; %zu failed\n", failed);
+    return failed != 0 || !met;
 }

@@ -121,6 +121,18 @@ put registers 16 001
 call 0 diff few_steps memory --card card7=memory --registers card7=registers
 lines 'card7 agrees'
 
+# The network of strip 13: a register that a vector step gives, and a byte that comes from one.
+network=$root/strips/13-two-layer-network
+tool asm "$network/sheet.txt" -o network || fail 'the sheet of a network'
+"$bin/unhex" < "$network/memory.hex" > network_memory || fail 'the memory of a network'
+call 0 run network network_memory -o network_after --registers registers
+put registers 1048 000 000 000 000
+call 1 diff network network_memory --card card7=network_after --registers card7=registers
+lines 'card7 differs: register 1, element 2 (2, 0) wants -140, has 0; step 2 vector r1; 1 register differs'
+put network_after 84 000
+call 1 diff network network_memory --card card7=network_after
+lines 'card7 differs: byte 84 wants C5, has 00; step 4 store r2, element 1 (1, 0), byte 0 of 4; 1 byte differs in 1 run'
+
 # Files that cannot be read, or have the wrong length, are no difference; and one card hides no other.
 cp wanted differing
 put differing 0 001

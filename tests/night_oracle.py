@@ -13,8 +13,11 @@ import random
 import sys
 
 NONE = 255
+ROW_MAJOR, COLUMN_MAJOR = 0, 1
+PACKED_S8, PACKED_U8 = 8, 9
 NAMES = ["u8", "s8", "u16", "s16", "u32", "s32"]
 SIZES = [1, 1, 2, 2, 4, 4]
+U8, S8, _, _, U32, S32 = range(6)
 UNDEFINED, CONSTANT, CLAMP_TO_EDGE, REPEAT, MIRROR_REPEAT = range(5)
 VERDICTS = ["agree", "differ", "missing", "refused", "unreadable"]
 
@@ -81,6 +84,31 @@ def byte_of(layout, index, base, size, is_store):
     return None if outside else base + tensor * size
 
 
+# -- Numbers ---------------------------------------------------------------------------------------
+
+def is_signed(kind):
+    return kind % 2 == 1
+
+
+def value(kind, bits):
+    width = 8 * SIZES[kind]
+    return bits - (1 << width) if is_signed(kind) and bits >> (width - 1) else bits
+
+
+def saturated(kind, number):
+    numbers = 1 << 8 * SIZES[kind]
+    low = -numbers // 2 if is_signed(kind) else 0
+    return max(low, min(low + numbers - 1, number))
+
+
+def components(interpretation, count, kind, elements):
+    """What a vector step takes its input for."""
+    if interpretation in (PACKED_S8, PACKED_U8):
+        packed = b"".join(e.to_bytes(4, "little") for e in elements)
+        return [value(S8 if interpretation == PACKED_S8 else U8, byte) for byte in packed[:count]]
+    return [saturated(interpretation, value(kind, e)) for e in elements]
+
+
 # -- Carrying out ----------------------------------------------------------------------------------
 
 class Machine:
@@ -144,6 +172,24 @@ class Machine:
         self.registers[result] = (kind, columns, rows, turned)
         self.givers[result] = (number, "transpose")
 
+    def number_at(self, byte, kind):
+        if byte + SIZES[kind] > len(self.memory):
+            raise Refused
+        return value(kind, int.from_bytes(self.memory[byte:byte + SIZES[kind]], "little"))
+
+    def vector(self, number, result, kind, source, interpretation, matrix, m, k, order, stride, offset, has_bias, bias):
+        down, across = (stride, SIZES[matrix]) if order == ROW_MAJOR else (SIZES[matrix], stride)
+        source_kind, _, _, elements = self.registers[source]
+        vector = components(interpretation, k, source_kind, elements)
+        sums = []
+        for row in range(m):
+            start = offset + row * down
+            products = sum(self.number_at(start + column * across, matrix) * vector[column] for column in range(k))
+            addend = self.number_at(bias + 4 * row, S32) if has_bias else 0
+            sums.append((products + addend) % (1 << 32))
+        self.registers[result] = (kind, m, 1, sums)
+        self.givers[result] = (number, "vector")
+
     def perform(self, number, step):
         getattr(self, step[0])(number, *step[1:])
 
@@ -171,12 +217,30 @@ def random_view(rng):
     return {"permutation": permutation, "dimensions": own, "clip": clip}
 
 
+def random_vector(rng, machine, source):
+    kind, rows, _, _ = machine.registers[source]
+    packed = kind == U32 and rows <= 4 and rng.random() < 0.7
+    has_bias = rng.randrange(2)
+    return ("vector", rng.randrange(4), rng.choice([U32, S32]), source,
+            rng.choice([PACKED_S8, PACKED_U8]) if packed else rng.randrange(6), rng.randrange(6),
+            rng.randint(1, 16), 4 * rows - rng.randrange(4) if packed else rows, rng.choice([ROW_MAJOR, COLUMN_MAJOR]),
+            rng.randint(0, 40), rng.randrange(len(machine.memory)),
+            has_bias, rng.randrange(len(machine.memory)) if has_bias else 0)
+
+
 def random_step(rng, machine):
     filled = list(machine.registers)
-    name = rng.choice(["load", "store", "store", "transpose", "fill"]) if filled else "fill"
+    vectors = [register for register in filled if machine.registers[register][2] == 1]
+    names = ["load", "store", "store", "transpose", "fill"]
+    if machine.sheet["edition"] == 2 and vectors:
+        names += ["vector"] * 2
+    name = rng.choice(names) if filled else "fill"
+    if name == "vector":
+        return random_vector(rng, machine, rng.choice(vectors))
     if name == "fill":
         kind = rng.randrange(6)
-        return (name, rng.randrange(4), rng.randint(1, 16), rng.randint(1, 16), kind, rng.getrandbits(8 * SIZES[kind]))
+        return (name, rng.randrange(4), rng.randint(1, 16), rng.choice([1, rng.randint(1, 16)]), kind,
+                rng.getrandbits(8 * SIZES[kind]))
     if name == "transpose":
         return (name, rng.randrange(4), rng.choice(filled))
     layout = rng.randrange(len(machine.sheet["layouts"]))
@@ -189,7 +253,7 @@ def random_step(rng, machine):
 
 
 def random_sheet(rng, memory):
-    sheet = {"layouts": [random_layout(rng) for _ in range(rng.randint(1, 4))],
+    sheet = {"edition": rng.choice([1, 2]), "layouts": [random_layout(rng) for _ in range(rng.randint(1, 4))],
              "views": [random_view(rng) for _ in range(rng.randint(0, 4))], "steps": []}
     wanted = rng.randint(1, 32)
     for _ in range(400):
@@ -213,7 +277,7 @@ def long_sheet():
                   {"block": 1, "size": 128, "stride": 1, "offset": 0, "span": 128}]
     view = {"permutation": [1, 0], "dimensions": [], "clip": [0, 65535, 0, 65535]}
     stores = [("store", 0, 0, 0, 16 * i) for i in range(9)]
-    return {"layouts": [{"mode": CONSTANT, "value": 0, "dimensions": dimensions}], "views": [view],
+    return {"edition": 1, "layouts": [{"mode": CONSTANT, "value": 0, "dimensions": dimensions}], "views": [view],
             "steps": [("fill", 0, 16, 16, 0, 90)] + stores}
 
 
@@ -223,7 +287,7 @@ def field(tag, numbers):
 
 
 def sheet_bytes(sheet):
-    out = field(0x01, [(1, 1)])
+    out = field(0x01, [(sheet["edition"], 1)])
     for layout in sheet["layouts"]:
         numbers = [(len(layout["dimensions"]), 1), (layout["mode"], 1), (layout["value"], 4)]
         for d in layout["dimensions"]:
@@ -234,7 +298,7 @@ def sheet_bytes(sheet):
         numbers += [(p, 1) for p in view["permutation"]] + [(n, 2) for pair in view["dimensions"] for n in pair]
         out += field(0x11, numbers + [(n, 2) for n in view["clip"]])
     tags = {"fill": (0x20, [1, 1, 1, 1, 4]), "load": (0x21, [1, 1, 1, 1, 4]), "store": (0x22, [1, 1, 1, 4]),
-            "transpose": (0x24, [1, 1])}
+            "transpose": (0x24, [1, 1]), "vector": (0x26, [1, 1, 1, 1, 1, 1, 1, 1, 2, 4, 1, 4])}
     for name, *numbers in sheet["steps"]:
         tag, widths = tags[name]
         out += field(tag, list(zip(numbers, widths)))
@@ -277,11 +341,6 @@ def memory_words(machine, after):
     else:
         words += "no step writes there"
     return words + f"; {counted(len(differing), 'byte')} in {runs} run{'' if runs == 1 else 's'}", found_map
-
-
-def value(kind, bits):
-    width = 8 * SIZES[kind]
-    return bits - (1 << width) if kind % 2 and bits >> (width - 1) else bits
 
 
 def type_words(register):

@@ -1,4 +1,4 @@
-/* A sheet through its text and back. */
+/* A sheet through its text and back, and the editions of those that were put through. */
 #ifndef ROUND_TRIP_H
 #define ROUND_TRIP_H
 
@@ -8,6 +8,8 @@
 #include <string.h>
 
 #include "asm.h"
+#include "fields.h"
+#include "moonbleat.h"
 #include "sheet_text.h"
 
 /* Whether the text of a sheet, refused or not, assembles to its bytes. */
@@ -27,6 +29,23 @@ static inline bool comes_back(const struct refused *sheet)
     free_assembly(&assembly);
     free(text);
     return same;
+}
+
+/* The edition of a sheet that is read. */
+static inline unsigned edition_of(const struct bytes *sheet)
+{
+    return sheet->at[HEAD_BYTES];
+}
+
+/* Prints how many sheets of each edition there were; whether there was one of each. */
+static inline bool print_editions(const size_t sheets[MOONBLEAT_EDITION_MAX + 1])
+{
+    bool all = true;
+    for (unsigned edition = 1; edition <= MOONBLEAT_EDITION_MAX; edition++) {
+        printf(", read in edition %u: %zu", edition, sheets[edition]);
+        all &= sheets[edition] > 0;
+    }
+    return all;
 }
 
 #endif

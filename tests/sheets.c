@@ -22,7 +22,8 @@
 #include "round_trip.h"
 #include "show.h"
 
-static size_t sheets, read_sheets, failed, refused[MOONBLEAT_REFUSED_RECORD + 1];
+static size_t sheets, failed, refused[MOONBLEAT_REFUSED_RECORD + 1];
+static size_t read_sheets[MOONBLEAT_EDITION_MAX + 1]; /* by edition */
 static FILE *nowhere;
 
 static void fail(const char *name, const char *what)
@@ -36,7 +37,7 @@ static void try_text(const char *name, const struct bytes *sheet)
     uint32_t counts[MOONBLEAT_COUNTS], answer[MOONBLEAT_ANSWER];
     const struct refused read = {sheet->at, sheet->len, 0, NULL, answer};
     if (moonbleat_read(sheet->at, sheet->len, counts, answer) == 0) {
-        read_sheets++;
+        read_sheets[edition_of(sheet)]++;
         show_sheet(nowhere, sheet->at, sheet->len);
     } else {
         show_refused_sheet(nowhere, sheet->at, sheet->len, readable_bytes(&read), "");
@@ -130,7 +131,13 @@ int main(int argc, char **argv)
     }
     closedir(folder);
     fclose(nowhere);
-    printf("sheets put through their text: %zu, of which %zu are read\nrefused by number:", sheets, read_sheets);
+    printf("sheets put through their text: %zu", sheets);
+    bool all_met = print_editions(read_sheets);
+    printf("\n");
+    if (!all_met) {
+        fail(argv[1], "an edition was not met");
+    }
+    printf("refused by number:");
     for (size_t number = 1; number <= MOONBLEAT_REFUSED_RECORD; number++) {
         printf(" %zu:%zu", number, refused[number]);
         /* The tape's length is not asked for. */

@@ -60,6 +60,14 @@ refused_strip() {
     absent out
 }
 
+carried_strip() {
+    if [ -e "$strips/$1/run.txt" ]; then
+        accepted_strip "$1"
+    else
+        refused_strip "$1"
+    fi
+}
+
 for folder in "$strips"/*/; do
     strip=$(basename "$folder")
     "$bin/unhex" < "$folder/sheet.hex" > sheet || fail "$strip: sheet"
@@ -80,11 +88,10 @@ for folder in "$strips"/*/; do
     call 0 show --asm sheet
     grep -v '^#' "$folder/sheet.txt" > expected
     same "$strip: show --asm" stdout expected
-    if [ -e "$folder/run.txt" ]; then
-        accepted_strip "$strip"
-    else
-        refused_strip "$strip"
-    fi
+    carried_strip "$strip"
+    # The same sheet in edition 2, which has all that edition 1 has.
+    printf '\002' | dd of=sheet bs=1 seek=3 conv=notrunc status=none
+    carried_strip "$strip"
 done
 
 # -- Refusals ------------------------------------------------------------------------------------
@@ -158,6 +165,9 @@ store='22 0700 00 00 FF 00000000'
 reduce='23 0600 01 00 01 01 03 00'
 transpose='24 0200 01 00'
 multiply='25 0400 03 00 01 02'
+edition_2='01 0100 02'
+column='20 0800 00 08 01 00 00000000'
+vector='26 1300 01 05 00 00 01 02 08 00 0800 00000000 00 00000000'
 
 unreadable '1 0 0' "a field's head has 3 bytes, the sheet ends after 1" \
     01
@@ -173,18 +183,28 @@ unreadable '1 23 0' 'step 0 (fill): length 8 runs past the end of the sheet by 4
     "$edition $layout" 20 0800 00 01 08 00
 unreadable '1 4 0' 'a field with tag 0xFF: length 65535 runs past the end of the sheet by 65535' \
     "$edition" FF FFFF
-unreadable '2 0 0' 'tag 0x00 is none of 0x01, 0x10, 0x11, 0x20, 0x21, 0x22, 0x23, 0x24, 0x25' \
+unreadable '2 0 0' 'tag 0x00 is none of 0x01, 0x10, 0x11, 0x20, 0x21, 0x22, 0x23, 0x24, 0x25, 0x26' \
     00 0000
 unreadable '2 4 0' 'tag 0x12 is none of 0x01, 0x10, 0x11, 0x20, 0x21, 0x22, 0x23, 0x24, 0x25' \
     "$edition" 12 0000
-unreadable '2 23 0' 'tag 0x26 is none of 0x01, 0x10, 0x11, 0x20, 0x21, 0x22, 0x23, 0x24, 0x25' \
+unreadable '2 23 0' 'tag 0x26 (vector) comes with edition 2, and the sheet has edition 1' \
     "$edition $layout" 26 0000
+unreadable '2 4 0' 'tag 0x26 (vector) comes with edition 2, and the sheet has edition 1' \
+    "$edition $vector"
+unreadable '2 4 0' 'tag 0x27 is none of 0x01, 0x10, 0x11, 0x20, 0x21, 0x22, 0x23, 0x24, 0x25, 0x26' \
+    "$edition_2" 27 0000
 unreadable '3 0 0' 'the sheet has no edition' \
     ''
 unreadable '3 0 0' 'layout 0 comes before the edition' \
     "$layout"
+unreadable '3 0 0' 'step 0 (vector) comes before the edition' \
+    "$vector $edition_2"
+unreadable '3 0 0' 'step 0 (vector) comes before the edition' \
+    26 0000
 unreadable '3 4 0' 'edition is repeated' \
     "$edition $edition"
+unreadable '3 4 0' 'edition is repeated' \
+    "$edition $edition_2"
 unreadable '3 18 0' 'layout 0 comes after a view' \
     "$edition $view $layout"
 unreadable '3 15 0' 'view 0 comes after a step' \
@@ -210,10 +230,12 @@ unreadable '4 4 0' 'view 0: length 10 is not 11 or 12 or 13 or 14 or 15 or 20 or
     "$edition" 11 0A00 01 00 0000 FFFF 0000 FFFF
 unreadable '4 23 0' 'step 0 (transpose): length 3 is not 2' \
     "$edition $layout" 24 0300 01 00 00
-unreadable '6 0 0' 'edition 0 is not 1' \
+unreadable '4 4 0' 'step 0 (vector): length 18 is not 19' \
+    "$edition_2" 26 1200 01 05 00 00 01 02 08 00 0800 00000000 00 000000
+unreadable '6 0 0' 'edition 0 is not within 1 to 2' \
     01 0100 00
-unreadable '6 0 0' 'edition 2 is not 1' \
-    01 0100 02
+unreadable '6 0 0' 'edition 3 is not within 1 to 2' \
+    01 0100 03
 # 5: dimension count, clamp mode, block size, dimension, offset, span.
 unreadable '5 4 0' 'layout 0: dimension count 0 is not within 1 to 5' \
     "$edition" 10 1000 00 00 00000000 0100 0800 0100 0000 0800
@@ -277,6 +299,37 @@ unreadable '5 4 0' 'step 0 (transpose): source 4 is not within 0 to 3' \
     "$edition" 24 0200 01 04
 unreadable '5 4 0' 'step 0 (multiply-add): C 4 is not within 0 to 3' \
     "$edition" 25 0400 03 00 01 04
+# 5: each number of a vector step.
+unreadable '5 4 0' 'step 0 (vector): result 4 is not within 0 to 3' \
+    "$edition_2" 26 1300 04 05 00 00 01 02 08 00 0800 00000000 00 00000000
+unreadable '5 4 0' 'step 0 (vector): result kind 3 is not within 4 to 5' \
+    "$edition_2" 26 1300 01 03 00 00 01 02 08 00 0800 00000000 00 00000000
+unreadable '5 4 0' 'step 0 (vector): result kind 6 is not within 4 to 5' \
+    "$edition_2" 26 1300 01 06 00 00 01 02 08 00 0800 00000000 00 00000000
+unreadable '5 4 0' 'step 0 (vector): input 4 is not within 0 to 3' \
+    "$edition_2" 26 1300 01 05 04 00 01 02 08 00 0800 00000000 00 00000000
+for interpretation in 6 7 10; do
+    unreadable '5 4 0' "step 0 (vector): input interpretation $interpretation is not within 0 to 5 or 8 to 9" \
+        "$edition_2" 26 1300 01 05 00 "$(printf %02X $interpretation)" 01 02 08 00 0800 00000000 00 00000000
+done
+unreadable '5 4 0' 'step 0 (vector): matrix interpretation 6 is not within 0 to 5' \
+    "$edition_2" 26 1300 01 05 00 00 06 02 08 00 0800 00000000 00 00000000
+unreadable '5 4 0' 'step 0 (vector): matrix interpretation 8 is not within 0 to 5' \
+    "$edition_2" 26 1300 01 05 00 00 08 02 08 00 0800 00000000 00 00000000
+unreadable '5 4 0' 'step 0 (vector): M 0 is not within 1 to 16' \
+    "$edition_2" 26 1300 01 05 00 00 01 00 08 00 0800 00000000 00 00000000
+unreadable '5 4 0' 'step 0 (vector): M 17 is not within 1 to 16' \
+    "$edition_2" 26 1300 01 05 00 00 01 11 08 00 0800 00000000 00 00000000
+unreadable '5 4 0' 'step 0 (vector): K 0 is not within 1 to 16' \
+    "$edition_2" 26 1300 01 05 00 00 01 02 00 00 0800 00000000 00 00000000
+unreadable '5 4 0' 'step 0 (vector): K 17 is not within 1 to 16' \
+    "$edition_2" 26 1300 01 05 00 00 01 02 11 00 0800 00000000 00 00000000
+unreadable '5 4 0' 'step 0 (vector): memory layout 2 is not within 0 to 1' \
+    "$edition_2" 26 1300 01 05 00 00 01 02 08 02 0800 00000000 00 00000000
+unreadable '5 4 0' 'step 0 (vector): bias 2 is not within 0 to 1' \
+    "$edition_2" 26 1300 01 05 00 00 01 02 08 00 0800 00000000 02 00000000
+unreadable '5 4 0' 'step 0 (vector): bias offset 16777216 is not 0, and there is no bias' \
+    "$edition_2" 26 1300 01 05 00 00 01 02 08 00 0800 00000000 00 00000001
 
 misstepped '7 0 0' 'load: register 0 is empty, and without an object the load starts from it' \
     "$edition $layout $load"
@@ -300,6 +353,20 @@ misstepped '8 3 0' 'multiply-add: A register 0 (1x8 u8), B register 1 (8x1 u8), 
     "$edition $fill $reduce $transpose" 25 0400 03 00 01 00
 misstepped '8 1 0' 'multiply-add: A register 0 (1x1 s16), B register 0 (1x1 s16), C register 0 (1x1 s16): C must be u32 or s32' \
     "$edition" 20 0800 00 01 01 03 00000000 25 0400 03 00 00 00
+misstepped '7 0 0' 'vector: register 0 is empty' \
+    "$edition_2 $vector"
+misstepped '8 1 0' 'vector: input register 0 (1x8 u8) as u8: with K 8 it must be 8x1' \
+    "$edition_2 $fill $vector"
+misstepped '8 1 0' 'vector: input register 0 (8x1 u8) as s32: with K 7 it must be 7x1' \
+    "$edition_2 $column" 26 1300 01 05 00 05 01 02 07 00 0800 00000000 00 00000000
+misstepped '8 1 0' 'vector: input register 0 (2x1 s32) as packed-s8: with K 8 it must be 2x1 u32' \
+    "$edition_2" 20 0800 00 02 01 05 00000000 26 1300 01 05 00 08 01 02 08 00 0800 00000000 00 00000000
+misstepped '8 1 0' 'vector: input register 0 (2x1 u32) as packed-u8: with K 9 it must be 3x1 u32' \
+    "$edition_2" 20 0800 00 02 01 04 00000000 26 1300 01 05 00 09 01 02 09 00 0800 00000000 00 00000000
+misstepped '8 1 0' 'vector: input register 0 (2x1 u32) as packed-u8: with K 4 it must be 1x1 u32' \
+    "$edition_2" 20 0800 00 02 01 04 00000000 26 1300 01 05 00 09 01 02 04 00 0800 00000000 00 00000000
+misstepped '8 1 0' 'vector: input register 0 (1x2 u32) as packed-u8: with K 4 it must be 1x1 u32' \
+    "$edition_2" 20 0800 00 01 02 04 00000000 26 1300 01 05 00 09 01 02 04 00 0800 00000000 00 00000000
 misstepped '9 1 0' 'load: base 8 is not a multiple of 16' \
     "$edition $layout $fill" 21 0800 00 FF 00 FF 08000000
 misstepped '9 1 0' 'store: base 1 is not a multiple of 16' \
@@ -327,6 +394,26 @@ misstepped '14 1 4' 'load: row 0, column 4: byte 84 does not lie in the memory o
     "$edition $far $fill $load"
 misstepped '14 2 4' 'store: row 0, column 4: byte 84 does not lie in the memory of 64 bytes' \
     "$edition $far $fill $fill $store"
+# 14: elements of a vector step's matrix go by row, whatever the memory layout, then those of its bias.
+misstepped '14 1 7' 'vector: matrix row 0, column 7: byte 64 does not lie in the memory of 64 bytes' \
+    "$edition_2 $column" 26 1300 01 05 00 00 01 02 08 00 0800 39000000 00 00000000
+misstepped '14 1 15' 'vector: matrix row 1, column 7: byte 64 does not lie in the memory of 64 bytes' \
+    "$edition_2 $column" 26 1300 01 05 00 00 01 02 08 00 0900 30000000 00 00000000
+misstepped '14 1 6' 'vector: matrix row 0, column 6: bytes 66 to 69 do not all lie in the memory of 64 bytes' \
+    "$edition_2 $column" 26 1300 01 05 00 00 05 02 08 01 0B00 00000000 00 00000000
+misstepped '14 1 8' 'vector: matrix row 1, column 0: bytes 63 to 64 do not all lie in the memory of 64 bytes' \
+    "$edition_2 $column" 26 1300 01 05 00 00 02 02 08 01 0000 3D000000 00 00000000
+misstepped '14 1 0' 'vector: matrix row 0, column 0: bytes 4294967295 to 4294967298 do not all lie in the memory of 64 bytes' \
+    "$edition_2 $column" 26 1300 01 05 00 00 04 02 08 01 FFFF FFFFFFFF 00 00000000
+misstepped '14 1 17' 'vector: bias 1: bytes 61 to 64 do not all lie in the memory of 64 bytes' \
+    "$edition_2 $column" 26 1300 01 05 00 00 01 02 08 00 0800 30000000 01 39000000
+misstepped '14 1 16' 'vector: bias 0: bytes 4294967295 to 4294967298 do not all lie in the memory of 64 bytes' \
+    "$edition_2 $column" 26 1300 01 05 00 00 01 02 08 00 0800 30000000 01 FFFFFFFF
+bytes sheet "$edition_2 $column" 26 1300 01 05 00 00 01 02 08 00 0800 30000000 01 38000000
+call 0 check sheet --memory 64
+call 0 asm "$strips/13-two-layer-network/sheet.txt" -o sheet
+refused '14 2 17' 'vector: matrix row 2, column 5: byte 30 does not lie in the memory of 30 bytes' check sheet --memory 30
+refused '14 3 14' 'vector: bias 2: bytes 64 to 67 do not all lie in the memory of 67 bytes' check sheet --memory 67
 round='10 1000 01 00 00000000 0100 0800 0100 0000 0400'
 misstepped '15 1 4' 'store: row 0, column 4: byte 0 has element 0 already, row 0, column 0' \
     "$edition $round $fill $store"
@@ -396,6 +483,18 @@ tape_refused '17 2 0' 'whole step: the unused number 1 is not 0' '4 0 0 0 0 1'
 tape_accepted '1 0 7 1 63 65535'
 tape_accepted '2 0 7 1 63 -65535' '2 0 0 8 7 -1' '2 0 0 8 0 0'
 tape_accepted '3 0 0 8 255 0' '0 3 0 0 0 0' '4 3 0 0 0 0'
+# A vector step that would get 7, 8 or 14 here; the last one is right.
+bytes sheet "$edition_2 $column" \
+    26 1300 01 05 02 00 01 02 08 00 0800 00000000 00 00000000 26 1300 01 05 00 00 01 02 07 00 0800 00000000 00 00000000 \
+    26 1300 01 05 00 08 01 02 08 00 0800 00000000 00 00000000 26 1300 01 05 00 00 01 02 08 01 0800 08000000 00 00000000 \
+    26 1300 01 05 00 00 01 02 08 00 0800 00000000 01 39000000 26 1300 01 05 00 00 01 02 08 00 0800 30000000 01 38000000
+tape_refused '17 2 0' 'whole step: step 1 (vector) cannot be done: register 2 is empty' '4 1 0 0 0 0'
+tape_refused '17 2 0' 'whole step: step 2 (vector) cannot be done: input register 0 (8x1 u8) as u8: with K 7 it must be 7x1' '4 2 0 0 0 0'
+tape_refused '17 2 0' 'whole step: step 3 (vector) cannot be done: input register 0 (8x1 u8) as packed-s8: with K 8 it must be 2x1 u32' '4 3 0 0 0 0'
+tape_refused '17 2 0' 'whole step: step 4 (vector) cannot be done: matrix row 0, column 7: byte 64 does not lie in the memory of 64 bytes' '4 4 0 0 0 0'
+tape_refused '17 2 0' 'whole step: step 5 (vector) cannot be done: bias 1: bytes 61 to 64 do not all lie in the memory of 64 bytes' '4 5 0 0 0 0'
+tape_refused '17 2 0' 'whole step: the unused number 1 is not 0' '4 6 1 0 0 0'
+tape_accepted '4 6 0 0 0 0'
 { cat longest; echo '4 0 0 0 0 0'; } > tape
 refused '17 0 0' 'the tape has more than 1024 records' run-tape sheet tape memory
 
@@ -580,7 +679,7 @@ says 'moonbleat: tape: warning: the tape is empty'
 
 # Endless files: the answer is known after a part of them.
 call 1 show /dev/zero
-refuses '2 0 0' 'tag 0x00 is none of 0x01, 0x10, 0x11, 0x20, 0x21, 0x22, 0x23, 0x24, 0x25'
+refuses '2 0 0' 'tag 0x00 is none of 0x01, 0x10, 0x11, 0x20, 0x21, 0x22, 0x23, 0x24, 0x25, 0x26'
 if [ "$(wc -l < stdout)" -eq 4 ]; then pass; else fail 'an endless sheet in words'; fi
 refused '18 0 0' 'the memory is longer than 65536 bytes' run sheet /dev/zero
 yes '4 0 0 0 0 0' 2> /dev/null | tool run-tape sheet - memory > stdout 2> stderr
@@ -765,6 +864,40 @@ printf '%s\n' 'register 0: 1 by 2 of s8' ' -1 -1' 'register 1: 1 by 1 of s16' ' 
     'accepted, byte-elements: 0' > expected
 same 'signs' stdout expected
 
+# Vector steps: components saturate, by the register's sign and the interpretation's; packed ones are taken
+# from the lowest byte on, and those past K not at all; sums wrap at 32 bits; the result may be the input.
+bytes vectors FF 80 7F 01 FFFF 0000 FFFFFFFF 00000080 05000000 FFFFFFFF
+cat > text << 'END'
+edition 2
+fill r0 1x1 s32 -1
+vector r1 s32 of r0 as u32 matrix u8 1x1 row-major stride 0 offset 0 bias 16
+fill r0 1x1 u32 2147483648
+vector r2 u32 of r0 as s32 matrix s8 1x1 row-major stride 0 offset 3
+fill r0 2x1 s16 -300
+vector r3 s32 of r0 as s8 matrix s8 2x2 column-major stride 2 offset 0
+vector r0 s32 of r0 as s16 matrix u8 2x2 row-major stride 2 offset 0 bias 16
+END
+call 0 asm text -o sheet
+call 0 run sheet vectors
+printf '%s\n' 'register 0: 2 by 1 of s32' ' -114895' '  -38401' 'register 1: 1 by 1 of s32' ' 5' \
+    'register 2: 1 by 1 of u32' ' 2147483647' 'register 3: 2 by 1 of s32' ' -16128' '  16256' \
+    'accepted, byte-elements: 0' > expected
+same 'vector steps' stdout expected
+cat > text << 'END'
+edition 2
+fill r0 2x1 u32 0xFF807F01
+vector r1 s32 of r0 as packed-s8 matrix u8 1x6 column-major stride 0 offset 3
+vector r2 s32 of r0 as packed-u8 matrix u8 1x6 column-major stride 0 offset 3
+fill r0 1x1 u32 4294967295
+vector r3 s32 of r0 as u32 matrix u16 1x1 row-major stride 0 offset 4
+vector r0 u32 of r0 as u32 matrix u16 1x1 row-major stride 0 offset 4
+END
+call 0 asm text -o sheet
+call 0 run sheet vectors
+printf '%s\n' 'register 0: 1 by 1 of u32' ' 4294901761' 'register 1: 1 by 1 of s32' ' 127' \
+    'register 2: 1 by 1 of s32' ' 639' 'register 3: 1 by 1 of s32' ' -65535' 'accepted, byte-elements: 0' > expected
+same 'packed components, and sums that wrap' stdout expected
+
 # A sheet with everything, in words.
 bytes sheet "$edition $layout $own_view $fill" 21 0800 01 00 00 00 10000000 \
     22 0700 01 00 00 20000000 "$reduce $transpose $multiply"
@@ -810,6 +943,16 @@ field 0x12, 2 bytes: 01 02
 step 0: fill register 9, 1 by 8 of 7, with ?
 END
 same 'an unknown field in words' stdout expected
+bytes sheet "$edition_2" 26 1300 01 05 00 06 01 02 08 03 0800 00000000 00 05000000 26 1300 01 05 00 08 01
+call 1 show sheet
+cat > expected << 'END'
+sheet: 34 bytes, refused
+edition 2
+step 0: multiply a 2 by 8 matrix of s8 (3, stride 8, offset 0) and register 0 as 6, no bias, to register 1 of s32
+^ refusal 5 at byte 4: step 0 (vector): input interpretation 6 is not within 0 to 5 or 8 to 9
+step 1: multiply a ? by ? matrix of s8 (?, stride ?, offset ?) and register 0 as packed-s8, ?, to register 1 of s32
+END
+same 'refused vector steps in words' stdout expected
 bytes sheet "$edition" 20 08
 call 1 show sheet
 cat > expected << 'END'
@@ -868,9 +1011,41 @@ assembles "${head}view V0 permutation 0\nstore r0 L0 V0 base 4294967295\nreduce 
 assembles 'edition 1\ntranspose r1 of r0\nmultiply-add r3 A r0 B r1 C r2\n' "$edition $transpose $multiply"
 assembles 'bytes 01 0100 01\nbytes 20\nbytes 080000010800 00000000' "$edition $fill"
 
+weights='matrix s8 2x8 row-major stride 8 offset 0'
+assembles "edition 2\nvector r1 s32 of r0 as u8 $weights\n" "$edition_2 $vector"
+assembles 'edition 2\nvector r1 5 of r0 as 0 matrix 1 2x8 0 stride 0x8 offset 0x0\n' "$edition_2 $vector"
+assembles "edition 2\nvector r3 u32 of r2 as packed-u8 matrix u16 16x1 column-major stride 65535 offset 4294967295 bias 0\n" \
+    "$edition_2" 26 1300 03 04 02 09 02 10 01 01 FFFF FFFFFFFF 01 00000000
+assembles "edition 2\nvector r0 s32 of r0 as packed-s8 matrix s32 1x16 row-major stride 0 offset 1 bias 0xFFFFFFFF\n" \
+    "$edition_2" 26 1300 00 05 00 08 05 01 10 00 0000 01000000 01 FFFFFFFF
+
 misspelt '' 'text:1:1: the sheet has no edition'
+misspelt "edition 1\nvector r1 s32 of r0 as u8 $weights\n" \
+    'text:2:1: tag 0x26 (vector) comes with edition 2, and the sheet has edition 1'
+misspelt "vector r1 s32 of r0 as u8 $weights\nedition 2\n" 'text:1:1: step 0 (vector) comes before the edition'
+misspelt 'edition 2\nvector r4 s16 of r9 as s7 matrix packed-u8 17x0 diagonal stride 65536 offset -1 bias 0\n' \
+    'text:2:8: result 4 is not within 0 to 3' \
+    "text:2:11: expected the result kind: u32 or s32, not 's16'" \
+    'text:2:18: input 9 is not within 0 to 3' \
+    "text:2:24: expected the input interpretation: u8 or s8 or u16 or s16 or u32 or s32 or packed-s8 or packed-u8, not 's7'" \
+    "text:2:34: expected the matrix interpretation: u8 or s8 or u16 or s16 or u32 or s32, not 'packed-u8'" \
+    'text:2:44: M 17 is not within 1 to 16' 'text:2:47: K 0 is not within 1 to 16' \
+    "text:2:49: expected the memory layout: row-major or column-major, not 'diagonal'" \
+    'text:2:65: stride 65536 is not within 0 to 65535' \
+    'text:2:78: matrix offset -1 is not within 0 to 4294967295'
+misspelt "edition 2\nvector r1 3 of r0 as 7 matrix 6 2x8 2 stride 0 offset 0 bias\n" \
+    'text:2:11: result kind 3 is not within 4 to 5' \
+    'text:2:22: input interpretation 7 is not within 0 to 5 or 8 to 9' \
+    'text:2:31: matrix interpretation 6 is not within 0 to 5' \
+    'text:2:37: memory layout 2 is not within 0 to 1' \
+    'text:2:61: expected the bias offset, a number'
+misspelt "edition 2\nvector r1 s32 from r0 as u8 $weights bais 8\n" \
+    "text:2:15: expected 'of' and a number, not 'from'" \
+    "text:2:71: expected the end of the line, not 'bais'"
+misspelt "edition 2\nvector r1 s32 of r0 as u8 $weights bias 4294967296\n" \
+    'text:2:74: bias offset 4294967296 is not within 0 to 4294967295'
 misspelt 'fill r0 1x8 u8 0\n' 'text:1:1: step 0 (fill) comes before the edition' 'text:1:1: the sheet has no edition'
-misspelt 'edition 2\n' 'text:1:9: edition 2 is not 1'
+misspelt 'edition 3\n' 'text:1:9: edition 3 is not within 1 to 2'
 misspelt 'edition 1 1\nedition 1\n' "text:1:11: expected the end of the line, not '1'" \
     'text:2:1: edition is repeated'
 misspelt 'edition\n' 'text:1:8: expected the edition, a number'
@@ -909,6 +1084,29 @@ misspelt 'bytes 0g\nbytes 0\nbytes 01 0200 01\n' "text:1:7: expected pairs of he
     'text:3:1: edition: length 2 runs past the end of the sheet by 1'
 misspelt 'edition 1\nallow refused\n' "text:2:7: 'allow refused' must stand before the first field"
 misspelt 'allow\n' 'text:1:1: the sheet has no edition' "text:1:6: expected 'refused'"
+# The longest sheet, which is read; its first step has no input.
+{
+    echo 'edition 2'
+    for number in 0 1 2 3; do
+        echo "layout L$number Constant"
+        yes '  dim size 1 stride 1 span 1' | head -n 5
+    done
+    for number in 0 1 2 3; do
+        echo "view V$number permutation 0 1 2 3 4"
+        yes '  dim size 1 stride 1' | head -n 5
+    done
+    yes "vector r1 s32 of r0 as u8 $weights bias 0" | head -n 32
+} > text
+call 0 asm text -o sheet
+says 'text: warning: refusal 7 at step 0: vector: register 0 is empty'
+sed -n 's/^#define MOONBLEAT_SHEET_MAX \([0-9]*\).*/\1/p' "$root/include/moonbleat.h" > expected
+wc -c < sheet > stdout
+same 'the length of the longest sheet' stdout expected
+call 0 show --asm sheet
+cp stdout text
+call 0 asm text -o again
+same 'the longest sheet of its own text' again sheet
+
 # Many errors: all are counted, the first ten printed.
 { echo 'edition 1'; yes 'fill r4 1x1 u8 0' | head -n 40; } > text
 call 3 asm text -o out
@@ -929,6 +1127,11 @@ cp stdout text
 call 0 asm text -o again
 same 'a refused sheet of its own text' again expected
 misspelt 'allow refused\nfill r256 1x1 u8 0\n' 'text:2:6: register 256 is not within 0 to 255'
+printf 'allow refused\nedition 1\nvector r5 0 of r4 as 7 matrix 255 0x255 9 stride 0 offset 0 bias 1\n' > text
+call 0 asm text -o sheet
+says 'text: warning: refusal 2 at byte 4: tag 0x26 (vector) comes with edition 2, and the sheet has edition 1'
+bytes expected "$edition" 26 1300 05 00 04 07 FF 00 FF 09 0000 00000000 01 01000000
+same 'a vector step that is refused, of a text' sheet expected
 
 # Standard input and output, and texts that are too long.
 printf 'edition 1\n' > text
@@ -977,6 +1180,14 @@ json '.bytes == 73 and (.fields | map(.field)) == ["edition","layout","view","fi
         [{block: 1, size: 8, stride: 1, offset: 0, span: 8}] and
     .fields[2].permutation == [0] and .fields[2].dimensions == [{size: 8, stride: 1}] and
     .fields[2].column_span == 65535 and .fields[4].object == null and .fields[4].view == 0' call 0 show sheet
+bytes sheet "$edition_2 $column $vector" 26 1300 02 04 01 08 03 10 01 01 0800 10000000 01 20000000
+json '.fields[0].edition == 2 and .fields[2] == {field: "vector", byte: 15, result: 1, result_kind: "s32", input: 0,
+        input_interpretation: "u8", matrix_interpretation: "s8", M: 2, K: 8, memory_layout: "row-major", stride: 8,
+        matrix_offset: 0, bias: 0, bias_offset: null} and
+    .fields[3].input_interpretation == "packed-s8" and .fields[3].memory_layout == "column-major" and
+    .fields[3].bias == 1 and .fields[3].bias_offset == 32' call 0 show sheet
+json '.refusal == {number: 8, place: 2, second_place: 0, at: "step 2",
+    sentence: "vector: input register 1 (2x1 s32) as packed-s8: with K 1 it must be 1x1 u32"}' call 1 check sheet
 bytes sheet "$edition" 20 0800 00 02 01 03 00800000
 json '.registers[0].elements == [[-32768],[-32768]]' call 0 run sheet memory
 bytes sheet "$edition" 20 0800 00 02 01 06 00000000

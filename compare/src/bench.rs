@@ -5,8 +5,9 @@ use std::time::{Duration, Instant};
 
 use crate::jobs::{Jobs, State};
 use crate::reference::{
-    sheet_bytes, ClampMode, Clip, Combine, Dimension, Kind, Layout, ReduceMode, Sheet, Step, View,
-    ViewDimension, MEMORY_MAX, RECORDS_MAX, RECORD_NUMBERS,
+    sheet_bytes, ClampMode, Clip, Combine, Dimension, Edition, Interpretation, Kind, Layout,
+    MemoryLayout, ReduceMode, Sheet, Step, VectorStep, View, ViewDimension, COMPONENTS_A_WORD,
+    MEMORY_MAX, RECORDS_MAX, RECORD_NUMBERS,
 };
 
 /// A sample lasts at least so long, so that the clock's grain does not matter.
@@ -150,6 +151,9 @@ fn named_sheets() -> Vec<(&'static str, Vec<u8>)> {
         ("stores", stores()),
         ("multiply-adds", multiply_adds()),
         ("mixed", mixed()),
+        ("16 by 16 vectors", vectors(16, Interpretation::Plain(Kind::S8))),
+        ("16 by 16 packed vectors", vectors(16, Interpretation::Packed(Kind::S8))),
+        ("4 by 4 vectors", vectors(4, Interpretation::Plain(Kind::S8))),
     ]
     .map(|(name, sheet)| {
         assert_eq!(sheet.steps.len(), STEPS);
@@ -192,7 +196,7 @@ fn base(step: usize) -> u32 {
 fn plain_loads(side: usize) -> Sheet {
     let mut steps = vec![fill(0, side, 0)];
     steps.extend((1..STEPS).map(|step| load(0, None, base(step))));
-    Sheet { layouts: vec![square_layout(side)], views: vec![], steps }
+    Sheet { layouts: vec![square_layout(side)], steps, ..Sheet::default() }
 }
 
 /// A quarter of the rows lies outside and is mirrored.
@@ -220,13 +224,13 @@ fn five_dimensional_views() -> Sheet {
     let mut steps = vec![fill(0, 16, 2)];
     steps.extend((1..STEPS).map(|step| load(0, Some(0), base(step))));
     let layouts = vec![layout(ClampMode::Undefined, dimensions.collect())];
-    Sheet { layouts, views: vec![view], steps }
+    Sheet { layouts, views: vec![view], steps, ..Sheet::default() }
 }
 
 fn stores() -> Sheet {
     let mut steps = vec![fill(0, 16, 4)];
     steps.extend((1..STEPS).map(|step| store(0, base(step))));
-    Sheet { layouts: vec![square_layout(16)], views: vec![], steps }
+    Sheet { layouts: vec![square_layout(16)], steps, ..Sheet::default() }
 }
 
 fn multiply_adds() -> Sheet {
@@ -259,7 +263,32 @@ fn mixed() -> Sheet {
         ]);
     }
     steps.truncate(STEPS);
-    Sheet { layouts: vec![square_layout(16)], views: vec![], steps }
+    Sheet { layouts: vec![square_layout(16)], steps, ..Sheet::default() }
+}
+
+/// Vector steps by matrices of u8 and of s8 in turn, each with a bias behind its matrix.
+fn vectors(side: usize, interpretation: Interpretation) -> Sheet {
+    let (kind, rows) = match interpretation {
+        Interpretation::Plain(_) => (Kind::S32, side),
+        Interpretation::Packed(_) => (Kind::U32, side.div_ceil(COMPONENTS_A_WORD)),
+    };
+    let fill = Step::Fill { register: 0, rows, columns: 1, kind, value: 0x80FF_0403 };
+    let vector = |step: usize| VectorStep {
+        result: 1,
+        kind: Kind::S32,
+        input: 0,
+        interpretation,
+        matrix: if step.is_multiple_of(2) { Kind::U8 } else { Kind::S8 },
+        m: side,
+        k: side,
+        layout: MemoryLayout::RowMajor,
+        stride: side as u16,
+        offset: base(step),
+        bias: Some(base(step) + (side * side) as u32),
+    };
+    let mut steps = vec![fill];
+    steps.extend((1..STEPS).map(|step| Step::Vector(vector(step))));
+    Sheet { edition: Edition::Two, steps, ..Sheet::default() }
 }
 
 #[cfg(test)]

@@ -7,7 +7,7 @@ use crate::damage::{damage, noise};
 use crate::generate::{generate, many_records};
 use crate::jobs::{Answer, Jobs, Reference, State};
 use crate::random::Random;
-use crate::reference::{read_sheet, translate, MEMORY_MAX, RECORDS_MAX, RECORD_NUMBERS};
+use crate::reference::{read_sheet, translate, Edition, MEMORY_MAX, RECORDS_MAX, RECORD_NUMBERS};
 use crate::tapes::{damage_tape, random_tape, Tape};
 
 /// The room that holds every tape, in numbers.
@@ -16,6 +16,8 @@ const TAPE_ROOM: usize = RECORDS_MAX * RECORD_NUMBERS;
 const GUARD: usize = 32;
 const GARBAGE: u8 = 0xA5;
 const GARBAGE_WORD: u32 = 0xA5A5_A5A5;
+/// Random cases that an edition has.
+const CASES_AN_EDITION: u64 = 1 << 48;
 
 /// The inputs of every job.
 #[derive(Clone)]
@@ -32,20 +34,21 @@ pub struct Case {
 }
 
 impl Case {
-    /// The case of a number under a seed.
-    pub fn of_seed(seed: u64, number: u64) -> Case {
-        let random = &mut Random::of_case(seed, number);
+    /// The case of a number under a seed, its sheet made for an edition. A damaged sheet may name
+    /// another one.
+    pub fn of_seed(edition: Edition, seed: u64, number: u64) -> Case {
+        let random = &mut Random::of_case(seed, first_case(edition) + number);
         let (sheet, memory_len) = match random.below(100) {
             0..=57 => {
-                let generated = generate(random);
+                let generated = generate(random, edition);
                 (generated.sheet, generated.memory_len)
             }
-            58..=59 => (many_records(random), MEMORY_MAX),
+            58..=59 => (many_records(random, edition), MEMORY_MAX),
             60..=94 => {
-                let generated = generate(random);
-                (damage(random, &generated.sheet), generated.memory_len)
+                let generated = generate(random, edition);
+                (damage(random, &generated.sheet, edition), generated.memory_len)
             }
-            _ => (noise(random), random.below(100)),
+            _ => (noise(random, edition), random.below(100)),
         };
         let mut memory = vec![0; memory_len];
         random.fill(&mut memory);
@@ -64,6 +67,11 @@ impl Case {
             told_len,
         }
     }
+}
+
+/// Each edition has cases of its own; those of edition 1 are the first.
+fn first_case(edition: Edition) -> u64 {
+    u64::from(edition.number() - 1) * CASES_AN_EDITION
 }
 
 fn sheet_room(random: &mut Random, length: usize) -> usize {
@@ -242,9 +250,7 @@ impl Comparison<'_> {
         if (&black_box(case).sheet, &case.tapes) != (&inputs.0, &inputs.1) {
             return Err(String::from("a sheet or a tape that was lent to be read was changed"));
         }
-        if carried.returned == 0 {
-            self.coverage.sheet(&case.sheet, case.memory.len());
-        }
+        self.coverage.sheet(&case.sheet, &case.memory);
         Ok(())
     }
 
@@ -291,7 +297,26 @@ impl Comparison<'_> {
         if let Some(difference) = ran.difference(carried) {
             return Err(format!("the tape's run differs from carrying out in {difference}"));
         }
-        self.coverage.tape(&tape);
+        self.coverage.tape(&case.sheet, &tape);
         Ok(())
+    }
+}
+
+#[cfg(test)]
+mod tests {
+    use super::*;
+
+    /// The FNV-1a hash of some bytes.
+    fn hash(bytes: impl Iterator<Item = u8>) -> u64 {
+        bytes.fold(0xCBF2_9CE4_8422_2325, |hash, byte| {
+            (hash ^ u64::from(byte)).wrapping_mul(0x0100_0000_01B3)
+        })
+    }
+
+    #[test]
+    fn a_seed_gives_an_edition_the_same_sheets_still() {
+        let sheets = |edition| (0..1_000).flat_map(move |k| Case::of_seed(edition, 1, k).sheet);
+        assert_eq!(hash(sheets(Edition::One)), 0xC95C_BF9F_4656_CA79);
+        assert_eq!(hash(sheets(Edition::Two)), 0x075D_D235_26F5_0940);
     }
 }

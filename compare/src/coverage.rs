@@ -1,24 +1,32 @@
-//! What the cases met: a comparison that never saw a refusal or an outcome says nothing of it.
+//! What an edition's cases met: a comparison that never saw a refusal or an outcome says nothing
+//! of it.
 
 use std::collections::{BTreeMap, BTreeSet};
 
 use crate::case::Job;
 use crate::jobs::Answer;
 use crate::reference::{
-    check_step, read_sheet, Cause, Outcome, Sheet, Step, Type, Types, RECORD_NUMBERS,
+    check, do_step, read_sheet, Cause, Checked, Edition, Outcome, Refusal, Registers, Sheet, Step,
+    RECORD_NUMBERS, WHOLE_STEP,
 };
 use crate::tapes::Tape;
+use crate::vector_sights;
 
 /// How many different places a refusal is to be met at, where it has more than one.
 const PLACES: usize = 3;
 /// Places that are remembered of each refusal.
 const PLACES_KEPT: usize = 1_000;
+/// One in so many sheets is to have a vector step, where the edition has such steps.
+const VECTORS_ONE_IN: u64 = 3;
 const JOBS: [Job; 6] =
     [Job::Read, Job::Rewrite, Job::Check, Job::CarryOut, Job::Translate, Job::Run];
 
-/// Counts of answers, causes and outcomes.
+/// Counts of answers, causes and outcomes of the sheets that were made for an edition.
 #[derive(Default)]
 pub struct Coverage {
+    edition: Edition,
+    sheets: u64,
+    sheets_with_vectors: u64,
     answers: BTreeMap<(Job, u32), Answers>,
     causes: BTreeMap<Cause, u64>,
     sights: BTreeMap<String, u64>,
@@ -47,7 +55,16 @@ fn has_one_place(number: u32) -> bool {
     matches!(number, 0 | 6 | 16 | 18 | 19)
 }
 
+fn is_vector(step: &Step) -> bool {
+    matches!(step, Step::Vector(_))
+}
+
 impl Coverage {
+    /// Nothing met yet.
+    pub fn new(edition: Edition) -> Coverage {
+        Coverage { edition, ..Coverage::default() }
+    }
+
     /// Notes an answer of a job and the reference's cause for it.
     pub fn answer(&mut self, job: Job, answer: &Answer, cause: Option<Cause>) {
         let answers = self.answers.entry((job, answer[0])).or_default();
@@ -60,19 +77,43 @@ impl Coverage {
         }
     }
 
-    /// Notes what an accepted sheet does.
-    pub fn sheet(&mut self, sheet: &[u8], memory_len: usize) {
-        let sheet = read_sheet(sheet).expect("accepted");
-        let mut types = Types::default();
-        for step in &sheet.steps {
-            let before = types;
-            let outcomes = check_step(&sheet, step, &mut types, memory_len).expect("accepted");
-            self.step(&sheet, step, &outcomes, &before);
+    /// Notes what carrying out a sheet does, and where it is refused.
+    pub fn sheet(&mut self, sheet: &[u8], memory: &[u8]) {
+        let steps = read_sheet(sheet).map_or(Vec::new(), |sheet| sheet.steps);
+        self.sheets += 1;
+        self.sheets_with_vectors += u64::from(steps.iter().any(is_vector));
+        match check(sheet, memory.len()) {
+            Ok(checked) => self.accepted(checked, memory.to_vec()),
+            Err(refusal) => self.refused(&steps, refusal, memory.len()),
         }
     }
 
-    fn step(&mut self, sheet: &Sheet, step: &Step, outcomes: &[Outcome], types: &Types) {
-        let kind = |register: usize| types[register].map_or(0, |type_: Type| type_.kind.0);
+    fn accepted(&mut self, checked: Checked, mut memory: Vec<u8>) {
+        let mut registers = Registers::default();
+        for (step, outcomes) in checked.sheet.steps.iter().zip(&checked.outcomes) {
+            self.step(&checked.sheet, step, outcomes, &registers, memory.len());
+            do_step(step, outcomes, &mut registers, &mut memory);
+        }
+    }
+
+    fn refused(&mut self, steps: &[Step], refusal: Refusal, memory_len: usize) {
+        let [step, element] = refusal.place.map(|number| number as usize);
+        if let (14, Some(Step::Vector(vector))) = (refusal.cause.number(), steps.get(step)) {
+            if let Some(sight) = vector_sights::of_refused(vector, element, memory_len) {
+                self.sight(sight);
+            }
+        }
+    }
+
+    fn step(
+        &mut self,
+        sheet: &Sheet,
+        step: &Step,
+        outcomes: &[Outcome],
+        registers: &Registers,
+        memory_len: usize,
+    ) {
+        let kind = |register: usize| registers[register].as_ref().map_or(0, |m| m.type_.kind.0);
         match *step {
             Step::Load { register, object, layout, view, .. } => {
                 self.sight(format!("load of kind {}", kind(object.unwrap_or(register))));
@@ -94,6 +135,12 @@ impl Coverage {
                 self.sight(format!("transpose of kind {}", kind(source)));
             }
             Step::Fill { kind, .. } => self.sight(format!("fill of kind {}", kind.0)),
+            Step::Vector(ref vector) => {
+                let input = registers[vector.input].as_ref().expect("accepted");
+                for sight in vector_sights::of_accepted(vector, input, memory_len) {
+                    self.sight(sight);
+                }
+            }
         }
     }
 
@@ -123,12 +170,18 @@ impl Coverage {
         sort("placed", |outcome| matches!(outcome, Outcome::Placed(_)));
     }
 
-    /// Notes the records of a translated tape.
-    pub fn tape(&mut self, tape: &Tape) {
+    /// Notes the records of a sheet's tape, which was run.
+    pub fn tape(&mut self, sheet: &[u8], tape: &Tape) {
+        let steps = read_sheet(sheet).expect("accepted").steps;
+        let records = || tape.numbers.chunks_exact(RECORD_NUMBERS);
         for op in 0..5 {
-            if tape.numbers.chunks_exact(RECORD_NUMBERS).any(|record| record[0] == op) {
+            if records().any(|record| record[0] == op) {
                 self.sight(format!("record of op {op}"));
             }
+        }
+        let whole = |record: &[i32]| (record[0] == WHOLE_STEP).then(|| &steps[record[1] as usize]);
+        if records().filter_map(whole).any(is_vector) {
+            self.sight(String::from(vector_sights::RECORD));
         }
     }
 
@@ -150,22 +203,30 @@ impl Coverage {
         }
         for cause in Cause::ALL {
             // The C interface writes only what it has read, so it hands no such model over.
-            let reachable = *cause != Cause::UnreadableModel;
+            let reachable = *cause != Cause::UnreadableModel && cause.edition() <= self.edition;
             if reachable && !self.causes.contains_key(cause) {
                 missing.push(format!("cause {cause:?} of refusal {}", cause.number()));
             }
         }
-        for sight in sights() {
+        for sight in sights(self.edition) {
             if !self.sights.contains_key(&sight) {
                 missing.push(sight);
             }
         }
+        if self.edition.has_vectors() && VECTORS_ONE_IN * self.sheets_with_vectors < self.sheets {
+            missing.push(format!("a vector step in one of {VECTORS_ONE_IN} sheets"));
+        }
         missing
     }
 
-    /// How often each job gave each number.
+    /// How often each job gave each number, and how many sheets have vector steps.
     pub fn table(&self) -> String {
-        let mut table = format!("{:<8}", "number");
+        let mut table = String::new();
+        if self.edition.has_vectors() {
+            let (some, all) = (self.sheets_with_vectors, self.sheets);
+            table += &format!("{some} of {all} sheets have vector steps\n");
+        }
+        table += &format!("{:<8}", "number");
         for job in JOBS {
             table += &format!("{:>20}", format!("{job:?} (places)"));
         }
@@ -183,9 +244,9 @@ impl Coverage {
     }
 }
 
-/// Everything that accepted sheets are to be seen doing.
-fn sights() -> Vec<String> {
-    let mut sights = Vec::new();
+/// Everything that sheets of an edition are to be seen doing.
+fn sights(edition: Edition) -> Vec<String> {
+    let mut sights = if edition.has_vectors() { vector_sights::every() } else { Vec::new() };
     for sort in ["load skipped", "load filled", "load placed"] {
         sights.push(String::from(sort));
     }

@@ -1,11 +1,17 @@
 //! Damaged sheets: cut, shuffled, with a number at or past its limit.
 
+use std::collections::BTreeSet;
+
 use crate::random::Random;
+use crate::reference::Edition;
 
 /// Bytes that some field or other has at its limit.
 const BYTES: [u8; 16] = [0, 1, 2, 3, 4, 5, 6, 15, 16, 17, 32, 35, 56, 127, 254, 255];
 const TAGS: [u8; 14] =
     [0x00, 0x01, 0x02, 0x10, 0x11, 0x12, 0x1F, 0x20, 0x21, 0x22, 0x23, 0x24, 0x25, 0x26];
+const LENGTHS: [u16; 25] =
+    [0, 1, 2, 3, 4, 5, 6, 7, 8, 9, 10, 11, 12, 15, 16, 20, 25, 26, 30, 35, 36, 40, 46, 56, 66];
+const EDITIONS: [u8; 3] = [0, 1, 2];
 
 /// The limits of block size, dimension, span and view dimension, and the numbers past them.
 const EXTENTS: [u16; 4] = [0, 1, 4_096, 4_097];
@@ -24,42 +30,97 @@ const MODE: &[u8] = &[0, 1, 4, 5];
 const INDEX: &[u8] = &[0, 1, 2, 3, 4];
 const INDEX_OR_NONE: &[u8] = &[0, 1, 2, 3, 4, 254, 255];
 
-/// A sheet damaged once or more often.
-pub fn damage(random: &mut Random, sheet: &[u8]) -> Vec<u8> {
+const VECTOR: u8 = 0x26;
+const RESULT_KIND: &[u8] = &[3, 4, 5, 6];
+const INTERPRETATION: &[u8] = &[5, 6, 7, 8, 9, 10];
+const MEMORY_LAYOUT: &[u8] = &[1, 2];
+const BIAS: &[u8] = &[0, 2];
+/// A byte of a longer number.
+const LONGER: &[u8] = &[];
+
+/// What sheets get in place of a tag, a length and their edition. A later edition's additions
+/// stay out of an earlier one's stock, so that a seed gives the earlier one the same sheets still.
+struct Stock {
+    edition: Edition,
+    tags: Vec<u8>,
+    lengths: Vec<u16>,
+    editions: Vec<u8>,
+}
+
+impl Stock {
+    fn of(edition: Edition) -> Stock {
+        let mut stock = Stock {
+            edition,
+            tags: TAGS.to_vec(),
+            lengths: LENGTHS.to_vec(),
+            editions: EDITIONS.to_vec(),
+        };
+        if edition.has_vectors() {
+            stock.tags.extend([VECTOR, VECTOR + 1]);
+            stock.lengths.extend([18, 19]);
+            stock.editions.push(3);
+        }
+        stock
+    }
+
+    /// The limits of the one-byte numbers of an edition or a step, in their order.
+    fn byte_limits(&self, tag: u8) -> Vec<&[u8]> {
+        match tag {
+            0x01 => vec![&self.editions],
+            0x20 => vec![REGISTER, SIDE, SIDE, KIND],
+            0x21 => vec![REGISTER, INDEX_OR_NONE, INDEX, INDEX_OR_NONE],
+            0x22 => vec![REGISTER, INDEX, INDEX_OR_NONE],
+            0x23 => vec![REGISTER, REGISTER, SIDE, SIDE, MODE, COMBINE],
+            0x24 => vec![REGISTER, REGISTER],
+            0x25 => vec![REGISTER, REGISTER, REGISTER, REGISTER],
+            VECTOR if self.edition.has_vectors() => {
+                let numbers = [REGISTER, RESULT_KIND, REGISTER, INTERPRETATION, KIND, SIDE, SIDE];
+                let stride_and_offset = [LONGER; 6];
+                [&numbers[..], &[MEMORY_LAYOUT], &stride_and_offset, &[BIAS]].concat()
+            }
+            _ => vec![],
+        }
+    }
+}
+
+/// A sheet of an edition, damaged once or more often.
+pub fn damage(random: &mut Random, sheet: &[u8], edition: Edition) -> Vec<u8> {
+    let stock = Stock::of(edition);
     let mut sheet = sheet.to_vec();
     for _ in 0..random.pick(&[1, 1, 1, 1, 2, 3]) {
-        damage_once(random, &mut sheet);
+        damage_once(random, &mut sheet, &stock);
     }
     sheet
 }
 
-/// Bytes with no sense at all, some behind an edition.
-pub fn noise(random: &mut Random) -> Vec<u8> {
-    let mut sheet = if random.percent(70) { vec![1, 1, 0, 1] } else { Vec::new() };
+/// Bytes with no sense at all, most of them behind an edition.
+pub fn noise(random: &mut Random, edition: Edition) -> Vec<u8> {
+    let mut sheet = if random.percent(70) { vec![1, 1, 0, edition.number()] } else { Vec::new() };
     let start = sheet.len();
-    sheet.resize(start + random.below(80), 0);
+    // Cutting alone makes few sheets without an edition.
+    let empty = edition > Edition::One && random.percent(10);
+    sheet.resize(start + if empty { 0 } else { random.below(80) }, 0);
     random.fill(&mut sheet[start..]);
     if random.percent(70) && start + 3 <= sheet.len() {
-        sheet[start] = random.pick(&TAGS);
+        sheet[start] = random.pick(&Stock::of(edition).tags);
         sheet[start + 1] = random.below(60) as u8;
         sheet[start + 2] = 0;
     }
     sheet
 }
 
-fn damage_once(random: &mut Random, sheet: &mut Vec<u8>) {
+fn damage_once(random: &mut Random, sheet: &mut Vec<u8>, stock: &Stock) {
     let fields = fields(sheet);
     if fields.is_empty() {
         sheet.push(random.pick(&BYTES));
         return;
     }
-    let field = random.below(fields.len());
-    let (start, end) = fields[field];
+    let (start, end) = field(random, sheet, &fields, stock.edition);
     match random.below(12) {
         0 => sheet.truncate(random.below(sheet.len() + 1)),
-        1 => sheet.extend((0..random.between(1, 4)).map(|_| random.pick(&TAGS))),
-        2 => sheet[start] = random.pick(&TAGS),
-        3 => change_length(random, sheet, start, end),
+        1 => sheet.extend((0..random.between(1, 4)).map(|_| random.pick(&stock.tags))),
+        2 => sheet[start] = random.pick(&stock.tags),
+        3 => change_length(random, sheet, (start, end), &stock.lengths),
         4 => drop(sheet.drain(start..end)),
         5 => repeat_field(random, sheet, start, end, fields.len()),
         6 => exchange(sheet, fields[random.below(fields.len())], (start, end)),
@@ -68,12 +129,27 @@ fn damage_once(random: &mut Random, sheet: &mut Vec<u8>) {
             sheet[at] ^= 1 << random.below(8);
         }
         8 => change_byte(random, &mut sheet[start..end]),
-        _ => change_to_limit(random, &mut sheet[start..end]),
+        _ => change_to_limit(random, &mut sheet[start..end], stock),
     }
 }
 
-/// The fields of a sheet, as far as they are whole, each from its head to its end.
-pub fn fields(sheet: &[u8]) -> Vec<(usize, usize)> {
+/// Some field. After edition 1 each tag that the sheet has gets an equal chance, so that those of
+/// many fields do not crowd out the rest.
+fn field(random: &mut Random, sheet: &[u8], fields: &[Field], edition: Edition) -> Field {
+    if edition == Edition::One {
+        return random.pick(fields);
+    }
+    let tags: BTreeSet<u8> = fields.iter().map(|&(start, _)| sheet[start]).collect();
+    let tag = random.pick(&Vec::from_iter(tags));
+    let tagged = fields.iter().copied().filter(|&(start, _)| sheet[start] == tag);
+    random.pick(&Vec::from_iter(tagged))
+}
+
+/// A field from its head to its end.
+type Field = (usize, usize);
+
+/// The fields of a sheet, as far as they are whole.
+pub fn fields(sheet: &[u8]) -> Vec<Field> {
     let mut fields = Vec::new();
     let mut start = 0;
     while let Some(head) = sheet.get(start..start + 3) {
@@ -89,10 +165,8 @@ pub fn fields(sheet: &[u8]) -> Vec<(usize, usize)> {
 
 /// Another length, most often one that some tag has or nearly has; now and then with as much
 /// content.
-fn change_length(random: &mut Random, sheet: &mut Vec<u8>, start: usize, end: usize) {
-    let known =
-        [0, 1, 2, 3, 4, 5, 6, 7, 8, 9, 10, 11, 12, 15, 16, 20, 25, 26, 30, 35, 36, 40, 46, 56, 66];
-    let length = if random.percent(90) { random.pick(&known) } else { random.bits() as u16 };
+fn change_length(random: &mut Random, sheet: &mut Vec<u8>, (start, end): Field, lengths: &[u16]) {
+    let length = if random.percent(90) { random.pick(lengths) } else { random.bits() as u16 };
     sheet[start + 1..start + 3].copy_from_slice(&length.to_le_bytes());
     if random.percent(50) {
         let mut content = sheet[start + 3..end].to_vec();
@@ -108,7 +182,7 @@ fn repeat_field(random: &mut Random, sheet: &mut Vec<u8>, start: usize, end: usi
     sheet.splice(end..end, field.repeat(copies));
 }
 
-fn exchange(sheet: &mut Vec<u8>, one: (usize, usize), other: (usize, usize)) {
+fn exchange(sheet: &mut Vec<u8>, one: Field, other: Field) {
     let (first, second) = if one <= other { (one, other) } else { (other, one) };
     if first == second {
         return;
@@ -128,7 +202,7 @@ fn change_byte(random: &mut Random, field: &mut [u8]) {
 }
 
 /// A number of the content to its limit or past it.
-fn change_to_limit(random: &mut Random, field: &mut [u8]) {
+fn change_to_limit(random: &mut Random, field: &mut [u8], stock: &Stock) {
     let length = field.len() - 3;
     match field[0] {
         0x10 if length >= 16 => {
@@ -146,9 +220,11 @@ fn change_to_limit(random: &mut Random, field: &mut [u8]) {
             field[7..].copy_from_slice(&value.to_le_bytes());
         }
         tag => {
-            let limits = byte_limits(tag);
-            if !limits.is_empty() && limits.len() <= length {
-                let number = random.below(limits.len());
+            let limits = stock.byte_limits(tag);
+            let limited: Vec<usize> =
+                (0..limits.len()).filter(|&number| !limits[number].is_empty()).collect();
+            if !limited.is_empty() && limits.len() <= length {
+                let number = random.pick(&limited);
                 field[3 + number] = random.pick(limits[number]);
             }
         }
@@ -157,20 +233,6 @@ fn change_to_limit(random: &mut Random, field: &mut [u8]) {
 
 fn put_word(field: &mut [u8], at: usize, word: u16) {
     field[at..at + 2].copy_from_slice(&word.to_le_bytes());
-}
-
-/// The limits of the one-byte numbers of an edition or a step, in their order.
-fn byte_limits(tag: u8) -> &'static [&'static [u8]] {
-    match tag {
-        0x01 => &[&[0, 1, 2]],
-        0x20 => &[REGISTER, SIDE, SIDE, KIND],
-        0x21 => &[REGISTER, INDEX_OR_NONE, INDEX, INDEX_OR_NONE],
-        0x22 => &[REGISTER, INDEX, INDEX_OR_NONE],
-        0x23 => &[REGISTER, REGISTER, SIDE, SIDE, MODE, COMBINE],
-        0x24 => &[REGISTER, REGISTER],
-        0x25 => &[REGISTER, REGISTER, REGISTER, REGISTER],
-        _ => &[],
-    }
 }
 
 #[cfg(test)]

@@ -3,6 +3,13 @@
 use crate::case::{Case, Comparison};
 use crate::coverage::Coverage;
 use crate::jobs::{Answer, Jobs, Reference, State};
+use crate::reference::{
+    check, do_step, read_sheet, Cause, Edition, Interpretation, Kind, Matrix, MemoryLayout,
+    Registers, Step, VectorStep, BIAS_SIZE,
+};
+
+/// So many cases find each fault out.
+const CASES: u64 = 400;
 
 /// What an implementation does wrong.
 #[derive(Clone, Copy, Debug)]
@@ -15,6 +22,13 @@ enum Fault {
     MiscountsByteElements,
     ReturnsAnotherNumber,
     RunsNothing,
+    TakesVectorsInEdition1,
+    NumbersTheBiasFrom0,
+    ReadsColumnsAsRows,
+    SaturatesToUnsigned,
+    UnpacksTheHighestFirst,
+    AddsTheNextBias,
+    SaturatesSums,
 }
 
 const FAULTS: [Fault; 8] = [
@@ -28,6 +42,17 @@ const FAULTS: [Fault; 8] = [
     Fault::RunsNothing,
 ];
 
+/// Faults that take vector steps to show.
+const VECTOR_FAULTS: [Fault; 7] = [
+    Fault::TakesVectorsInEdition1,
+    Fault::NumbersTheBiasFrom0,
+    Fault::ReadsColumnsAsRows,
+    Fault::SaturatesToUnsigned,
+    Fault::UnpacksTheHighestFirst,
+    Fault::AddsTheNextBias,
+    Fault::SaturatesSums,
+];
+
 /// The reference with a fault.
 struct Faulty {
     reference: Reference,
@@ -36,7 +61,11 @@ struct Faulty {
 
 impl Jobs for Faulty {
     fn read(&self, sheet: &[u8], counts: &mut [u32; 3], answer: &mut Answer) -> u32 {
-        let number = self.reference.read(sheet, counts, answer);
+        let mut sheet = sheet.to_vec();
+        if matches!(self.fault, Fault::TakesVectorsInEdition1) && sheet.starts_with(&EDITION_1) {
+            sheet[..EDITION_2.len()].copy_from_slice(&EDITION_2);
+        }
+        let number = self.reference.read(&sheet, counts, answer);
         if matches!(self.fault, Fault::KeepsCountsOfRefused) && number != 0 {
             counts[0] = 1;
         }
@@ -56,9 +85,13 @@ impl Jobs for Faulty {
     fn check(&self, sheet: &[u8], memory_len: usize, answer: &mut Answer) -> u32 {
         let number = self.reference.check(sheet, memory_len, answer);
         match self.fault {
-            Fault::ReturnsAnotherNumber => number + 1,
-            _ => number,
+            Fault::ReturnsAnotherNumber => return number + 1,
+            Fault::NumbersTheBiasFrom0 if self.reference.cause() == Some(Cause::BiasPastMemory) => {
+                answer[2] -= matrix_elements(sheet, answer[1] as usize);
+            }
+            _ => {}
         }
+        number
     }
 
     fn carry_out(
@@ -68,7 +101,12 @@ impl Jobs for Faulty {
         state: &mut State,
         answer: &mut Answer,
     ) -> u32 {
+        let before = memory.to_vec();
         let number = self.reference.carry_out(sheet, memory, state, answer);
+        if number == 0 {
+            memory.copy_from_slice(&before);
+            *state = State::of(&carry_out_with(self.fault, sheet, memory));
+        }
         match self.fault {
             Fault::ChangesMemoryOfRefused if number != 0 && !memory.is_empty() => memory[0] ^= 1,
             Fault::KeepsRegistersOfRefused if number > 6 => state.types[1] = 1,
@@ -110,24 +148,92 @@ impl Jobs for Faulty {
     }
 }
 
-/// Whether some of the first cases tell an implementation from the reference.
-fn found_out(jobs: &dyn Jobs) -> bool {
+const EDITION_1: [u8; 4] = [1, 1, 0, 1];
+const EDITION_2: [u8; 4] = [1, 1, 0, 2];
+
+/// The number of matrix elements of a sheet's vector step.
+fn matrix_elements(sheet: &[u8], step: usize) -> u32 {
+    match &read_sheet(sheet).expect("read before").steps[step] {
+        Step::Vector(vector) => vector.matrix_elements() as u32,
+        other => unreachable!("{other:?} has no bias"),
+    }
+}
+
+/// Carries out an accepted sheet, its vector steps with a fault.
+fn carry_out_with(fault: Fault, sheet: &[u8], memory: &mut [u8]) -> Registers {
+    let checked = check(sheet, memory.len()).expect("accepted");
+    let mut registers = Registers::default();
+    for (step, outcomes) in checked.sheet.steps.iter().zip(&checked.outcomes) {
+        if let Step::Vector(vector) = step {
+            let input = registers[vector.input].as_ref().expect("accepted");
+            registers[vector.result] = Some(perform_with(fault, vector, input, memory));
+        } else {
+            do_step(step, outcomes, &mut registers, memory);
+        }
+    }
+    registers
+}
+
+/// Performs a vector step with a fault, wherever that does not lead out of memory.
+fn perform_with(fault: Fault, vector: &VectorStep, input: &Matrix, memory: &[u8]) -> Matrix {
+    let mut faulty = *vector;
+    let mut input = input.clone();
+    match (fault, vector.interpretation) {
+        (Fault::ReadsColumnsAsRows, _) => faulty.layout = MemoryLayout::RowMajor,
+        (Fault::AddsTheNextBias, _) => {
+            faulty.bias = vector.bias.map(|offset| offset + BIAS_SIZE as u32)
+        }
+        (Fault::SaturatesToUnsigned, Interpretation::Plain(kind)) if kind.is_signed() => {
+            faulty.interpretation = Interpretation::Plain(Kind(kind.0 - 1));
+        }
+        (Fault::UnpacksTheHighestFirst, Interpretation::Packed(_)) => {
+            input.elements.iter_mut().for_each(|word| *word = word.swap_bytes());
+        }
+        (Fault::SaturatesSums, _) => return perform_saturating(vector, &input, memory),
+        _ => {}
+    }
+    match faulty.check(Some(input.type_), memory.len()) {
+        Ok(_) => faulty.perform(&input, memory),
+        Err(_) => vector.perform(&input, memory),
+    }
+}
+
+fn perform_saturating(vector: &VectorStep, input: &Matrix, memory: &[u8]) -> Matrix {
+    let components: Vec<i64> = (0..vector.k).map(|i| vector.component(input, i)).collect();
+    let (least, greatest) = vector.kind.range();
+    let saturated = |row| {
+        let sum = vector.sum(row, &components, memory);
+        sum.clamp(i128::from(least), i128::from(greatest)) as u32
+    };
+    let elements = (0..vector.m).map(saturated).collect();
+    Matrix { elements, ..vector.perform(input, memory) }
+}
+
+/// Whether some of an edition's first cases tell an implementation from the reference.
+fn found_out(jobs: &dyn Jobs, edition: Edition) -> bool {
     let reference = Reference::default();
-    let mut comparison =
-        Comparison { archive: jobs, reference: &reference, coverage: Coverage::default() };
-    (0..200).any(|number| comparison.compare(&Case::of_seed(1, number)).is_err())
+    let coverage = Coverage::new(edition);
+    let mut comparison = Comparison { archive: jobs, reference: &reference, coverage };
+    (0..CASES).any(|number| comparison.compare(&Case::of_seed(edition, 1, number)).is_err())
 }
 
 #[test]
 fn each_fault_is_found_out() {
+    let faulty = |fault| Faulty { reference: Reference::default(), fault };
     for fault in FAULTS {
-        assert!(found_out(&Faulty { reference: Reference::default(), fault }), "{fault:?}");
+        assert!(found_out(&faulty(fault), Edition::One), "{fault:?}");
     }
-    assert!(!found_out(&Reference::default()));
+    for fault in VECTOR_FAULTS {
+        assert!(found_out(&faulty(fault), Edition::Two), "{fault:?}");
+    }
+    for edition in Edition::ALL {
+        assert!(!found_out(&Reference::default(), edition));
+    }
 }
 
 #[test]
 fn no_cases_meet_nothing() {
-    let missing = Coverage::default().missing();
-    assert!(missing.len() > 200);
+    let missing = |edition| Coverage::new(edition).missing().len();
+    assert!(missing(Edition::One) > 200);
+    assert!(missing(Edition::Two) > missing(Edition::One) + 80);
 }

@@ -2,11 +2,15 @@
 
 use crate::random::Random;
 use crate::reference::{
-    check, check_step, sheet_bytes, ClampMode, Clip, Combine, Dimension, Kind, Layout, Outcome,
-    ReduceMode, Sheet, Step, Type, Types, View, ViewDimension, MEMORY_MAX, REGISTERS, SIDE_MAX,
+    check, check_step, sheet_bytes, whole_type, Cause, Checked, ClampMode, Clip, Combine,
+    Dimension, Edition, Interpretation, Kind, Layout, MemoryLayout, Outcome, ReduceMode, Sheet,
+    Step, Type, Types, VectorStep, View, ViewDimension, BIAS_SIZE, COMPONENTS_A_WORD, MEMORY_MAX,
+    REGISTERS, SIDE_MAX,
 };
 
 const STEPS_MAX: usize = 32;
+/// The most words of a packed input.
+const WORDS_MAX: usize = SIDE_MAX.div_ceil(COMPONENTS_A_WORD);
 /// Clip numbers that clip nothing.
 const UNCLIPPED: Clip =
     Clip { row_offset: 0, row_span: 65_535, column_offset: 0, column_span: 65_535 };
@@ -17,11 +21,12 @@ pub struct Generated {
     pub memory_len: usize,
 }
 
-/// A random sheet. About one in four is made to keep a step that gets a refusal of its choice.
-pub fn generate(random: &mut Random) -> Generated {
+/// A random sheet of an edition. About one in four is made to keep a step that gets a refusal of
+/// its choice.
+pub fn generate(random: &mut Random, edition: Edition) -> Generated {
     let memory_len = memory_length(random);
-    let wanted = random.percent(25).then(|| random.between(7, 15) as u32);
-    let mut sheet = Sheet::default();
+    let wanted = wanted_refusal(random, edition);
+    let mut sheet = Sheet { edition, ..Sheet::default() };
     if let Some(number) = wanted {
         prepare(random, &mut sheet, number);
     }
@@ -38,6 +43,16 @@ pub fn generate(random: &mut Random) -> Generated {
     let sheet = sheet_bytes(&sheet);
     let memory_len = if random.percent(20) { tight(random, &sheet) } else { memory_len };
     Generated { sheet, memory_len }
+}
+
+/// The refusal that a step is to get, if any. Where there are vector steps, those that they can
+/// get come more often, for them and for the others.
+fn wanted_refusal(random: &mut Random, edition: Edition) -> Option<u32> {
+    if edition.has_vectors() {
+        let numbers = [7, 7, 8, 8, 8, 9, 10, 11, 12, 13, 14, 14, 15];
+        return random.percent(30).then(|| random.pick(&numbers));
+    }
+    random.percent(25).then(|| random.between(7, 15) as u32)
 }
 
 /// A layout or a view that a refusal of steps needs and that is rare otherwise.
@@ -109,13 +124,13 @@ fn wide_pair(random: &mut Random) -> (Layout, View) {
 
 /// A sheet whose tape has as many records as a tape may have, or nearly: loads of bytes 0 1 0 1 ..,
 /// each two elements a run.
-pub fn many_records(random: &mut Random) -> Vec<u8> {
+pub fn many_records(random: &mut Random, edition: Edition) -> Vec<u8> {
     let other = random.between(900, 1_100);
     let mut missing = random.pick(&[1_023, 1_024, 1_024, 1_025, other]);
     let zigzag = Dimension { block_size: 1, size: 2, stride: 1, offset: 0, span: 256 };
     let layout =
         Layout { clamp_mode: ClampMode::MirrorRepeat, clamp_value: 0, dimensions: vec![zigzag] };
-    let mut sheet = Sheet { layouts: vec![layout], ..Sheet::default() };
+    let mut sheet = Sheet { edition, layouts: vec![layout], ..Sheet::default() };
     while missing > 0 {
         let register = random.below(REGISTERS);
         let kind = Kind(random.below(6) as u8);
@@ -158,17 +173,31 @@ fn tight(random: &mut Random, sheet: &[u8]) -> usize {
         return MEMORY_MAX;
     };
     let fits = |length: &usize| check(sheet, *length).is_ok();
-    let longest = checked.outcomes.iter().flatten().filter_map(|outcome| match outcome {
-        Outcome::Placed(byte) => Some(byte + 4),
-        _ => None,
-    });
-    let enough = longest.max().unwrap_or(0).min(MEMORY_MAX);
+    let enough = ends(&checked).max().unwrap_or(0).min(MEMORY_MAX);
     let shortest = (enough.saturating_sub(4)..=enough).find(fits).unwrap_or(enough);
     match random.below(4) {
         0 => shortest.saturating_sub(1),
         1 => (shortest + 1).min(MEMORY_MAX),
         _ => shortest,
     }
+}
+
+/// Where the elements of an accepted sheet end at the latest.
+fn ends(checked: &Checked) -> impl Iterator<Item = usize> + '_ {
+    let placed = checked.outcomes.iter().flatten().filter_map(|outcome| match outcome {
+        Outcome::Placed(byte) => Some(byte + 4),
+        _ => None,
+    });
+    let read = checked.sheet.steps.iter().filter_map(|step| match step {
+        Step::Vector(vector) => Some(end(vector)),
+        _ => None,
+    });
+    placed.chain(read)
+}
+
+/// Where the last of the bytes that a vector step reads ends.
+fn end(vector: &VectorStep) -> usize {
+    vector.places().map(|place| place.end as usize).max().expect("a matrix has elements")
 }
 
 fn layout(random: &mut Random) -> Layout {
@@ -328,8 +357,9 @@ impl StepMaker<'_> {
 
     /// Adds steps with some number, or accepted ones, until the sheet has so many.
     fn add_until(&mut self, sheet: &mut Sheet, count: usize, wanted: Option<u32>) {
+        let vectors = self.vectors(sheet.edition, wanted);
         for _ in 0..8 * count {
-            for step in self.propose(sheet) {
+            for step in self.propose(sheet, vectors) {
                 if sheet.steps.len() >= count.min(STEPS_MAX) {
                     return;
                 }
@@ -344,8 +374,22 @@ impl StepMaker<'_> {
         }
     }
 
+    /// How many proposals in a hundred are vector steps. A wanted refusal that they can get is
+    /// theirs or one of the other steps'.
+    fn vectors(&mut self, edition: Edition, wanted: Option<u32>) -> usize {
+        match wanted {
+            _ if !edition.has_vectors() => 0,
+            None => 35,
+            Some(7 | 8 | 14) => self.random.pick(&[0, 100]),
+            Some(_) => 0,
+        }
+    }
+
     /// Some steps that belong together.
-    fn propose(&mut self, sheet: &Sheet) -> Vec<Step> {
+    fn propose(&mut self, sheet: &Sheet, vectors: usize) -> Vec<Step> {
+        if vectors > 0 && self.random.percent(vectors) {
+            return self.vector(sheet);
+        }
         let has_layouts = !sheet.layouts.is_empty();
         match self.random.below(100) {
             0..=17 => vec![self.fill()],
@@ -353,7 +397,7 @@ impl StepMaker<'_> {
             48..=69 if has_layouts => vec![self.store(sheet)],
             70..=81 => vec![self.reduce()],
             82..=87 => vec![self.transpose()],
-            88..=91 => vec![self.multiply_add()],
+            88..=91 => vec![self.multiply_add(sheet.edition)],
             _ => self.product(sheet),
         }
     }
@@ -476,7 +520,21 @@ impl StepMaker<'_> {
         Step::Transpose { result: self.any_register(), source: self.register() }
     }
 
-    fn multiply_add(&mut self) -> Step {
+    /// A multiply-add; after edition 1 one whose shapes agree, if some tries find it.
+    fn multiply_add(&mut self, edition: Edition) -> Step {
+        let tries = if edition == Edition::One { 0 } else { 8 };
+        let mut step = self.any_multiply_add();
+        for _ in 0..tries {
+            let type_ = whole_type(&step, &self.types, self.memory_len);
+            if type_ != Some(Err((Cause::MultiplyShapes, 0))) {
+                break;
+            }
+            step = self.any_multiply_add();
+        }
+        step
+    }
+
+    fn any_multiply_add(&mut self) -> Step {
         let (a, b, c) = (self.register(), self.register(), self.register());
         Step::MultiplyAdd { result: self.any_register(), a, b, c }
     }
@@ -498,5 +556,107 @@ impl StepMaker<'_> {
         }
         steps.push(Step::MultiplyAdd { result: self.any_register(), a, b, c });
         steps
+    }
+
+    /// A vector step, most often with an input that fits; where none is held, or else now and
+    /// then, the input is made first.
+    fn vector(&mut self, sheet: &Sheet) -> Vec<Step> {
+        let columns: Vec<(usize, Type)> = (0..REGISTERS)
+            .filter_map(|register| Some((register, self.types[register]?)))
+            .filter(|(_, type_)| type_.columns == 1)
+            .collect();
+        let mut steps = Vec::new();
+        let (input, type_) = if columns.is_empty() || self.random.percent(30) {
+            let input = self.any_register();
+            let type_ = self.column_type();
+            steps.push(self.fill_of(input, type_));
+            if !sheet.layouts.is_empty() {
+                steps.push(self.load_of(input, None, sheet));
+            }
+            (input, type_)
+        } else {
+            self.random.pick(&columns)
+        };
+        steps.push(Step::Vector(self.vector_of(input, type_)));
+        steps
+    }
+
+    /// The type of a plain or of a packed input.
+    fn column_type(&mut self) -> Type {
+        if self.random.percent(35) {
+            return Type { kind: Kind::U32, rows: self.random.between(1, WORDS_MAX), columns: 1 };
+        }
+        Type { kind: Kind(self.random.below(6) as u8), rows: self.side(), columns: 1 }
+    }
+
+    /// A vector step with an input of some type.
+    fn vector_of(&mut self, input: usize, type_: Type) -> VectorStep {
+        let (interpretation, k) = self.interpretation(type_);
+        let mut vector = VectorStep {
+            result: if self.random.percent(30) { input } else { self.any_register() },
+            kind: self.random.pick(&[Kind::U32, Kind::S32]),
+            input,
+            interpretation,
+            matrix: Kind(self.random.below(6) as u8),
+            m: self.side(),
+            k,
+            layout: self.random.pick(&[MemoryLayout::RowMajor, MemoryLayout::ColumnMajor]),
+            stride: 0,
+            offset: 0,
+            bias: None,
+        };
+        let (_, line) = vector.lines();
+        vector.stride = self.stride(line);
+        vector.offset = self.offset(end(&vector));
+        vector.bias = self.random.percent(50).then(|| self.offset(BIAS_SIZE * vector.m));
+        vector
+    }
+
+    /// An interpretation of an input and the number of components that it gives; now and then
+    /// one that does not fit, or a component more or less.
+    fn interpretation(&mut self, type_: Type) -> (Interpretation, usize) {
+        let packed = match type_.kind {
+            _ if type_.rows > WORDS_MAX => 0,
+            Kind::U32 => 60,
+            _ => 3,
+        };
+        let (interpretation, k) = if self.random.percent(packed) {
+            let kind = self.random.pick(&[Kind::S8, Kind::U8]);
+            let unused = self.random.below(COMPONENTS_A_WORD);
+            (Interpretation::Packed(kind), COMPONENTS_A_WORD * type_.rows - unused)
+        } else {
+            (Interpretation::Plain(Kind(self.random.below(6) as u8)), type_.rows)
+        };
+        let k = match self.random.below(20) {
+            0 => k + 1,
+            1 => k - 1,
+            _ => k,
+        };
+        (interpretation, k.clamp(1, SIDE_MAX))
+    }
+
+    /// A stride for rows or columns of so many bytes: one after the other, apart, overlapping or
+    /// on the same bytes.
+    fn stride(&mut self, line: usize) -> u16 {
+        let stride = match self.random.below(10) {
+            0..=4 => line,
+            5 | 6 => line + self.random.below(64),
+            7 | 8 => self.random.below(line),
+            _ => self.random.pick(&[0, 1, 255, 4_096, 65_535]),
+        };
+        stride as u16
+    }
+
+    /// Where so many bytes begin: mostly within memory, often at its end or a byte past it.
+    fn offset(&mut self, length: usize) -> u32 {
+        let last = self.memory_len.saturating_sub(length);
+        let offset = match self.random.below(20) {
+            0..=13 => self.random.below(last + 1),
+            14 | 15 => last,
+            16 | 17 => last + 1,
+            18 => 0,
+            _ => self.random.pick(&[65_535, 65_536, 0xFFFF_FFFC, 0xFFFF_FFFF]),
+        };
+        offset as u32
     }
 }

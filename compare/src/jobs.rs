@@ -19,7 +19,8 @@ impl State {
     /// Empty registers.
     pub const EMPTY: State = State { types: [0; 16], elements: [0; 1024] };
 
-    fn of(registers: &Registers) -> State {
+    /// The registers handed over.
+    pub fn of(registers: &Registers) -> State {
         let mut state = State::EMPTY;
         for (number, register) in registers.iter().enumerate() {
             if let Some(matrix) = register {

@@ -13,3 +13,4 @@ pub mod reference;
 pub mod shrink;
 pub mod strips;
 pub mod tapes;
+mod vector_sights;

@@ -12,21 +12,23 @@ use compare::bench::bench;
 use compare::case::{Case, Comparison};
 use compare::coverage::Coverage;
 use compare::jobs::Reference;
+use compare::reference::Edition;
 use compare::shrink::shrink;
 use compare::strips::check_strips;
 
 const HELP: &str = "\
-compare [--sheets N] [--seed S] [--case K] [--trace]
-    Compare every public job of the archive with the reference on N random sheets (20000).
-    The same seed gives the same sheets. --case K takes only sheet K of the seed, --trace
-    prints the number of each sheet before it is tried.
+compare [--sheets N] [--seed S] [--edition E] [--case K] [--trace]
+    Compare every public job of the archive with the reference on N random sheets (20000) of
+    each edition. The same seed gives the same sheets. --edition E takes only the sheets of
+    edition E, --case K only sheet K, --trace prints the number of each sheet before it is
+    tried.
 compare bench [--samples N]
     Time both sides on named sheets, N samples each (51).
-compare dump FOLDER [--sheets N] [--seed S]
-    Write each of the sheets to a file of the folder, NUMBER-MEMORY.sheet, where MEMORY is the
-    length of the memory that it is compared on.";
+compare dump FOLDER [--sheets N] [--seed S] [--edition E]
+    Write each of the sheets to a file of the folder, NUMBER-MEMORY-EDITION.sheet, where MEMORY
+    is the length of the memory that it is compared on.";
 
-/// From this many sheets on, every refusal and every outcome must have been met.
+/// From this many sheets of an edition on, every refusal and every outcome must have been met.
 const SHEETS_FOR_COVERAGE: u64 = 20_000;
 const SEED: u64 = 1;
 
@@ -37,6 +39,7 @@ struct Options {
     sheets: u64,
     samples: usize,
     seed: u64,
+    editions: Vec<Edition>,
     case: Option<u64>,
     trace: bool,
 }
@@ -78,6 +81,7 @@ fn parse(arguments: impl Iterator<Item = String>) -> Result<Options, String> {
         sheets: SHEETS_FOR_COVERAGE,
         samples: 51,
         seed: SEED,
+        editions: Edition::ALL.to_vec(),
         case: None,
         trace: false,
     };
@@ -94,6 +98,7 @@ fn parse(arguments: impl Iterator<Item = String>) -> Result<Options, String> {
             "--sheets" => options.sheets = number()?,
             "--samples" => options.samples = number()?.max(1) as usize,
             "--seed" => options.seed = number()?,
+            "--edition" => options.editions = vec![edition(number()?)?],
             "--case" => options.case = Some(number()?),
             "--trace" => options.trace = true,
             _ => return Err(format!("unknown argument {argument}")),
@@ -102,54 +107,74 @@ fn parse(arguments: impl Iterator<Item = String>) -> Result<Options, String> {
     Ok(options)
 }
 
+fn edition(number: u64) -> Result<Edition, String> {
+    let edition = u8::try_from(number).ok().and_then(Edition::of_number);
+    edition.ok_or(format!("there is no edition {number}"))
+}
+
 /// Writes the sheets of the random cases.
 fn dump(options: &Options, folder: &Path) -> Result<(), String> {
-    for number in 0..options.sheets {
-        let case = Case::of_seed(options.seed, number);
-        let file = folder.join(format!("{number:05}-{}.sheet", case.memory.len()));
-        std::fs::write(&file, &case.sheet).map_err(|why| format!("{}: {why}", file.display()))?;
+    for &edition in &options.editions {
+        for number in 0..options.sheets {
+            let case = Case::of_seed(edition, options.seed, number);
+            let name = format!("{number:05}-{}-{}.sheet", case.memory.len(), edition.number());
+            let file = folder.join(name);
+            std::fs::write(&file, &case.sheet)
+                .map_err(|why| format!("{}: {why}", file.display()))?;
+        }
     }
     Ok(())
 }
 
-/// The strips, then the random cases, then what they met.
+/// The strips, then the random cases of each edition.
 fn compare_all(options: &Options) -> Result<(), String> {
     let start = Instant::now();
     let strips = check_strips(&Archive)?;
     println!("{strips} strips agree with the scope");
+    for &edition in &options.editions {
+        compare_edition(options, edition)?;
+    }
+    println!("{:.1} seconds", start.elapsed().as_secs_f64());
+    Ok(())
+}
+
+/// The random cases of an edition, then what they met.
+fn compare_edition(options: &Options, edition: Edition) -> Result<(), String> {
     let reference = Reference::default();
-    let mut comparison =
-        Comparison { archive: &Archive, reference: &reference, coverage: Coverage::default() };
+    let coverage = Coverage::new(edition);
+    let mut comparison = Comparison { archive: &Archive, reference: &reference, coverage };
     let cases = match options.case {
         Some(case) => case..case + 1,
         None => 0..options.sheets,
     };
-    println!("seed {}, sheets {} to {}", options.seed, cases.start, cases.end.saturating_sub(1));
     let count = cases.end - cases.start;
+    let of_edition = format!("seed {}, edition {}", options.seed, edition.number());
+    println!("{of_edition}, sheets {} to {}", cases.start, cases.end.saturating_sub(1));
     for number in cases {
         if options.trace {
             println!("sheet {number}");
         }
-        let case = Case::of_seed(options.seed, number);
+        let case = Case::of_seed(edition, options.seed, number);
         if let Err(what) = comparison.compare(&case) {
-            return Err(report(&mut comparison, case, options.seed, number, &what));
+            let report = report(&mut comparison, case, &what);
+            return Err(format!("{of_edition}, sheet {number}: {report}"));
         }
     }
     println!("{}", comparison.coverage.table());
     if count >= SHEETS_FOR_COVERAGE {
         let missing = comparison.coverage.missing();
         if !missing.is_empty() {
-            return Err(format!("the sheets never met:\n  {}", missing.join("\n  ")));
+            return Err(format!("{of_edition}: never met:\n  {}", missing.join("\n  ")));
         }
         println!("every refusal of every job and every outcome was met");
     }
-    println!("{count} sheets agree, {:.1} seconds", start.elapsed().as_secs_f64());
+    println!("{count} sheets of edition {} agree", edition.number());
     Ok(())
 }
 
 /// Shrinks a failing case and says all about it.
-fn report(comparison: &mut Comparison, case: Case, seed: u64, number: u64, what: &str) -> String {
+fn report(comparison: &mut Comparison, case: Case, what: &str) -> String {
     let small = shrink(case, &mut |case| comparison.compare(case).is_err());
     let of_small = comparison.compare(&small).expect_err("it fails still");
-    format!("seed {seed}, sheet {number}: {what}\nshrunk: {of_small}\n{small}")
+    format!("{what}\nshrunk: {of_small}\n{small}")
 }

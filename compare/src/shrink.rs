@@ -4,7 +4,9 @@ use std::fmt;
 
 use crate::case::Case;
 use crate::damage::fields;
-use crate::reference::{RECORDS_MAX, RECORD_NUMBERS};
+use crate::reference::{
+    read_sheet, sheet_bytes, Sheet, Step, VectorStep, RECORDS_MAX, RECORD_NUMBERS,
+};
 use crate::tapes::Tape;
 
 /// How many smaller cases are tried.
@@ -56,6 +58,9 @@ fn candidates(case: &Case) -> Vec<Case> {
     for length in shorter(case.sheet.len()) {
         add(&|case| case.sheet.truncate(length));
     }
+    for sheet in simpler_vectors(&case.sheet) {
+        add(&|case| case.sheet = sheet_bytes(&sheet));
+    }
     for tape in 0..case.tapes.len() {
         add_smaller_tapes(&case.tapes[tape], &mut |smaller| {
             add(&|case| case.tapes[tape] = smaller.clone());
@@ -86,6 +91,47 @@ fn add_plain_rooms(case: &Case, candidates: &mut Vec<Case>) {
     }
     if case.tape_room > plain.tape_room {
         candidates.push(Case { tape_room: plain.tape_room, ..case.clone() });
+    }
+}
+
+/// Sheets that differ in one vector step, by more than a byte: it has no bias, or fewer
+/// components, which the fills and vector steps that make its input follow.
+fn simpler_vectors(sheet: &[u8]) -> Vec<Sheet> {
+    let Ok(sheet) = read_sheet(sheet) else {
+        return Vec::new();
+    };
+    let mut simpler = Vec::new();
+    for (number, step) in sheet.steps.iter().enumerate() {
+        let Step::Vector(vector) = *step else { continue };
+        if vector.bias.is_some() {
+            let mut sheet = sheet.clone();
+            sheet.steps[number] = Step::Vector(VectorStep { bias: None, ..vector });
+            simpler.push(sheet);
+        }
+        for k in shorter(vector.k).into_iter().filter(|&k| k > 0) {
+            let mut sheet = sheet.clone();
+            let fewer = VectorStep { k, ..vector };
+            let (rows, fewer_rows) = (vector.input_rows(), fewer.input_rows());
+            for step in &mut sheet.steps {
+                shorten_column(step, vector.input, rows, fewer_rows);
+            }
+            sheet.steps[number] = Step::Vector(fewer);
+            simpler.push(sheet);
+        }
+    }
+    simpler
+}
+
+/// Gives a step's result fewer rows if it is a column of so many rows in a register.
+fn shorten_column(step: &mut Step, register: usize, from: usize, to: usize) {
+    match step {
+        Step::Fill { register: result, rows, columns: 1, .. }
+        | Step::Vector(VectorStep { result, m: rows, .. })
+            if *result == register && *rows == from =>
+        {
+            *rows = to;
+        }
+        _ => {}
     }
 }
 
@@ -129,7 +175,8 @@ fn add_smaller_tapes(tape: &Tape, add: &mut dyn FnMut(Tape)) {
 
 impl fmt::Display for Case {
     fn fmt(&self, f: &mut fmt::Formatter) -> fmt::Result {
-        writeln!(f, "sheet, {} bytes: {}", self.sheet.len(), hex(&self.sheet))?;
+        writeln!(f, "sheet, {} bytes:", self.sheet.len())?;
+        write_fields(f, &self.sheet)?;
         if self.memory.iter().all(|&byte| byte == 0) {
             writeln!(f, "memory, {} bytes, all 00", self.memory.len())?;
         } else {
@@ -149,6 +196,35 @@ impl fmt::Display for Case {
     }
 }
 
+/// Writes a sheet as a hex file has it, a field a line.
+fn write_fields(f: &mut fmt::Formatter, sheet: &[u8]) -> fmt::Result {
+    let fields = fields(sheet);
+    for &(start, end) in &fields {
+        writeln!(f, "  {}  # {}", hex(&sheet[start..end]), name_of_tag(sheet[start]))?;
+    }
+    let rest = fields.last().map_or(0, |&(_, end)| end);
+    if rest < sheet.len() {
+        writeln!(f, "  {}  # cut short", hex(&sheet[rest..]))?;
+    }
+    Ok(())
+}
+
+fn name_of_tag(tag: u8) -> &'static str {
+    match tag {
+        0x01 => "edition",
+        0x10 => "layout",
+        0x11 => "view",
+        0x20 => "fill",
+        0x21 => "load",
+        0x22 => "store",
+        0x23 => "reduce",
+        0x24 => "transpose",
+        0x25 => "multiply-add",
+        0x26 => "vector",
+        _ => "no tag",
+    }
+}
+
 fn hex(bytes: &[u8]) -> String {
     let pairs: Vec<String> = bytes.iter().map(|byte| format!("{byte:02X}")).collect();
     pairs.join(" ")
@@ -157,13 +233,33 @@ fn hex(bytes: &[u8]) -> String {
 #[cfg(test)]
 mod tests {
     use super::*;
+    use crate::reference::{check, Edition};
 
     #[test]
     fn what_does_not_matter_is_taken_away() {
-        let case = Case::of_seed(1, 0);
+        let case = Case::of_seed(Edition::One, 1, 0);
         let small = shrink(case, &mut |case| case.sheet.contains(&1));
         assert_eq!((small.memory.len(), small.tapes.len()), (0, 0));
         assert!(small.sheet.contains(&1));
         assert!(small.sheet.len() <= 4, "{small}");
+    }
+
+    #[test]
+    fn a_vector_step_becomes_one_product() {
+        let accepted_vector = |case: &Case| {
+            let checked = check(&case.sheet, case.memory.len()).ok()?;
+            checked.sheet.steps.into_iter().find_map(|step| match step {
+                Step::Vector(vector) => Some(vector),
+                _ => None,
+            })
+        };
+        let with_bias = |case: &Case| {
+            accepted_vector(case).is_some_and(|vector| vector.k > 1 && vector.bias.is_some())
+        };
+        let mut cases = (0..).map(|number| Case::of_seed(Edition::Two, 1, number));
+        let case = cases.find(with_bias).expect("there are some");
+        let small = shrink(case, &mut |case| accepted_vector(case).is_some());
+        let vector = accepted_vector(&small).expect("kept");
+        assert_eq!((vector.m, vector.k, vector.bias, small.memory.len()), (1, 1, None, 1));
     }
 }

@@ -2,7 +2,7 @@
 
 use crate::random::Random;
 use crate::reference::{
-    whole_type, Record, Sheet, Type, Types, RECORDS_MAX, RECORD_NUMBERS, REGISTERS,
+    whole_type, Record, Sheet, Type, Types, RECORDS_MAX, RECORD_NUMBERS, REGISTERS, WHOLE_STEP,
 };
 
 /// A tape as it is handed to a run.
@@ -68,19 +68,36 @@ impl RecordMaker<'_> {
         [0, register as i32, object as i32, 0, 0, 0]
     }
 
-    /// A step of the sheet that can be done now, if some tries find one.
+    /// A step of the sheet, where there is one now and then one that gets 14.
     fn whole_step(&mut self) -> Record {
+        let number = match self.step_past_memory() {
+            Some(number) if self.random.percent(40) => number,
+            _ => self.step_to_do(),
+        };
+        [WHOLE_STEP, number as i32, 0, 0, 0, 0]
+    }
+
+    /// A step of the sheet that can be done now, if some tries find one.
+    fn step_to_do(&mut self) -> usize {
         let mut number = 0;
         for _ in 0..6 {
             number = self.random.below(self.sheet.steps.len() + 1);
             if let Some(step) = self.sheet.steps.get(number) {
-                if let Some(Ok(type_)) = whole_type(step, &self.types) {
+                if let Some(Ok(type_)) = whole_type(step, &self.types, self.memory_len) {
                     self.types[step.register()] = Some(type_);
                     break;
                 }
             }
         }
-        [4, number as i32, 0, 0, 0, 0]
+        number
+    }
+
+    /// The first vector step whose input fits now, but whose elements do not all lie in memory.
+    fn step_past_memory(&self) -> Option<usize> {
+        self.sheet.steps.iter().position(|step| {
+            let refused = whole_type(step, &self.types, self.memory_len).and_then(Result::err);
+            refused.is_some_and(|(cause, _)| cause.number() == 14)
+        })
     }
 
     /// Some elements of a matrix: the first one and their count.

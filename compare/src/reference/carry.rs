@@ -11,8 +11,7 @@ use super::{check_memory, REGISTERS};
 /// The types of the registers.
 pub type Types = [Option<Type>; REGISTERS];
 
-/// An accepted sheet: for each step what becomes of its elements, none for a step without
-/// memory access.
+/// An accepted sheet: for each step what becomes of its elements, none for a whole step.
 pub struct Checked {
     pub sheet: Sheet,
     pub outcomes: Vec<Vec<Outcome>>,
@@ -68,7 +67,7 @@ pub fn check_step(
             let addressing = addressing(sheet, access, layout, view, base, type_, memory_len);
             (type_, check_access(&addressing)?)
         }
-        _ => (whole_type(step, types).expect("no access").map_err(at_step)?, Vec::new()),
+        _ => (whole_type(step, types, memory_len).expect("a whole step")?, Vec::new()),
     };
     types[step.register()] = Some(type_);
     Ok(outcomes)
@@ -139,7 +138,8 @@ pub fn carry_out(sheet: &[u8], memory: &mut [u8]) -> Result<Carried, Refusal> {
     Ok(Carried { registers, byte_elements: checked.byte_elements() })
 }
 
-fn do_step(step: &Step, outcomes: &[Outcome], registers: &mut Registers, memory: &mut [u8]) {
+/// Does a step that is known to be accepted.
+pub fn do_step(step: &Step, outcomes: &[Outcome], registers: &mut Registers, memory: &mut [u8]) {
     match *step {
         Step::Load { register, object, .. } => {
             let mut matrix = registers[object.unwrap_or(register)].clone().expect("accepted");
@@ -149,7 +149,7 @@ fn do_step(step: &Step, outcomes: &[Outcome], registers: &mut Registers, memory:
         Step::Store { register, .. } => {
             store(registers[register].as_ref().expect("accepted"), outcomes, memory);
         }
-        _ => do_whole(step, registers),
+        _ => do_whole(step, registers, memory),
     }
 }
 

@@ -5,6 +5,11 @@
 pub struct Kind(pub u8);
 
 impl Kind {
+    pub const U8: Kind = Kind(0);
+    pub const S8: Kind = Kind(1);
+    pub const U32: Kind = Kind(4);
+    pub const S32: Kind = Kind(5);
+
     /// The bytes of an element.
     pub fn size(self) -> usize {
         match self.0 {
@@ -36,6 +41,22 @@ impl Kind {
     /// The low bits of a number.
     pub fn low_bits(self, number: u32) -> u32 {
         number & self.mask()
+    }
+
+    /// The least and the greatest number that raw bits stand for.
+    pub fn range(self) -> (i64, i64) {
+        let numbers = i64::from(self.mask()) + 1;
+        if self.is_signed() {
+            (-numbers / 2, numbers / 2 - 1)
+        } else {
+            (0, numbers - 1)
+        }
+    }
+
+    /// The number in the kind's range that is nearest to a number.
+    pub fn saturated(self, number: i64) -> i64 {
+        let (least, greatest) = self.range();
+        number.clamp(least, greatest)
     }
 
     /// What raw bits stand for.

@@ -4,15 +4,18 @@
 
 mod addressing;
 mod carry;
+mod edition;
 mod kind;
 mod refusal;
 mod registers;
 mod sheet;
 mod tape;
+mod vector;
 mod whole;
 
 pub use addressing::{Access, Outcome};
-pub use carry::{carry_out, check, check_step, Carried, Checked, Types};
+pub use carry::{carry_out, check, check_step, do_step, Carried, Checked, Types};
+pub use edition::Edition;
 pub use kind::Kind;
 pub use refusal::{Cause, Refusal};
 pub use registers::{Matrix, Registers, Type};
@@ -20,7 +23,8 @@ pub use sheet::{
     read_sheet, sheet_bytes, write_sheet, ClampMode, Clip, Combine, Dimension, Layout, ReduceMode,
     Sheet, Step, View, ViewDimension,
 };
-pub use tape::{run_tape, translate, Record, Translated};
+pub use tape::{run_tape, translate, Record, Translated, WHOLE_STEP};
+pub use vector::{Interpretation, MemoryLayout, VectorStep, BIAS_SIZE, COMPONENTS_A_WORD};
 pub use whole::whole_type;
 
 /// The longest memory, in bytes.

@@ -1,23 +1,32 @@
 //! Refusals: a cause, which has a number, and a place.
 
-/// Declares the causes beside the numbers that they have.
+use super::edition::Edition;
+
+/// Declares the causes beside the editions that brought them and the numbers that they have.
 macro_rules! causes {
-    ($($number:literal: $($cause:ident)+;)+) => {
+    ($($edition:ident { $($number:literal: $($cause:ident)+;)+ })+) => {
         /// Why an input is refused. A number has several causes; the comparison sees the number
         /// alone, but asks that the generator met each cause.
         #[derive(Clone, Copy, PartialEq, Eq, PartialOrd, Ord, Debug)]
         pub enum Cause {
-            $($($cause,)+)+
+            $($($($cause,)+)+)+
         }
 
         impl Cause {
             /// Every cause.
-            pub const ALL: &'static [Cause] = &[$($(Cause::$cause,)+)+];
+            pub const ALL: &'static [Cause] = &[$($($(Cause::$cause,)+)+)+];
 
             /// The refusal's number.
             pub fn number(self) -> u32 {
                 match self {
-                    $($(Cause::$cause)|+ => $number,)+
+                    $($($(Cause::$cause)|+ => $number,)+)+
+                }
+            }
+
+            /// The first edition whose sheets can be refused for this.
+            pub fn edition(self) -> Edition {
+                match self {
+                    $($($(Cause::$cause)|+)|+ => Edition::$edition,)+
                 }
             }
         }
@@ -25,29 +34,39 @@ macro_rules! causes {
 }
 
 causes! {
-    1: HeadCut ContentCut;
-    2: UnknownTag;
-    3: OutOfOrder RepeatedEdition TooMany NoEdition;
-    4: WrongLength;
-    5: DimensionCount LengthDisagrees ClampModeRange BlockSize DimensionSize Offset Span
-       HasDimensions NotAPermutation ViewDimensionSize RegisterRange Side KindRange FillValue
-       NoSuchLayout NoSuchView ReduceModeRange CombineRange UnreadableModel;
-    6: WrongEdition;
-    7: EmptyRegister;
-    8: ReduceHalves ReduceRows ReduceColumns MultiplyShapes AccumulatorKind;
-    9: Base;
-    10: ViewWithoutDimensions;
-    11: StoreBlock;
-    12: IndexTooLarge;
-    13: Undefined;
-    14: PastMemory;
-    15: SharedByte;
-    16: TooManyRecords TapeRoom;
-    17: RecordCount UnknownOp RecordRegister RecordEmptyRegister RecordElementCount RecordFirst
-        RecordPastMatrix RecordByteStep RecordPastMemory RecordValue RecordUnused RecordNoStep
-        RecordAccessStep RecordStepEmpty RecordStepShapes;
-    18: MemoryTooLong;
-    19: SheetRoom;
+    One {
+        1: HeadCut ContentCut;
+        2: UnknownTag LaterTag;
+        3: OutOfOrder LaterTagFirst RepeatedEdition TooMany NoEdition;
+        4: WrongLength;
+        5: DimensionCount LengthDisagrees ClampModeRange BlockSize DimensionSize Offset Span
+           HasDimensions NotAPermutation ViewDimensionSize RegisterRange Side KindRange FillValue
+           NoSuchLayout NoSuchView ReduceModeRange CombineRange UnreadableModel;
+        6: WrongEdition;
+        7: EmptyRegister;
+        8: ReduceHalves ReduceRows ReduceColumns MultiplyShapes AccumulatorKind;
+        9: Base;
+        10: ViewWithoutDimensions;
+        11: StoreBlock;
+        12: IndexTooLarge;
+        13: Undefined;
+        14: PastMemory;
+        15: SharedByte;
+        16: TooManyRecords TapeRoom;
+        17: RecordCount UnknownOp RecordRegister RecordEmptyRegister RecordElementCount RecordFirst
+            RecordPastMatrix RecordByteStep RecordPastMemory RecordValue RecordUnused RecordNoStep
+            RecordAccessStep RecordStepEmpty RecordStepShapes;
+        18: MemoryTooLong;
+        19: SheetRoom;
+    }
+    Two {
+        5: ResultKind InputInterpretation MatrixInterpretation VectorSide MemoryLayoutRange
+           BiasRange BiasOffset;
+        7: EmptyInput;
+        8: InputShape PackedKind PackedShape;
+        14: MatrixPastMemory BiasPastMemory;
+        17: RecordInputEmpty RecordInputShape RecordMatrixPastMemory RecordBiasPastMemory;
+    }
 }
 
 /// A refusal: its cause and its place, two numbers of which an unnamed one is 0.

@@ -1,7 +1,9 @@
 //! The sheet: its model, reading and writing.
 
+use super::edition::Edition;
 use super::kind::Kind;
 use super::refusal::{Cause, Refusal};
+use super::vector::{Interpretation, MemoryLayout, VectorStep};
 use super::{REGISTERS, SIDE_MAX};
 
 const EDITION: u8 = 0x01;
@@ -13,6 +15,7 @@ const STORE: u8 = 0x22;
 const REDUCE: u8 = 0x23;
 const TRANSPOSE: u8 = 0x24;
 const MULTIPLY_ADD: u8 = 0x25;
+const VECTOR: u8 = 0x26;
 
 const LAYOUTS_MAX: usize = 4;
 const VIEWS_MAX: usize = 4;
@@ -20,10 +23,14 @@ const STEPS_MAX: usize = 32;
 const DIMENSIONS_MAX: usize = 5;
 /// In an object's or a view's place: none.
 const NONE: u8 = 255;
+/// Input interpretations beside the kinds.
+const PACKED_SIGNED: u8 = 8;
+const PACKED_UNSIGNED: u8 = 9;
 
 /// What was read from a sheet.
 #[derive(Clone, PartialEq, Eq, Debug, Default)]
 pub struct Sheet {
+    pub edition: Edition,
     pub layouts: Vec<Layout>,
     pub views: Vec<View>,
     pub steps: Vec<Step>,
@@ -116,6 +123,7 @@ pub enum Step {
         b: usize,
         c: usize,
     },
+    Vector(VectorStep),
 }
 
 impl Step {
@@ -127,7 +135,8 @@ impl Step {
             | Step::Store { register, .. } => register,
             Step::Reduce { result, .. }
             | Step::Transpose { result, .. }
-            | Step::MultiplyAdd { result, .. } => result,
+            | Step::MultiplyAdd { result, .. }
+            | Step::Vector(VectorStep { result, .. }) => result,
         }
     }
 }
@@ -179,9 +188,17 @@ impl Part {
             EDITION => Some(Part::Edition),
             LAYOUT => Some(Part::Layouts),
             VIEW => Some(Part::Views),
-            FILL..=MULTIPLY_ADD => Some(Part::Steps),
+            FILL..=VECTOR => Some(Part::Steps),
             _ => None,
         }
+    }
+}
+
+/// The edition that brought a known tag.
+fn edition_of_tag(tag: u8) -> Edition {
+    match tag {
+        VECTOR => Edition::Two,
+        _ => Edition::One,
     }
 }
 
@@ -195,7 +212,8 @@ fn lengths(tag: u8) -> &'static [usize] {
         STORE => &[7],
         REDUCE => &[6],
         TRANSPOSE => &[2],
-        _ => &[4],
+        MULTIPLY_ADD => &[4],
+        _ => &[19],
     }
 }
 
@@ -217,6 +235,7 @@ impl Reader {
         let length = usize::from(u16::from_le_bytes([rest[1], rest[2]]));
         let content = rest.get(3..3 + length).ok_or(Cause::ContentCut)?;
         let part = Part::of_tag(tag).ok_or(Cause::UnknownTag)?;
+        self.in_edition(tag)?;
         self.in_order(part)?;
         if !lengths(tag).contains(&length) {
             return Err(Cause::WrongLength);
@@ -224,6 +243,15 @@ impl Reader {
         self.content(tag, content)?;
         self.last = Some(part);
         Ok(3 + length)
+    }
+
+    /// A later edition's tag is out of order before the edition, and unknown in an earlier one.
+    fn in_edition(&self, tag: u8) -> Result<(), Cause> {
+        match self.last {
+            None if edition_of_tag(tag) > Edition::One => Err(Cause::LaterTagFirst),
+            Some(_) if edition_of_tag(tag) > self.sheet.edition => Err(Cause::LaterTag),
+            _ => Ok(()),
+        }
     }
 
     /// Refusal 3: the edition first and once, no part before an earlier one, none too many.
@@ -248,8 +276,9 @@ impl Reader {
 
     fn content(&mut self, tag: u8, content: &[u8]) -> Result<(), Cause> {
         match tag {
-            EDITION if content[0] != 1 => return Err(Cause::WrongEdition),
-            EDITION => {}
+            EDITION => {
+                self.sheet.edition = Edition::of_number(content[0]).ok_or(Cause::WrongEdition)?;
+            }
             LAYOUT => self.sheet.layouts.push(read_layout(content)?),
             VIEW => self.sheet.views.push(read_view(content)?),
             _ => {
@@ -287,12 +316,13 @@ impl Reader {
             TRANSPOSE => {
                 Ok(Step::Transpose { result: register(n.one())?, source: register(n.one())? })
             }
-            _ => Ok(Step::MultiplyAdd {
+            MULTIPLY_ADD => Ok(Step::MultiplyAdd {
                 result: register(n.one())?,
                 a: register(n.one())?,
                 b: register(n.one())?,
                 c: register(n.one())?,
             }),
+            _ => read_vector(n).map(Step::Vector),
         }
     }
 
@@ -401,6 +431,22 @@ fn read_fill(n: &mut Numbers) -> Result<Step, Cause> {
     Ok(Step::Fill { register, rows, columns, kind, value })
 }
 
+fn read_vector(n: &mut Numbers) -> Result<VectorStep, Cause> {
+    Ok(VectorStep {
+        result: register(n.one())?,
+        kind: result_kind(n.one())?,
+        input: register(n.one())?,
+        interpretation: interpretation(n.one())?,
+        matrix: kind(n.one()).map_err(|_| Cause::MatrixInterpretation)?,
+        m: side(n.one()).map_err(|_| Cause::VectorSide)?,
+        k: side(n.one()).map_err(|_| Cause::VectorSide)?,
+        layout: memory_layout(n.one())?,
+        stride: n.two(),
+        offset: n.four(),
+        bias: bias(n.one(), n.four())?,
+    })
+}
+
 fn below(number: usize, count: usize, cause: Cause) -> Result<usize, Cause> {
     if number < count {
         Ok(number)
@@ -482,6 +528,40 @@ fn combine(number: u8) -> Result<Combine, Cause> {
     }
 }
 
+/// A vector's sums have 32 bits.
+fn result_kind(number: u8) -> Result<Kind, Cause> {
+    match kind(number) {
+        Ok(kind @ (Kind::U32 | Kind::S32)) => Ok(kind),
+        _ => Err(Cause::ResultKind),
+    }
+}
+
+fn interpretation(number: u8) -> Result<Interpretation, Cause> {
+    match number {
+        PACKED_SIGNED => Ok(Interpretation::Packed(Kind::S8)),
+        PACKED_UNSIGNED => Ok(Interpretation::Packed(Kind::U8)),
+        _ => kind(number).map(Interpretation::Plain).map_err(|_| Cause::InputInterpretation),
+    }
+}
+
+fn memory_layout(number: u8) -> Result<MemoryLayout, Cause> {
+    match number {
+        0 => Ok(MemoryLayout::RowMajor),
+        1 => Ok(MemoryLayout::ColumnMajor),
+        _ => Err(Cause::MemoryLayoutRange),
+    }
+}
+
+/// The offset of a bias; without one it is 0.
+fn bias(number: u8, offset: u32) -> Result<Option<u32>, Cause> {
+    match (number, offset) {
+        (0, 0) => Ok(None),
+        (0, _) => Err(Cause::BiasOffset),
+        (1, _) => Ok(Some(offset)),
+        _ => Err(Cause::BiasRange),
+    }
+}
+
 /// Writes a model into a room of some length. A model is written exactly when a sheet reads as
 /// it (otherwise 5), and the room must hold it (otherwise 19).
 pub fn write_sheet(sheet: &Sheet, room: usize) -> Result<Vec<u8>, Refusal> {
@@ -498,7 +578,7 @@ pub fn write_sheet(sheet: &Sheet, room: usize) -> Result<Vec<u8>, Refusal> {
 /// The bytes of a sheet: the edition, then layouts, views and steps.
 pub fn sheet_bytes(sheet: &Sheet) -> Vec<u8> {
     let mut bytes = Vec::new();
-    put_field(&mut bytes, EDITION, &[1]);
+    put_field(&mut bytes, EDITION, &[sheet.edition.number()]);
     for layout in &sheet.layouts {
         put_field(&mut bytes, LAYOUT, &layout_content(layout));
     }
@@ -569,6 +649,33 @@ fn put_step(bytes: &mut Vec<u8>, step: &Step) {
         Step::MultiplyAdd { result, a, b, c } => {
             put_field(bytes, MULTIPLY_ADD, &[result as u8, a as u8, b as u8, c as u8]);
         }
+        Step::Vector(ref vector) => put_field(bytes, VECTOR, &vector_content(vector)),
+    }
+}
+
+fn vector_content(vector: &VectorStep) -> Vec<u8> {
+    let mut content = vec![
+        vector.result as u8,
+        vector.kind.0,
+        vector.input as u8,
+        interpretation_number(vector.interpretation),
+        vector.matrix.0,
+        vector.m as u8,
+        vector.k as u8,
+        vector.layout as u8,
+    ];
+    content.extend(vector.stride.to_le_bytes());
+    content.extend(vector.offset.to_le_bytes());
+    content.push(u8::from(vector.bias.is_some()));
+    content.extend(vector.bias.unwrap_or(0).to_le_bytes());
+    content
+}
+
+fn interpretation_number(interpretation: Interpretation) -> u8 {
+    match interpretation {
+        Interpretation::Plain(kind) => kind.0,
+        Interpretation::Packed(kind) if kind.is_signed() => PACKED_SIGNED,
+        Interpretation::Packed(_) => PACKED_UNSIGNED,
     }
 }
 
@@ -581,6 +688,11 @@ mod tests {
     use super::*;
 
     const EDITION_FIELD: [u8; 4] = [1, 1, 0, 1];
+    const EDITION_2_FIELD: [u8; 4] = [1, 1, 0, 2];
+    /// Register 1, s32, from register 2 packed unsigned, by a 5 by 6 matrix of s16 in columns of
+    /// stride 0x0807 at 0x0C0B0A09, with a bias at 0x100F0E0D.
+    const VECTOR_FIELD: [u8; 22] =
+        [0x26, 19, 0, 1, 5, 2, 9, 3, 5, 6, 1, 7, 8, 9, 10, 11, 12, 1, 13, 14, 15, 16];
 
     fn refused(bytes: &[u8]) -> (u32, [u32; 2]) {
         let refusal = read_sheet(bytes).expect_err("refused");
@@ -596,11 +708,86 @@ mod tests {
         assert_eq!(refused(&[9, 1, 0, 1]), (2, [0, 0]));
         assert_eq!(refused(&[0x24, 1, 0, 0]), (3, [0, 0]));
         assert_eq!(refused(&[1, 2, 0, 1, 1]), (4, [0, 0]));
-        assert_eq!(refused(&[1, 1, 0, 2]), (6, [0, 0]));
+        assert_eq!(refused(&[1, 1, 0, 0]), (6, [0, 0]));
+        assert_eq!(refused(&[1, 1, 0, 3]), (6, [0, 0]));
         assert_eq!(refused(&[&EDITION_FIELD[..], &[1]].concat()), (1, [4, 0]));
         assert_eq!(refused(&[&EDITION_FIELD[..], &EDITION_FIELD].concat()), (3, [4, 0]));
         assert_eq!(refused(&[&EDITION_FIELD[..], &[0x24, 2, 0, 4, 0]].concat()), (5, [4, 0]));
         assert!(read_sheet(&EDITION_FIELD).is_ok());
+    }
+
+    #[test]
+    fn a_vector_step_is_read_number_by_number() {
+        let bytes = [&EDITION_2_FIELD[..], &VECTOR_FIELD].concat();
+        let sheet = read_sheet(&bytes).expect("accepted");
+        let vector = VectorStep {
+            result: 1,
+            kind: Kind::S32,
+            input: 2,
+            interpretation: Interpretation::Packed(Kind::U8),
+            matrix: Kind(3),
+            m: 5,
+            k: 6,
+            layout: MemoryLayout::ColumnMajor,
+            stride: 0x0807,
+            offset: 0x0C0B_0A09,
+            bias: Some(0x100F_0E0D),
+        };
+        assert_eq!((sheet.edition, &sheet.steps[..]), (Edition::Two, &[Step::Vector(vector)][..]));
+        assert_eq!(sheet_bytes(&sheet), bytes);
+        let in_edition_1 = Sheet { edition: Edition::One, ..sheet };
+        let refusal = Refusal::nowhere(Cause::UnreadableModel);
+        assert_eq!(write_sheet(&in_edition_1, bytes.len()), Err(refusal));
+    }
+
+    #[test]
+    fn a_vector_step_has_ranges_of_its_own() {
+        // Of each number of one byte: values that are taken, and values that are not.
+        let ranges: [(usize, &[u8], &[u8]); 9] = [
+            (0, &[0, 3], &[4, 255]),
+            (1, &[4, 5], &[0, 3, 6]),
+            (2, &[0, 3], &[4]),
+            (3, &[0, 5, 8, 9], &[6, 7, 10]),
+            (4, &[0, 5], &[6, 8, 9]),
+            (5, &[1, 16], &[0, 17]),
+            (6, &[1, 16], &[0, 17]),
+            (7, &[0, 1], &[2]),
+            (14, &[1], &[0, 2]),
+        ];
+        let read = |number: usize, value| {
+            let mut bytes = [&EDITION_2_FIELD[..], &VECTOR_FIELD].concat();
+            bytes[7 + number] = value;
+            read_sheet(&bytes).map_err(|refusal| (refusal.cause.number(), refusal.place))
+        };
+        for (number, taken, refused) in ranges {
+            assert!(taken.iter().all(|&value| read(number, value).is_ok()), "{number}");
+            assert!(refused.iter().all(|&value| read(number, value) == Err((5, [4, 0]))));
+        }
+        let without_bias = [&EDITION_2_FIELD[..], &VECTOR_FIELD[..17], &[0, 0, 0, 0, 0]].concat();
+        assert!(read_sheet(&without_bias).is_ok());
+    }
+
+    #[test]
+    fn a_vector_tag_is_unknown_in_edition_1_and_out_of_order_before_any() {
+        let short = [0x26, 1, 0, 0];
+        let cut = [0x26, 19, 0, 0];
+        let after = |start: &[u8], field: &[u8]| refused(&[start, field].concat());
+        assert_eq!(after(&[], &VECTOR_FIELD), (3, [0, 0]));
+        assert_eq!(after(&[], &short), (3, [0, 0]));
+        assert_eq!(after(&[], &cut), (1, [0, 0]));
+        assert_eq!(after(&EDITION_FIELD, &VECTOR_FIELD), (2, [4, 0]));
+        assert_eq!(after(&EDITION_FIELD, &short), (2, [4, 0]));
+        assert_eq!(after(&EDITION_FIELD, &cut), (1, [4, 0]));
+        assert_eq!(after(&EDITION_2_FIELD, &short), (4, [4, 0]));
+        assert_eq!(after(&EDITION_2_FIELD, &[0x27, 0, 0]), (2, [4, 0]));
+        // Past 32 steps it is one too many in edition 2, and unknown still in edition 1.
+        let steps = [0x24, 2, 0, 0, 0].repeat(STEPS_MAX);
+        let place = [4 + steps.len() as u32, 0];
+        assert_eq!(after(&[&EDITION_2_FIELD[..], &steps].concat(), &short), (3, place));
+        assert_eq!(after(&[&EDITION_FIELD[..], &steps].concat(), &short), (2, place));
+        // It is a step: no layout comes after it.
+        let stepped = [&EDITION_2_FIELD[..], &VECTOR_FIELD].concat();
+        assert_eq!(after(&stepped, &[0x10, 0, 0]), (3, [26, 0]));
     }
 
     #[test]

@@ -12,7 +12,8 @@ const COPY: i32 = 0;
 const TAKE: i32 = 1;
 const PUT: i32 = 2;
 const FILL: i32 = 3;
-const WHOLE_STEP: i32 = 4;
+/// The op of a step that the tape does not take apart.
+pub const WHOLE_STEP: i32 = 4;
 const BYTE_STEP_MAX: i32 = 65_535;
 
 /// A record: six signed numbers, the op first.
@@ -153,7 +154,7 @@ fn check_record(
         }
         WHOLE_STEP => {
             unused(&record[2..])?;
-            check_whole_step(sheet, register, types)
+            check_whole_step(sheet, register, types, memory_len)
         }
         _ => Err(Cause::UnknownOp),
     }
@@ -208,18 +209,30 @@ fn check_bytes(record: &Record, type_: Type, memory_len: usize) -> Result<(), Ca
     Ok(())
 }
 
-/// Op 4 names a step of the sheet, no load and no store, that would not get 7 or 8 here.
-fn check_whole_step(sheet: &Sheet, number: i32, types: &mut Types) -> Result<(), Cause> {
+/// Op 4 names a step of the sheet, no load and no store, that would not get 7, 8 or 14 here.
+fn check_whole_step(
+    sheet: &Sheet,
+    number: i32,
+    types: &mut Types,
+    memory_len: usize,
+) -> Result<(), Cause> {
     let step = usize::try_from(number).ok().and_then(|number| sheet.steps.get(number));
     let step = step.ok_or(Cause::RecordNoStep)?;
-    let type_ = match whole_type(step, types) {
-        None => return Err(Cause::RecordAccessStep),
-        Some(Err(Cause::EmptyRegister)) => return Err(Cause::RecordStepEmpty),
-        Some(Err(_)) => return Err(Cause::RecordStepShapes),
-        Some(Ok(type_)) => type_,
-    };
-    types[step.register()] = Some(type_);
+    let type_ = whole_type(step, types, memory_len).ok_or(Cause::RecordAccessStep)?;
+    types[step.register()] = Some(type_.map_err(|(cause, _)| record_cause(cause))?);
     Ok(())
+}
+
+/// The cause of 17 for a whole step's cause of 7, 8 or 14.
+fn record_cause(cause: Cause) -> Cause {
+    match cause {
+        Cause::EmptyRegister => Cause::RecordStepEmpty,
+        Cause::EmptyInput => Cause::RecordInputEmpty,
+        Cause::InputShape | Cause::PackedKind | Cause::PackedShape => Cause::RecordInputShape,
+        Cause::MatrixPastMemory => Cause::RecordMatrixPastMemory,
+        Cause::BiasPastMemory => Cause::RecordBiasPastMemory,
+        _ => Cause::RecordStepShapes,
+    }
 }
 
 /// Runs a record that is known to be accepted, its elements in order.
@@ -229,7 +242,7 @@ fn run_record(sheet: &Sheet, record: &Record, carried: &mut Carried, memory: &mu
     let registers = &mut carried.registers;
     match op {
         COPY => registers[register as usize] = registers[first as usize].clone(),
-        WHOLE_STEP => do_whole(&sheet.steps[register as usize], registers),
+        WHOLE_STEP => do_whole(&sheet.steps[register as usize], registers, memory),
         _ => {
             let matrix = registers[register as usize].as_mut().expect("accepted");
             let size = matrix.type_.kind.size();
@@ -251,6 +264,7 @@ fn run_record(sheet: &Sheet, record: &Record, carried: &mut Carried, memory: &mu
 
 #[cfg(test)]
 mod tests {
+    use super::super::carry::carry_out;
     use super::super::sheet::{sheet_bytes, ClampMode, Combine, Dimension, Layout, ReduceMode};
     use super::super::Kind;
     use super::*;
@@ -275,8 +289,8 @@ mod tests {
         };
         sheet_bytes(&Sheet {
             layouts: vec![layout],
-            views: vec![],
             steps: vec![fill, load, reduce],
+            ..Sheet::default()
         })
     }
 
@@ -320,6 +334,51 @@ mod tests {
         assert!(ran(0, &[FILL_0, [COPY, 1, 0, 0, 0, 0], reduce]).is_ok());
         let load = [WHOLE_STEP, 1, 0, 0, 0, 0];
         assert_eq!(refused(0, &[FILL_0, load]), (Cause::RecordAccessStep, [1, 0]));
+    }
+
+    /// A fill of register 0, 2 by 1 of 3, and twice that register by the 2 by 2 matrix of u8 at
+    /// byte 0, with the bias at byte 4, to the register itself.
+    fn vector_sheet() -> Vec<u8> {
+        let fill = [0x20, 8, 0, 0, 2, 1, 0, 3, 0, 0, 0];
+        let vector = [0x26, 19, 0, 0, 5, 0, 5, 0, 2, 2, 0, 2, 0, 0, 0, 0, 0, 1, 4, 0, 0, 0];
+        [&[1, 1, 0, 2][..], &fill, &vector, &vector].concat()
+    }
+
+    const VECTOR: Record = [WHOLE_STEP, 1, 0, 0, 0, 0];
+
+    #[test]
+    fn a_vector_step_is_a_whole_step_that_reads_memory() {
+        let mut memory = [1, 2, 3, 4, 10, 0, 0, 0, 20, 0, 0, 0];
+        let (sheet, before) = (vector_sheet(), memory);
+        let carried = carry_out(&sheet, &mut memory).expect("accepted");
+        // 3 and 3 give 19 and 41, which give 111 and 241.
+        let column = carried.registers[0].as_ref().expect("not empty");
+        assert_eq!(
+            (&column.elements[..], carried.byte_elements, memory),
+            (&[111, 241][..], 0, before)
+        );
+        let translated = translate(&sheet, memory.len(), 18).expect("accepted");
+        assert_eq!(translated.records, [FILL_0, VECTOR, [WHOLE_STEP, 2, 0, 0, 0, 0]]);
+        assert_eq!(translated.byte_elements, 0);
+        let tape = translated.records.concat();
+        let ran = run_tape(&sheet, &tape, 3, &mut memory).expect("accepted");
+        assert_eq!((ran.registers, ran.byte_elements, memory), (carried.registers, 0, before));
+    }
+
+    #[test]
+    fn a_vector_step_is_judged_where_it_stands() {
+        let sheet = vector_sheet();
+        let ran = |records: &[Record], memory_len: usize| {
+            let mut memory = vec![0; memory_len];
+            let ran = run_tape(&sheet, &records.concat(), records.len(), &mut memory);
+            ran.map_err(|refusal| (refusal.cause, refusal.place)).err()
+        };
+        assert_eq!(ran(&[FILL_0, VECTOR], 12), None);
+        assert_eq!(ran(&[VECTOR], 12), Some((Cause::RecordInputEmpty, [0, 0])));
+        assert_eq!(ran(&[FILL_0, VECTOR], 11), Some((Cause::RecordBiasPastMemory, [1, 0])));
+        assert_eq!(ran(&[FILL_0, VECTOR], 3), Some((Cause::RecordMatrixPastMemory, [1, 0])));
+        let check = |memory_len| check(&sheet, memory_len).map_err(|refusal| refusal.place).err();
+        assert_eq!([check(12), check(11), check(3)], [None, Some([1, 5]), Some([1, 3])]);
     }
 
     #[test]

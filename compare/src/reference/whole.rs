@@ -1,5 +1,5 @@
-//! The steps without memory access: fill, reduce, transpose, multiply-add. The tape has each as
-//! one whole step.
+//! The whole steps: fill, reduce, transpose, multiply-add and vector. They go through no layout,
+//! and the tape has each as one record.
 
 use super::carry::Types;
 use super::kind::Kind;
@@ -7,17 +7,24 @@ use super::refusal::Cause;
 use super::registers::{Matrix, Registers, Type};
 use super::sheet::{Combine, ReduceMode, Step};
 
-/// The type of the result of a step without memory access, or 7 or 8; None for a load or store.
-pub fn whole_type(step: &Step, types: &Types) -> Option<Result<Type, Cause>> {
-    match *step {
-        Step::Fill { rows, columns, kind, .. } => Some(Ok(Type { kind, rows, columns })),
+/// The type of the result of a whole step, or 7, 8 or 14 and the element that it names, or 0;
+/// None for a load or a store.
+pub fn whole_type(
+    step: &Step,
+    types: &Types,
+    memory_len: usize,
+) -> Option<Result<Type, (Cause, usize)>> {
+    let type_ = match *step {
+        Step::Fill { rows, columns, kind, .. } => Ok(Type { kind, rows, columns }),
         Step::Reduce { source, rows, columns, mode, .. } => {
-            Some(reduced_type(types[source], rows, columns, mode))
+            reduced_type(types[source], rows, columns, mode)
         }
-        Step::Transpose { source, .. } => Some(transposed_type(types[source])),
-        Step::MultiplyAdd { a, b, c, .. } => Some(product_type(types[a], types[b], types[c])),
-        Step::Load { .. } | Step::Store { .. } => None,
-    }
+        Step::Transpose { source, .. } => transposed_type(types[source]),
+        Step::MultiplyAdd { a, b, c, .. } => product_type(types[a], types[b], types[c]),
+        Step::Vector(vector) => return Some(vector.check(types[vector.input], memory_len)),
+        Step::Load { .. } | Step::Store { .. } => return None,
+    };
+    Some(type_.map_err(|cause| (cause, 0)))
 }
 
 /// A register that is read must not be empty.
@@ -58,8 +65,8 @@ fn product_type(a: Option<Type>, b: Option<Type>, c: Option<Type>) -> Result<Typ
     Ok(c)
 }
 
-/// Does a step without memory access, which is known to be accepted.
-pub fn do_whole(step: &Step, registers: &mut Registers) {
+/// Does a whole step that is known to be accepted.
+pub fn do_whole(step: &Step, registers: &mut Registers, memory: &[u8]) {
     let of = |register: usize| registers[register].as_ref().expect("accepted");
     let (register, matrix) = match *step {
         Step::Fill { register, rows, columns, kind, value } => {
@@ -71,6 +78,7 @@ pub fn do_whole(step: &Step, registers: &mut Registers) {
         }
         Step::Transpose { result, source } => (result, transposed(of(source))),
         Step::MultiplyAdd { result, a, b, c } => (result, product(of(a), of(b), of(c))),
+        Step::Vector(vector) => (vector.result, vector.perform(of(vector.input), memory)),
         Step::Load { .. } | Step::Store { .. } => unreachable!("not a whole step"),
     };
     registers[register] = Some(matrix);

@@ -11,8 +11,8 @@ use lib.ListN.{length, getD, set, length-set}
 use lib.Seq.{getD-set-same, getD-set-other}
 use borrow.Author.Tests.{lt-ltb, le-ltb, eq-eqb, ne-eqb, eqb-true, eqb-false, not-true}
 use Rattle.numbers.specs.Choice.{pick, both}
-use Rattle.numbers.specs.All.{all-at, all-true}
-use Rattle.numbers.specs.Places.{by-test, by-order}
+use Rattle.numbers.specs.Laws.All.{all-at, all-true}
+use Rattle.numbers.specs.Laws.Choice.{by-test, by-order}
 use Rattle.outcomes.specs.declared.Outcome.{Outcome}
 use Rattle.outcomes.specs.declared.Outcome.the-variants.{Skipped, Filled, Discarded, Placed}
 use Rattle.addressing.specs.declared.Access.{Access}
@@ -21,7 +21,7 @@ use Rattle.addressing.specs.Rules.{elementsOf}
 use Rattle.refusals.specs.Refusals.{unalignedBase, ranksDiffer, blockedStore, byteTwice, stopAt}
 use Rattle.refusals.specs.declared.Stop.{Stop}
 use Rattle.accesses.specs.declared.Tally.{Tally}
-use Rattle.accesses.specs.Refusals.{elementOutcome, firstRefused, sameByte, sameAt, meets, clashFrom, apart, clashRefusal, elementsRefusal, placedOne, placedCount, checkedBy, checked, misplaced, otherRank, storeBlocked, accessRefusal, checkedAccess}
+use Rattle.accesses.specs.Refusals.{elementOutcome, firstRefused, sameByte, sameAt, meets, clashFrom, apart, clashRefusal, elementsRefusal, placedOne, placedCount, checkedBy, checkedElements, misplaced, otherRank, storeBlocked, accessRefusal, checkedAccess}
 use Rattle.accesses.specs.Entries.{Near, filledEntry, discardedEntry, entryOf, hasByte, hits, sameEntry, Surveyed}
 use Rattle.sheet.specs.Sizes.{matrixPlaces, memoryLimit}
 
@@ -209,41 +209,41 @@ clash-surveyed {f} {m} {r} {entries} near s z =
 
 -- Refusals 12 to 15, by the way that the code took
 module _ (load : Bool) (f : ℕ → Located) (m : ℕ) {s : Stop} (e : s ≡ firstRefused f 0 m) where
-  pub checked-refused : (s .number ≡ 0 → ⊥) → checkedBy (stopAt (s .number) (s .element)) 0 ≡ checked f m (elementsRefusal load f m)
-  unfolding checked elementsRefusal pick
+  pub checked-refused : (s .number ≡ 0 → ⊥) → checkedBy (stopAt (s .number) (s .element)) 0 ≡ checkedElements f m (elementsRefusal load f m)
+  unfolding checkedElements elementsRefusal pick
   checked-refused n = rw (← e, ne-eqb (s .number) 0 n, ne-eqb (s .number) 0 n)
 
   module _ (z : s .number ≡ 0) where
-    pub checked-load : {placed : ℕ} → load ≡ true → placed ≡ placedCount f m → checkedBy (stopAt 0 0) placed ≡ checked f m (elementsRefusal load f m)
-    unfolding checked elementsRefusal pick
+    pub checked-load : {placed : ℕ} → load ≡ true → placed ≡ placedCount f m → checkedBy (stopAt 0 0) placed ≡ checkedElements f m (elementsRefusal load f m)
+    unfolding checkedElements elementsRefusal pick
     checked-load t c = rw (← e, z, t) (ap (checkedBy (stopAt 0 0)) c)
 
     module _ (i : ℕ) (t : load ≡ false) (clash : i ≡ clashFrom (sameAt f) 0 m) where
-      pub checked-clash : i < m → checkedBy (stopAt byteTwice i) 0 ≡ checked f m (elementsRefusal load f m)
-      unfolding checked elementsRefusal clashRefusal pick
+      pub checked-clash : i < m → checkedBy (stopAt byteTwice i) 0 ≡ checkedElements f m (elementsRefusal load f m)
+      unfolding checkedElements elementsRefusal clashRefusal pick
       checked-clash h = rw (← e, z, t, ← clash, lt-ltb i m h)
 
-      pub checked-apart : {placed : ℕ} → m ≤ i → placed ≡ placedCount f m → checkedBy (stopAt 0 0) placed ≡ checked f m (elementsRefusal load f m)
-      unfolding checked elementsRefusal clashRefusal pick
+      pub checked-apart : {placed : ℕ} → m ≤ i → placed ≡ placedCount f m → checkedBy (stopAt 0 0) placed ≡ checkedElements f m (elementsRefusal load f m)
+      unfolding checkedElements elementsRefusal clashRefusal pick
       checked-apart h c = rw (← e, z, t, ← clash, le-ltb i m h) (ap (checkedBy (stopAt 0 0)) c)
 
 -- Refusals 9 to 11
 module _ (a : Access) where
   pub access-nine : misplaced a ≡ true → checkedBy (stopAt unalignedBase 0) 0 ≡ checkedAccess a
-  unfolding accessRefusal checked pick
+  unfolding accessRefusal checkedElements pick
   access-nine e = rw e
 
   module _ (nine : misplaced a ≡ false) where
     pub access-ten : otherRank a ≡ true → checkedBy (stopAt ranksDiffer 0) 0 ≡ checkedAccess a
-    unfolding accessRefusal checked pick
+    unfolding accessRefusal checkedElements pick
     access-ten e = rw (nine, e)
 
     module _ (ten : otherRank a ≡ false) where
       pub access-eleven : storeBlocked a ≡ true → checkedBy (stopAt blockedStore 0) 0 ≡ checkedAccess a
-      unfolding accessRefusal checked pick
+      unfolding accessRefusal checkedElements pick
       access-eleven e = rw (nine, ten, e)
 
       pub access-elements : storeBlocked a ≡ false
-          → checked (elementOutcome a) (elementsOf a) (elementsRefusal (a .load) (elementOutcome a) (elementsOf a)) ≡ checkedAccess a
+          → checkedElements (elementOutcome a) (elementsOf a) (elementsRefusal (a .load) (elementOutcome a) (elementsOf a)) ≡ checkedAccess a
       unfolding accessRefusal pick
       access-elements e = rw (nine, ten, e)

@@ -12,12 +12,14 @@ use lib.ListN.{length, getD, set, length-set, length-replicate}
 use lib.Pow.{pow-pos, pow-lt, pow-add, shl-shr, shl-exact}
 use lib.Seq.{ext-getD, getD-set-same, getD-set-other}
 use borrow.Author.Tests.{eq-eqb, ne-eqb, ltb-true}
-use Rattle.numbers.specs.Choice.{pick, both, both-right}
-use Rattle.numbers.specs.All.{all, all-none, all-more, all-false}
-use Rattle.numbers.specs.Places.{by-test, by-place, by-order, none-all}
+use Rattle.numbers.specs.Choice.{pick, both}
+use Rattle.numbers.specs.Laws.Choice.{both-right, by-test, by-place, by-order}
+use Rattle.numbers.specs.All.{all}
+use Rattle.numbers.specs.Laws.All.{all-none, all-more, all-false}
+use Rattle.numbers.specs.Laws.Places.{none-all}
 use Rattle.accesses.specs.Refusals.{meets, apart}
 use Rattle.accesses.specs.Entries.{filledEntry, hasByte, hits, sameEntry}
-use Rattle.accesses.specs.Marks.{markWords, noMarks, wordOf, bitOf, bitAt, fresh, withMark, withoutMarks, ClearFrom}
+use Rattle.accesses.specs.Marks.{markWords, noMarks, wordOf, bitOf, bitAt, unmarked, withMark, withoutMarks, ClearFrom}
 
 -- a bit that is set, and the others
 or-one : (x : ℕ) → x < 2 → bitOr x 1 ≡ 1
@@ -76,8 +78,8 @@ module _ (ws : List ℕ) (long : length ws ≡ markWords) where
       rw (w, getD-set-same ws (wordOf x) (bitOr (getD ws (wordOf x) 0) (2 ^ bitOf y)) 0 (rw long (word-inside x hx)))
       (bit-other (getD ws (wordOf x) 0) (bitOf y) (bitOf x) (place-differs y x hy hx d w))
 
-  pub mark-more : (y x : ℕ) → fresh (withMark ws y) x ≡ pick (hits y x) false (fresh ws x)
-  unfolding fresh withMark hits both pick
+  pub mark-more : (y x : ℕ) → unmarked (withMark ws y) x ≡ pick (hits y x) false (unmarked ws x)
+  unfolding unmarked withMark hits both pick
   mark-more y x =
       by-test (hasByte x)
       (λ hx. by-place y x
@@ -150,13 +152,13 @@ module _ (entries : List ℕ) (m : ℕ) (ws : List ℕ) where
 pub record Marking (entries : List ℕ) (m k : ℕ) (ws : List ℕ) : Type 0 where
   pub inside : k ≤ m
   pub marks : ClearFrom entries 0 m ws
-  pub each : (x : ℕ) → fresh ws x ≡ not (seen entries x k)
+  pub each : (x : ℕ) → unmarked ws x ≡ not (seen entries x k)
   pub far : all k (λ (i : ℕ). not (meets (sameEntry entries) i i)) ≡ true
 
 -- without a mark every byte is new
-unmarked : (x : ℕ) → fresh noMarks x ≡ true
-unfolding fresh pick
-unmarked x =
+start-unmarked : (x : ℕ) → unmarked noMarks x ≡ true
+unfolding unmarked pick
+start-unmarked x =
     let e : bitAt (getD noMarks (wordOf x) 0) (bitOf x) ≡ 0 = rw (none-marked (wordOf x)) (ap (λ (n : ℕ). n % 2) (zero-div (2 ^ bitOf x))) in
     by-test (hasByte x) (λ h. rw h (eq-eqb _ 0 e)) (λ h. rw h)
 
@@ -171,16 +173,16 @@ module _ (entries : List ℕ) (m : ℕ) where
       record {
         inside = zero-le;
         marks = no-marks;
-        each = unmarked;
+        each = start-unmarked;
         far = all-none _;
       }
 
   -- a turn at k
   module _ (k : ℕ) (ws : List ℕ) (v : Marking entries m k ws) where
-    new-met : fresh ws (getD entries k 0) ≡ not (meets (sameEntry entries) k k)
+    new-met : unmarked ws (getD entries k 0) ≡ not (meets (sameEntry entries) k k)
     new-met = rw (seen-meets entries k k) (v .each (getD entries k 0))
 
-    pub marking-more : k < m → fresh ws (getD entries k 0) ≡ true → Marking entries m (k + 1) (withMark ws (getD entries k 0))
+    pub marking-more : k < m → unmarked ws (getD entries k 0) ≡ true → Marking entries m (k + 1) (withMark ws (getD entries k 0))
     unfolding seen
     marking-more h e =
         record {
@@ -190,7 +192,7 @@ module _ (entries : List ℕ) (m : ℕ) where
           far = all-more k _ (v .far) (sym new-met ∙ e);
         }
 
-    pub marking-stop : k < m → fresh ws (getD entries k 0) ≡ false → apart (sameEntry entries) m ≡ false
+    pub marking-stop : k < m → unmarked ws (getD entries k 0) ≡ false → apart (sameEntry entries) m ≡ false
     unfolding apart
     marking-stop h e = all-false m _ k h (sym new-met ∙ e)
 

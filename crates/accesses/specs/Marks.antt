@@ -34,8 +34,8 @@ abbrev pub bitAt : ℕ → ℕ → ℕ
 bitAt word place = word / 2 ^ place % 2
 
 -- an entry's byte has no mark
-unfoldable pub fresh : List ℕ → ℕ → Bool
-fresh ws x = pick (hasByte x) (eqb (bitAt (getD ws (wordOf x) 0) (bitOf x)) 0) true
+unfoldable pub unmarked : List ℕ → ℕ → Bool
+unmarked ws x = pick (hasByte x) (eqb (bitAt (getD ws (wordOf x) 0) (bitOf x)) 0) true
 
 unfoldable pub withMark : List ℕ → ℕ → List ℕ
 withMark ws x = pick (hasByte x) (set ws (wordOf x) (bitOr (getD ws (wordOf x) 0) (2 ^ bitOf x))) ws

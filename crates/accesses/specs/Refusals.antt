@@ -103,8 +103,8 @@ placedCount f (suc m) = placedCount f m + placedOne (f m .outcome)
 abbrev pub checkedBy : Stop → ℕ → Checked
 checkedBy s placed = record { stop = s; placed = placed }
 
-unfoldable pub checked : (ℕ → Located) → ℕ → Stop → Checked
-checked f m s = checkedBy s (pick (eqb (s .number) 0) (placedCount f m) 0)
+unfoldable pub checkedElements : (ℕ → Located) → ℕ → Stop → Checked
+checkedElements f m s = checkedBy s (pick (eqb (s .number) 0) (placedCount f m) 0)
 
 abbrev pub checkedAccess : Access → Checked
-checkedAccess a = checked (elementOutcome a) (elementsOf a) (accessRefusal a)
+checkedAccess a = checkedElements (elementOutcome a) (elementsOf a) (accessRefusal a)

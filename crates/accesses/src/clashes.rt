@@ -4,7 +4,7 @@ ghost use Prim.Native.Nat.{_≤_};
 ghost use Rattle.sheet.specs.Sizes.{matrixPlaces};
 ghost use Rattle.accesses.specs.Refusals.{clashFrom, apart};
 ghost use Rattle.accesses.specs.Entries.{hasByte, hits, sameEntry};
-ghost use Rattle.accesses.specs.Marks.{noMarks, fresh, withMark, withoutMarks, ClearFrom};
+ghost use Rattle.accesses.specs.Marks.{noMarks, unmarked, withMark, withoutMarks, ClearFrom};
 use super::FILLED;
 use sheet::sizes::PLACES;
 
@@ -31,7 +31,7 @@ fn has_byte(x: u32) -> bool
 
 // Marks the byte of an entry. The answer: it had no mark.
 fn mark(marks: &mut [u32; MARKS], x: u32) -> bool
-    ensures { λ r. ⌜ (r ≡ fresh (now (marks .entry)) x) × (now (marks .exit) ≡ withMark (now (marks .entry)) x) ⌝ }
+    ensures { λ r. ⌜ (r ≡ unmarked (now (marks .entry)) x) × (now (marks .exit) ≡ withMark (now (marks .entry)) x) ⌝ }
 {
     if !has_byte(x) {
         return true;

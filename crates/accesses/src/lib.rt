@@ -8,7 +8,7 @@ ghost use Rattle.sheet.specs.Layouts.{theDimension, layoutOk};
 ghost use Rattle.addressing.specs.Rules.{elementsOf};
 ghost use Rattle.addressing.specs.Valid.{SizedAccess, Planned};
 ghost use Rattle.sheet.specs.Sizes.{rankPlaces, matrixPlaces};
-ghost use Rattle.accesses.specs.Refusals.{elementOutcome, otherRank, blocksOne, storeBlocked, elementsRefusal, placedOne, checkedBy, checked, checkedAccess};
+ghost use Rattle.accesses.specs.Refusals.{elementOutcome, otherRank, blocksOne, storeBlocked, elementsRefusal, placedOne, checkedBy, checkedElements, checkedAccess};
 ghost use Rattle.accesses.specs.Entries.{Near, entryOf, entryOutcome, Surveyed};
 ghost use Rattle.accesses.specs.Marks.{Scratch};
 
@@ -155,7 +155,7 @@ fn accept(placed: usize) -> Checked
 fn check_elements(entries: &mut [u32; PLACES], marks: &mut [u32; MARKS], p: Plan) -> Checked
     requires { ⌜ Planned p × Scratch (now entries) (now marks) ⌝ }
     ensures { λ _. ⌜ Scratch (now (entries .exit)) (now (marks .exit)) ⌝ }
-    ensures { λ r. ⌜ r ≡ checked (elementOutcome (p .access)) (elementsOf (p .access)) (elementsRefusal (p .access .load) (elementOutcome (p .access)) (elementsOf (p .access))) ⌝ }
+    ensures { λ r. ⌜ r ≡ checkedElements (elementOutcome (p .access)) (elementsOf (p .access)) (elementsRefusal (p .access .load) (elementOutcome (p .access)) (elementsOf (p .access))) ⌝ }
 {
     let count = p.count;
     let s = survey(entries, p);

@@ -12,11 +12,13 @@ use lib.ListN.{getD, set}
 use mathlib.Core.List.{List, [], _∷_}
 use borrow.Author.Tests.{lt-ltb, le-ltb, le-leb, lt-leb, ltb-false, leb-true, leb-false, eqb-false}
 use Rattle.refusals.specs.Refusals.{indexTooLarge}
-use Rattle.numbers.specs.Choice.{pick, pick-case}
+use Rattle.numbers.specs.Choice.{pick}
+use Rattle.numbers.specs.Laws.Choice.{pick-case}
 use Rattle.sheet.specs.Laws.Facts.{InSize, layout-span, view-most, view-size}
 use Rattle.sheet.specs.Views.{theViewDimension}
 use Rattle.addressing.specs.Valid.{ValidAccess, Planned}
-use Rattle.numbers.specs.Remainders.{remainder, remainder-lt}
+use Rattle.numbers.specs.Remainders.{remainder}
+use Rattle.numbers.specs.Laws.Remainders.{remainder-lt}
 use Rattle.addressing.specs.declared.Plan.{Plan}
 use Rattle.sheet.specs.declared.ClampMode.{ClampMode}
 use Rattle.sheet.specs.declared.ClampMode.the-variants.{Undefined, Constant, ClampToEdge, Repeat, MirrorRepeat}
@@ -28,9 +30,9 @@ use Rattle.sheet.specs.Layouts.{theDimension}
 use Rattle.addressing.specs.declared.Access.{Access}
 use Rattle.addressing.specs.declared.Clamped.{Clamped}
 use Rattle.addressing.specs.declared.Clamped.the-variants.{Refused, Discarded, Filled, At}
-use Rattle.sheet.specs.Sizes.{rankPlaces, matrixPlaces}
-use Rattle.addressing.specs.Plans.{dimensionNumbers, layoutNumbers, dimensionAt, sizesOf, stridesOf, planned}
-use Rattle.addressing.specs.Rules.{outsideClip, outsideView, clipWidth, five, rowMajor, viewSizes, viewStrides, coordinates, twos, folded, mirrored, onLoad, onStore, outside, clamped, scaled, part, tensorIndex, spanOf, spanCoordinates, refused, settled, reached}
+use Rattle.sheet.specs.Sizes.{rankPlaces, matrixPlaces, sizeLimit}
+use Rattle.addressing.specs.Plans.{dimensionNumbers, layoutNumbers, dimensionIn, sizesOf, stridesOf, planned}
+use Rattle.addressing.specs.Rules.{outsideClip, outsideView, clipWidth, five, rowMajor, viewSizes, viewStrides, coordinates, twos, turnedBack, mirrored, onLoad, onStore, outside, clamped, scaled, part, tensorIndex, spanOf, spanCoordinates, refused, settled, reached}
 
 -- Rule 1: inside the clip the offset can be subtracted
 pub clip-low : (c : Clip) (x : ℕ) → outsideClip c x ≡ false → c .offset ≤ x
@@ -82,18 +84,18 @@ module _ (span : ℕ → ℕ) (i : ℕ) where
       ⊎-elim (λ l. let e : j ≡ n = omega arith in rw e)
       (λ e. row-major-past j (omega arith) ∙ sym (row-major-past n (omega arith))) w
 
-  row-major-le : (n : ℕ) → ((k : ℕ) → k < suc n → span k ≤ 4096) → rowMajor span (suc n) i ≤ 4096 ^ n
+  row-major-le : (n : ℕ) → ((k : ℕ) → k < suc n → span k ≤ sizeLimit) → rowMajor span (suc n) i ≤ sizeLimit ^ n
   unfolding rowMajor
   row-major-le zero h = pick-case (λ (x : ℕ). x ≤ 1) (ltb i 0) _ _ (λ t. absurd (true≢false (sym t ∙ le-ltb i 0 zero-le))) (λ t. lit≤ tt)
   row-major-le (suc n) h =
-      pick-case (λ (x : ℕ). x ≤ 4096 ^ suc n) (ltb i (suc n)) _ _
+      pick-case (λ (x : ℕ). x ≤ sizeLimit ^ suc n) (ltb i (suc n)) _ _
       (λ t. rw pow-suc (mul-le-mul (row-major-le n (λ k l. h k (omega arith))) (h (suc n) (omega arith))))
-      (λ t. pow-le-pow-right {n = 4096} (lit< tt) {i = 0} {j = suc n} zero-le)
+      (λ t. pow-le-pow-right {n = sizeLimit} (lit< tt) {i = 0} {j = suc n} zero-le)
 
   -- of at most five dimensions
-  pub row-major-most : (n : ℕ) → 0 < n → n ≤ rankPlaces → ((k : ℕ) → k < n → span k ≤ 4096) → rowMajor span n i ≤ 4096 ^ 4
+  pub row-major-most : (n : ℕ) → 0 < n → n ≤ rankPlaces → ((k : ℕ) → k < n → span k ≤ sizeLimit) → rowMajor span n i ≤ sizeLimit ^ 4
   row-major-most zero p m h = absurd (not-suc-le-zero p)
-  row-major-most (suc n) p m h = le-trans (row-major-le n h) (pow-le-pow-right {n = 4096} (lit< tt) {i = n} {j = 4} (omega arith))
+  row-major-most (suc n) p m h = le-trans (row-major-le n h) (pow-le-pow-right {n = sizeLimit} (lit< tt) {i = n} {j = 4} (omega arith))
 
 -- each of five numbers is at most m
 pub five-most : (m : ℕ) {a b c d e : ℕ} → a ≤ m → b ≤ m → c ≤ m → d ≤ m → e ≤ m → (i : ℕ) → getD (a ∷ b ∷ c ∷ d ∷ e ∷ []) i 0 ≤ m
@@ -134,7 +136,7 @@ Under n Filled = Unit {0}
 Under n (At x) = x < n
 
 mirrored-lt : (c : ℤ) {n : ℕ} → 0 < n → mirrored c n < n
-unfolding mirrored folded
+unfolding mirrored turnedBack
 mirrored-lt c {n} h =
     let m = 2 * n - 2 in
     pick-case (λ (x : ℕ). x < n) (eqb n 1) _ _ (λ e. h)
@@ -176,8 +178,8 @@ pub part-is : (load : Bool) (mode : ClampMode) (d : Dimension) (s : ℕ) {x : Cl
 unfolding part
 part-is load mode d s e = rw e
 
-pub scaled-le : {x n stride : ℕ} (block : ℕ) → x < n → n ≤ 4096 → stride < 65536 → x / block * stride ≤ 268435456
-scaled-le {x} block h m t = mul-le-mul {n₂ = 4096} {m₂ = 65536} (omega (arith, div-le-self x block)) (omega arith)
+pub scaled-le : {x n stride : ℕ} (block : ℕ) → x < n → n ≤ sizeLimit → stride < 65536 → x / block * stride ≤ 268435456
+scaled-le {x} block h m t = mul-le-mul {n₂ = sizeLimit} {m₂ = 65536} (omega (arith, div-le-self x block)) (omega arith)
 
 module _ (a : Access) where
   pub reached-far : (index : ℕ) → 2 ^ 32 ≤ index → refused indexTooLarge ≡ reached a index
@@ -200,7 +202,7 @@ view-sizes-in a ok e i h =
     (λ t. rw (five-at (spanOf (a .layout)) i m) (layout-span (a .layout) (ok .sized .layout) i (omega (arith, ok .ranks e t))))
 
 -- the numbers of a layout have its dimensions
-pub numbers-dimension : (l : Layout) (d : ℕ) → d < rankPlaces → dimensionAt (layoutNumbers l) (dimensionNumbers * d) ≡ theDimension (l .dimensions) d
+pub numbers-dimension : (l : Layout) (d : ℕ) → d < rankPlaces → dimensionIn (layoutNumbers l) (dimensionNumbers * d) ≡ theDimension (l .dimensions) d
 unfolding layoutNumbers
 numbers-dimension l zero h = refl
 numbers-dimension l (suc zero) h = refl

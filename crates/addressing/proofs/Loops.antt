@@ -9,19 +9,20 @@ use lib.Dec.{leb}
 use lib.IntN.{ℤ, pos, negsuc, _+ℤ_}
 use lib.ListN.{length, getD, set, replicate, length-set}
 use lib.Seq.{getD-set-same, getD-set-other}
-use Rattle.numbers.specs.Choice.{pick, pick-case}
-use Rattle.numbers.specs.Places.{by-place, none-all}
+use Rattle.numbers.specs.Choice.{pick}
+use Rattle.numbers.specs.Laws.Choice.{pick-case, by-place}
+use Rattle.numbers.specs.Laws.Places.{none-all}
 use Rattle.sheet.specs.Laws.Facts.{InSize, layout-most}
 use Rattle.sheet.specs.Layouts.{theDimension, layoutOk}
 use Rattle.sheet.specs.declared.ClampMode.{ClampMode}
 use Rattle.sheet.specs.declared.ClampMode.the-variants.{Undefined, Constant, ClampToEdge, Repeat, MirrorRepeat}
 use Rattle.sheet.specs.declared.Dimension.{Dimension}
 use Rattle.sheet.specs.declared.Layout.{Layout}
-use Rattle.sheet.specs.Sizes.{rankPlaces}
+use Rattle.sheet.specs.Sizes.{rankPlaces, sizeLimit}
 use Rattle.addressing.specs.declared.Clamped.{Clamped}
 use Rattle.addressing.specs.declared.Clamped.the-variants.{Refused, Discarded, Filled, At}
 use Rattle.addressing.specs.Rules.{spanOf, coordinates, weighted, spanCoordinates, twos, onLoad, onStore, outside, clamped, scaled, part, plus, tensorIndex}
-use Rattle.addressing.specs.Plans.{dimensionNumbers, dimensionAt, layoutNumbers}
+use Rattle.addressing.specs.Plans.{dimensionNumbers, dimensionIn, layoutNumbers}
 use Rattle.addressing.proofs.Laws.{coordinates-more, coordinates-end, numbers-dimension}
 
 -- Rule 3: the coordinates of later dimensions are not touched
@@ -128,7 +129,7 @@ tensor-last load l cs zero h = absurd (not-suc-le-zero h)
 tensor-last load l cs (suc d) h = let q : suc d - 1 ≡ d = omega arith in rw q refl
 
 -- a dimension by the layout's numbers
-module _ (l : Layout) {ns : List ℕ} {d : ℕ} {x : Dimension} (n : ns ≡ layoutNumbers l) (h : d < rankPlaces) (e : x ≡ dimensionAt ns (dimensionNumbers * d)) where
+module _ (l : Layout) {ns : List ℕ} {d : ℕ} {x : Dimension} (n : ns ≡ layoutNumbers l) (h : d < rankPlaces) (e : x ≡ dimensionIn ns (dimensionNumbers * d)) where
   pub same-dimension : x ≡ theDimension (l .dimensions) d
   same-dimension = e ∙ rw n (numbers-dimension l d h)
 
@@ -239,8 +240,8 @@ weighted-zeros strides zero = refl
 weighted-zeros strides (suc n) = rw (weighted-zeros strides n, none-all (λ (x : ℕ). x ≡ 0) rankPlaces 0 0 refl refl n, zero-mul)
 
 -- a product of a coordinate and a stride
-pub product-most : (left : ℕ) {size stride : ℕ} → InSize size → stride ≤ 4096 ^ 4 → left % size * stride ≤ 4096 ^ 5
-product-most left {size} {stride} s h = mul-le-mul {n₁ = left % size} {m₁ = stride} {n₂ = 4096} {m₂ = 4096 ^ 4} (omega (arith, mod-lt left (s .some), s .most)) h
+pub product-most : (left : ℕ) {size stride : ℕ} → InSize size → stride ≤ sizeLimit ^ 4 → left % size * stride ≤ sizeLimit ^ 5
+product-most left {size} {stride} s h = mul-le-mul {n₁ = left % size} {m₁ = stride} {n₂ = sizeLimit} {m₂ = sizeLimit ^ 4} (omega (arith, mod-lt left (s .some), s .most)) h
 
 -- The loop over a view's dimensions: those from k on are done and have a sum; `left` is what is left of the index.
 module _ (permutation sizes strides : List ℕ) (rank index : ℕ) where
@@ -252,7 +253,7 @@ module _ (permutation sizes strides : List ℕ) (rank index : ℕ) where
 
   pub record Weighing (k left sum : ℕ) : Type 0 where
     pub few : k ≤ rank
-    pub small : sum ≤ (rank - k) * 4096 ^ 5
+    pub small : sum ≤ (rank - k) * sizeLimit ^ 5
     pub cs : List ℕ
     pub long : length cs ≡ rankPlaces
     pub goes : coordinates place size k left cs ≡ coordinates place size rank index (replicate rankPlaces 0)
@@ -278,7 +279,7 @@ module _ (permutation sizes strides : List ℕ) (rank index : ℕ) where
     abbrev x : ℕ
     x = left % size i
 
-    pub weighing-more : rank ≤ rankPlaces → i < rank → InSize (size i) → getD strides i 0 ≤ 4096 ^ 4 → ((j : ℕ) → j < k - 1 → place j ≡ i → ⊥)
+    pub weighing-more : rank ≤ rankPlaces → i < rank → InSize (size i) → getD strides i 0 ≤ sizeLimit ^ 4 → ((j : ℕ) → j < k - 1 → place j ≡ i → ⊥)
         → Weighing (k - 1) (left / size i) (sum + x * getD strides i 0)
     weighing-more five inside s most apart =
         let l : i < length (w .cs) = omega (arith, w .long) in

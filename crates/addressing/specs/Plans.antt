@@ -29,8 +29,8 @@ dimensionNumbers = 5
 abbrev pub withDimension : List ℕ → ℕ → Dimension → List ℕ
 withDimension ns at d = set (set (set (set (set ns at (d .block)) (at + 1) (d .size)) (at + 2) (d .stride)) (at + 3) (d .offset)) (at + 4) (d .span)
 
-abbrev pub dimensionAt : List ℕ → ℕ → Dimension
-dimensionAt ns at =
+abbrev pub dimensionIn : List ℕ → ℕ → Dimension
+dimensionIn ns at =
     record {
       block = getD ns at 0;
       size = getD ns (at + 1) 0;

@@ -7,6 +7,8 @@ use lib.ListN.{getD, set, replicate}
 use lib.IntN.{ℤ, pos, negsuc, _+ℤ_}
 use Rattle.numbers.specs.Choice.{pick}
 use Rattle.numbers.specs.Remainders.{remainder}
+use Rattle.kinds.specs.Widths.{s16}
+use Rattle.kinds.specs.Values.{value}
 use Rattle.refusals.specs.Refusals.{indexTooLarge, outsideUndefined, outsideMemory}
 use Rattle.sheet.specs.Layouts.{theDimension}
 use Rattle.sheet.specs.Views.{theViewDimension}
@@ -92,9 +94,9 @@ viewIndex v sizes strides index = weighted (viewCoordinates v sizes index) strid
 unfoldable pub spanCoordinates : Layout → ℕ → List ℕ
 spanCoordinates l index = coordinates (λ (d : ℕ). d) (spanOf l) (l .rank) index (replicate rankPlaces 0)
 
--- sixteen bits read as a signed number, two's complement
-unfoldable pub twos : ℕ → ℤ
-twos x = pick (ltb x 32768) (pos x) (negsuc (65535 - x))
+-- sixteen bits read as a signed number
+abbrev pub twos : ℕ → ℤ
+twos x = value s16 x
 
 -- Rule 4, ClampToEdge of a coordinate outside: 0 or n-1
 abbrev pub edge : ℤ → ℕ → ℕ
@@ -102,12 +104,12 @@ edge (pos a) n = n - 1
 edge (negsuc a) n = 0
 
 -- Rule 4: c, and m-c if that is at or above n
-unfoldable pub folded : ℕ → ℕ → ℕ → ℕ
-folded n m c = pick (leb n c) (m - c) c
+unfoldable pub turnedBack : ℕ → ℕ → ℕ → ℕ
+turnedBack n m c = pick (leb n c) (m - c) c
 
 -- Rule 4, MirrorRepeat: m = 2n-2, c mod m, and m-c if that is at or above n; for n = 1 it gives 0
 unfoldable pub mirrored : ℤ → ℕ → ℕ
-mirrored c n = pick (eqb n 1) 0 (folded n (2 * n - 2) (remainder c (2 * n - 2)))
+mirrored c n = pick (eqb n 1) 0 (turnedBack n (2 * n - 2) (remainder c (2 * n - 2)))
 
 -- Rule 4 outside on a load
 abbrev pub onLoad : ClampMode → ℤ → ℕ → Clamped

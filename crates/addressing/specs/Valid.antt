@@ -9,7 +9,7 @@ use Rattle.addressing.specs.declared.Access.{Access}
 use Rattle.addressing.specs.declared.Plan.{Plan}
 use Rattle.addressing.specs.declared.Clamped.{Clamped}
 use Rattle.addressing.specs.declared.Clamped.the-variants.{Refused, Discarded, Filled, At}
-use Rattle.sheet.specs.Sizes.{matrixPlaces, memoryLimit}
+use Rattle.sheet.specs.Sizes.{matrixPlaces, memoryLimit, sizeLimit}
 use Rattle.addressing.specs.Rules.{elementsOf}
 use Rattle.addressing.specs.Plans.{planned}
 
@@ -34,7 +34,7 @@ pub record Planned (p : Plan) : Type 0 where
   pub valid : ValidAccess (p .access)
   pub same : p ≡ planned (p .access)
   pub few : p .count ≤ matrixPlaces
-  pub strides : (i : ℕ) → getD (p .strides) i 0 ≤ 4096 ^ 4
+  pub strides : (i : ℕ) → getD (p .strides) i 0 ≤ sizeLimit ^ 4
 
 -- what rule 5 gives is at most n, where it gives an index
 abbrev pub AtMost : ℕ → Clamped → Type 0

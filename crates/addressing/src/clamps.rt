@@ -3,6 +3,7 @@ ghost use mathlib.Core.Path.{_≡_};
 ghost use Prim.Native.Nat.{_≤_, _<_};
 ghost use lib.IntN.{ℤ, pos, _+ℤ_};
 ghost use Rattle.numbers.specs.Remainders.{remainder};
+ghost use Rattle.sheet.specs.Sizes.{sizeLimit};
 ghost use Rattle.addressing.specs.Plans.{integer};
 ghost use Rattle.addressing.specs.Rules.{twos, edge, mirrored, onLoad, onStore, outside, clamped};
 use super::Clamped;
@@ -11,7 +12,7 @@ use sheet::ClampMode;
 
 // A span coordinate plus a signed offset.
 pub fn shifted(s: u32, raw: u32) -> Coordinate
-    requires { ⌜ (s < 4096) × (raw < 65536) ⌝ }
+    requires { ⌜ (s < sizeLimit) × (raw < 65536) ⌝ }
     ensures { λ r. ⌜ integer r ≡ pos s +ℤ twos raw ⌝ }
 {
     if raw < 32768 {
@@ -46,7 +47,7 @@ fn to_edge(c: Coordinate, n: u32) -> u32
 }
 
 fn mirror(c: Coordinate, n: u32) -> u32
-    requires { ⌜ (0 < n) × (n ≤ 4096) ⌝ }
+    requires { ⌜ (0 < n) × (n ≤ sizeLimit) ⌝ }
     ensures { λ r. ⌜ r ≡ mirrored (integer c) n ⌝ }
 {
     if n == 1 {
@@ -58,7 +59,7 @@ fn mirror(c: Coordinate, n: u32) -> u32
 }
 
 fn on_load(mode: ClampMode, c: Coordinate, n: u32) -> Clamped
-    requires { ⌜ (0 < n) × (n ≤ 4096) ⌝ }
+    requires { ⌜ (0 < n) × (n ≤ sizeLimit) ⌝ }
     ensures { λ r. ⌜ r ≡ onLoad mode (integer c) n ⌝ }
 {
     match mode {
@@ -83,7 +84,7 @@ fn on_store(mode: ClampMode) -> Clamped
 }
 
 fn outside(load: bool, mode: ClampMode, c: Coordinate, n: u32) -> Clamped
-    requires { ⌜ (0 < n) × (n ≤ 4096) ⌝ }
+    requires { ⌜ (0 < n) × (n ≤ sizeLimit) ⌝ }
     ensures { λ r. ⌜ r ≡ outside load mode (integer c) n ⌝ }
 {
     if load {
@@ -95,7 +96,7 @@ fn outside(load: bool, mode: ClampMode, c: Coordinate, n: u32) -> Clamped
 
 // A coordinate over the n places of its dimension.
 pub fn clamp(load: bool, mode: ClampMode, c: Coordinate, n: u32) -> Clamped
-    requires { ⌜ (0 < n) × (n ≤ 4096) ⌝ }
+    requires { ⌜ (0 < n) × (n ≤ sizeLimit) ⌝ }
     ensures { λ r. ⌜ r ≡ clamped load mode (integer c) n ⌝ }
 {
     match c {

@@ -4,8 +4,8 @@ ghost use mathlib.Core.Bool.{true};
 ghost use Prim.Native.Nat.{_*_, _/_, _^_, _<_};
 ghost use Rattle.sheet.specs.Layouts.{layoutOk};
 ghost use Rattle.sheet.specs.Laws.Facts.{InSize};
-ghost use Rattle.sheet.specs.Sizes.{rankPlaces};
-ghost use Rattle.addressing.specs.Plans.{dimensionNumbers, dimensionPut, layoutNumbers, dimensionAt};
+ghost use Rattle.sheet.specs.Sizes.{rankPlaces, sizeLimit};
+ghost use Rattle.addressing.specs.Plans.{dimensionNumbers, dimensionPut, layoutNumbers, dimensionIn};
 ghost use Rattle.addressing.specs.Rules.{spanCoordinates, part, tensorIndex};
 ghost use Rattle.addressing.specs.Valid.{AtMost};
 use super::Clamped;
@@ -52,7 +52,7 @@ pub fn layout_numbers(l: Layout) -> [u16; LAYOUT_NUMBERS]
 
 fn dimension_at(numbers: &[u16; LAYOUT_NUMBERS], d: usize) -> Dimension
     requires { ⌜ d < rankPlaces ⌝ }
-    ensures { λ r. ⌜ r ≡ dimensionAt (now (numbers .entry)) (dimensionNumbers * d) ⌝ }
+    ensures { λ r. ⌜ r ≡ dimensionIn (now (numbers .entry)) (dimensionNumbers * d) ⌝ }
 {
     let at = DIMENSION_NUMBERS * d;
     Dimension {
@@ -74,7 +74,7 @@ fn block_of(x: u32, size: u32) -> u32
 
 // Rules 4 and 5 for a dimension at span coordinate s: at most 4,096 times 65,536, 2 to the 28th.
 fn part(load: bool, mode: ClampMode, d: Dimension, s: u32) -> Clamped
-    requires { ⌜ InSize (d .size) × InSize (d .block) × (s < 4096) ⌝ }
+    requires { ⌜ InSize (d .size) × InSize (d .block) × (s < sizeLimit) ⌝ }
     ensures { λ r. ⌜ (r ≡ part load mode d s) × AtMost (2 ^ 28) r ⌝ }
 {
     let c = clamps::shifted(s, wide(d.offset));

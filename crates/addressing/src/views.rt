@@ -6,7 +6,7 @@ ghost use lib.ListN.{getD};
 ghost use Rattle.sheet.specs.Layouts.{layoutOk};
 ghost use Rattle.sheet.specs.Views.{theViewDimension, viewOk};
 ghost use Rattle.sheet.specs.Laws.Facts.{InSize};
-ghost use Rattle.sheet.specs.Sizes.{rankPlaces};
+ghost use Rattle.sheet.specs.Sizes.{rankPlaces, sizeLimit};
 ghost use Rattle.addressing.specs.Plans.{sizesOf, stridesOf};
 ghost use Rattle.addressing.specs.Rules.{five, spanOf, rowMajor, viewSizes, viewStrides, viewIndex};
 use super::divide;
@@ -62,7 +62,7 @@ fn view_sizes(l: Layout, v: View) -> [u32; RANK]
 // The product of the spans after dimension i.
 fn row_major(l: Layout, i: usize) -> u64
     requires { ⌜ (layoutOk l ≡ true) × (i < rankPlaces) ⌝ }
-    ensures { λ r. ⌜ (r ≡ rowMajor (spanOf l) (l .rank) i) × (r ≤ 4096 ^ 4) ⌝ }
+    ensures { λ r. ⌜ (r ≡ rowMajor (spanOf l) (l .rank) i) × (r ≤ sizeLimit ^ 4) ⌝ }
 {
     let rank = l.rank as usize;
     let mut product: u64 = 1;
@@ -76,7 +76,7 @@ fn row_major(l: Layout, i: usize) -> u64
 
 fn stride_at(v: View, k: usize) -> u64
     requires { ⌜ k < rankPlaces ⌝ }
-    ensures { λ r. ⌜ (r ≡ theViewDimension (v .dimensions) k .stride) × (r ≤ 4096 ^ 4) ⌝ }
+    ensures { λ r. ⌜ (r ≡ theViewDimension (v .dimensions) k .stride) × (r ≤ sizeLimit ^ 4) ⌝ }
 {
     let d = v.dimensions[k];
     wide(d.stride) as u64
@@ -84,7 +84,7 @@ fn stride_at(v: View, k: usize) -> u64
 
 fn view_strides(l: Layout, v: View) -> [u64; RANK]
     requires { ⌜ layoutOk l ≡ true ⌝ }
-    ensures { λ r. ⌜ (r ≡ viewStrides l v) × ((i : ℕ) → getD r i 0 ≤ 4096 ^ 4) ⌝ }
+    ensures { λ r. ⌜ (r ≡ viewStrides l v) × ((i : ℕ) → getD r i 0 ≤ sizeLimit ^ 4) ⌝ }
 {
     if v.sized {
         [
@@ -118,7 +118,7 @@ pub fn sizes_of(viewed: bool, l: Layout, v: View) -> [u32; RANK]
 
 pub fn strides_of(viewed: bool, l: Layout, v: View) -> [u64; RANK]
     requires { ⌜ layoutOk l ≡ true ⌝ }
-    ensures { λ r. ⌜ (r ≡ stridesOf viewed l v) × ((i : ℕ) → getD r i 0 ≤ 4096 ^ 4) ⌝ }
+    ensures { λ r. ⌜ (r ≡ stridesOf viewed l v) × ((i : ℕ) → getD r i 0 ≤ sizeLimit ^ 4) ⌝ }
 {
     if viewed {
         view_strides(l, v)
@@ -142,7 +142,7 @@ pub fn view_index(
     strides: &[u64; RANK],
     index: u32,
 ) -> u64
-    requires { ⌜ (viewOk v ≡ true) × ((i : ℕ) → i < v .rank → InSize (getD (now sizes) i 0)) × ((i : ℕ) → getD (now strides) i 0 ≤ 4096 ^ 4) ⌝ }
+    requires { ⌜ (viewOk v ≡ true) × ((i : ℕ) → i < v .rank → InSize (getD (now sizes) i 0)) × ((i : ℕ) → getD (now strides) i 0 ≤ sizeLimit ^ 4) ⌝ }
     requires { ⌜ now permutation ≡ v .permutation ⌝ }
     ensures { λ r. ⌜ r ≡ viewIndex v (now (sizes .entry)) (now (strides .entry)) index ⌝ }
 {

@@ -12,14 +12,14 @@ use Rattle.registers.specs.Types.{theType}
 use Rattle.addressing.specs.Rules.{elementsOf}
 use Rattle.addressing.specs.declared.Access.{Access}
 use Rattle.transfers.specs.Transfers.{outcomeOf}
-use Rattle.transfers.specs.Acts.{Has}
+use Rattle.transfers.specs.Acts.{Occupies}
 use Rattle.checking.specs.Steps.{accessOf, objectRegister}
 use Rattle.carrying.specs.Steps.{Machine}
 use Rattle.carrying.specs.Carrying.{performedFrom}
 
 -- byte b is one of those of element e of an access
 abbrev pub HasByteOf : Access → ℕ → ℕ → Type 0
-HasByteOf a e b = (e < elementsOf a) × Has (a .size) b (outcomeOf a e)
+HasByteOf a e b = (e < elementsOf a) × Occupies (a .size) b (outcomeOf a e)
 
 -- byte b is one of those of element e of a step, which is a load or a store
 abbrev pub HasByte : Tensors → Step → Machine → ℕ → ℕ → Type 0
@@ -37,9 +37,9 @@ isStore (Store register window) = true
 isStore (Whole whole) = false
 
 -- a step covers byte b: it is a store, and b is a byte of one of its elements
-abbrev pub Covers : Tensors → Step → Machine → ℕ → Type 0
-Covers tensors step m b = (isStore step ≡ true) × ((e : ℕ) × HasByte tensors step m e b)
+abbrev pub Writes : Tensors → Step → Machine → ℕ → Type 0
+Writes tensors step m b = (isStore step ≡ true) × ((e : ℕ) × HasByte tensors step m e b)
 
 -- no step of a sheet, on the machine that the steps before it leave, covers byte b
-abbrev pub Uncovered : Sheet → Machine → ℕ → Type 0
-Uncovered sh m b = (i : ℕ) → i < sh .steps → Covers (sh .tensors) (theStep (sh .step) i) (performedFrom i sh 0 m) b → ⊥
+abbrev pub Unwritten : Sheet → Machine → ℕ → Type 0
+Unwritten sh m b = (i : ℕ) → i < sh .steps → Writes (sh .tensors) (theStep (sh .step) i) (performedFrom i sh 0 m) b → ⊥

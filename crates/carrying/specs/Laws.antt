@@ -2,3 +2,4 @@ pub mod Types
 pub mod Counts
 pub mod Done
 pub mod Loops
+pub mod Fits

@@ -1,3 +1,4 @@
 pub mod Counts
 pub mod Untouched
 pub mod Stores
+pub mod Fits

@@ -15,7 +15,7 @@ use Rattle.records.specs.Records.{recordLength, recordAt}
 use Rattle.records.specs.declared.Decoded.{Decoded}
 use Rattle.records.specs.declared.Decoded.the-variants.{Good, Bad}
 use Rattle.records.specs.Room.{recordsFit}
-use Rattle.judging.specs.Records.{stepNamed, placeOf, recordOkWith, recordOk, recordTypesWith, recordTypes}
+use Rattle.judging.specs.Records.{stepNamed, stepPlace, recordOkWith, recordOk, recordTypesWith, recordTypes}
 
 -- record k of a tape, by its six numbers
 abbrev pub tapeRecord : List ℤ → ℕ → Decoded
@@ -23,7 +23,7 @@ tapeRecord tape k = recordAt tape (k * recordLength)
 
 -- the place where the step that it names is looked up
 abbrev pub placeNamed : ℕ → Decoded → ℕ
-placeNamed steps (Good r) = placeOf steps (stepNamed r)
+placeNamed steps (Good r) = stepPlace steps (stepNamed r)
 placeNamed steps Bad = 0
 
 -- six numbers that say no record are out of range

@@ -70,8 +70,8 @@ stepNamed (Fill register first count value) = 0
 stepNamed (Whole k) = k
 
 -- the place where it is looked up: the first where the sheet has no such step
-unfoldable pub placeOf : ℕ → ℕ → ℕ
-placeOf steps k = pick (ltb k steps) k 0
+unfoldable pub stepPlace : ℕ → ℕ → ℕ
+stepPlace steps k = pick (ltb k steps) k 0
 
 -- what of refusal 17 depends on registers, memory and sheet: its edition, how many steps it has, and the step that the record names
 abbrev pub recordOkWith : ℕ → ℕ → List MatrixType → ℕ → Step → Record → Bool

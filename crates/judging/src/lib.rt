@@ -7,10 +7,10 @@ ghost use Rattle.sheet.specs.Sizes.{matrixPlaces, recordPlaces};
 ghost use Rattle.registers.specs.Sized.{Sized, SizedType};
 ghost use Rattle.sheet.specs.Laws.Within.{Within};
 ghost use Rattle.records.specs.Records.{recordLength};
-ghost use Rattle.records.specs.Ranges.{Bytes, Sound};
+ghost use Rattle.records.specs.Ranges.{Bytes, GoodInRange};
 ghost use Rattle.records.specs.declared.Decoded.the-variants.{Good};
 ghost use Rattle.records.specs.declared.Record.the-variants.{Whole};
-ghost use Rattle.judging.specs.Records.{elementsOk, byteInside, bytesInside, bytesRecordOk, fillRecordOk, wholeClear, wholeRecordOk, stepNamed, placeOf, recordOkWith, recordTypesWith};
+ghost use Rattle.judging.specs.Records.{elementsOk, byteInside, bytesInside, bytesRecordOk, fillRecordOk, wholeClear, wholeRecordOk, stepNamed, stepPlace, recordOkWith, recordTypesWith};
 ghost use Rattle.judging.specs.Judging.{tapeRecord, placeNamed, decodedOkWith, decodedTypesWith, rangeRefusal, tapeRefusal};
 ghost use Rattle.judging.specs.Laws.Named.{Placed};
 use checking::checks;
@@ -141,7 +141,7 @@ fn record_ok(
     named: Step,
     r: Record,
 ) -> bool
-    requires { ⌜ Placed edition named × Sized types × Sound (Good r) ⌝ }
+    requires { ⌜ Placed edition named × Sized types × GoodInRange (Good r) ⌝ }
     ensures { λ r′. ⌜ r′ ≡ recordOkWith edition steps types len named r ⌝ }
 {
     match r {
@@ -186,7 +186,7 @@ fn record_ok(
 
 // The types that a record in range leaves.
 fn record_types(types: [MatrixType; REGISTERS], named: Step, r: Record) -> [MatrixType; REGISTERS]
-    requires { ⌜ Sound (Good r) × ((edition steps len : ℕ) × Placed edition named × (recordOkWith edition steps types len named r ≡ true)) ⌝ }
+    requires { ⌜ GoodInRange (Good r) × ((edition steps len : ℕ) × Placed edition named × (recordOkWith edition steps types len named r ≡ true)) ⌝ }
     ensures { λ r′. ⌜ r′ ≡ recordTypesWith types named r ⌝ }
 {
     match r {
@@ -228,7 +228,7 @@ fn decoded_ok(
     named: Step,
     d: Decoded,
 ) -> bool
-    requires { ⌜ Placed edition named × Sized types × Sound d ⌝ }
+    requires { ⌜ Placed edition named × Sized types × GoodInRange d ⌝ }
     ensures { λ r. ⌜ r ≡ decodedOkWith edition steps types len named d ⌝ }
 {
     match d {
@@ -238,7 +238,7 @@ fn decoded_ok(
 }
 
 fn decoded_types(types: [MatrixType; REGISTERS], named: Step, d: Decoded) -> [MatrixType; REGISTERS]
-    requires { ⌜ Sound d × ((edition steps len : ℕ) × Placed edition named × (decodedOkWith edition steps types len named d ≡ true)) ⌝ }
+    requires { ⌜ GoodInRange d × ((edition steps len : ℕ) × Placed edition named × (decodedOkWith edition steps types len named d ≡ true)) ⌝ }
     ensures { λ r. ⌜ r ≡ decodedTypesWith types named d ⌝ }
 {
     match d {
@@ -282,7 +282,7 @@ fn step_named(r: Record) -> usize
 }
 
 fn place_of(steps: usize, step: usize) -> usize
-    ensures { λ r. ⌜ r ≡ placeOf steps step ⌝ }
+    ensures { λ r. ⌜ r ≡ stepPlace steps step ⌝ }
 {
     if step < steps {
         return step;

@@ -9,9 +9,9 @@ use lib.Signed.{leZ}
 use Rattle.numbers.specs.Remainders.{remainder}
 use Rattle.kinds.specs.Widths.{width}
 use Rattle.kinds.specs.Values.{taken, value}
-use Rattle.kinds.specs.Laws.{width-le}
-use Rattle.kinds.specs.ModuloLaws.{remainder-sub}
-use Rattle.kinds.specs.Raised.{taken-le, raised-order}
+use Rattle.kinds.specs.Laws.Widths.{width-le}
+use Rattle.kinds.specs.Laws.Modulo.{remainder-sub}
+use Rattle.kinds.specs.Laws.Raised.{taken-le, raised-order}
 
 -- values are in the order of the values plus 2 ^ 32
 pub raised-ordered : (kind a b x y : ℕ) → x ≡ a + (2 ^ 32 - taken kind a) → y ≡ b + (2 ^ 32 - taken kind b) → leb x y ≡ leZ (value kind a) (value kind b)

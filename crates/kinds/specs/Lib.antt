@@ -1,7 +1,5 @@
 pub mod Widths
 pub mod Values
 pub mod Interpretations
-pub mod Laws
-pub mod ModuloLaws
-pub mod Raised
 pub mod Sums
+pub mod Laws

@@ -4,6 +4,12 @@ use mathlib.Core.Bool.{Bool}
 use lib.Dec.{ltb, leb}
 use Rattle.numbers.specs.Choice.{pick, between}
 
+abbrev pub s16 : ℕ
+s16 = 3
+
+abbrev pub s32 : ℕ
+s32 = 5
+
 abbrev pub kindOk : ℕ → Bool
 kindOk kind = leb kind 5
 

@@ -9,7 +9,7 @@ use lib.Seq.{sets}
 use lib.Pow.{shr-shr, shr-mod}
 use Rattle.numbers.specs.Lists.{line}
 use Rattle.numbers.specs.Little.{u16At, u32At, u16Bytes, u32Bytes}
-use Rattle.kinds.specs.Laws.{ElementSize}
+use Rattle.kinds.specs.Laws.Widths.{ElementSize}
 use Rattle.memory.specs.Elements.{elementAt, byteOf, withElement}
 
 pub one : {size : ℕ} → ElementSize size → size < 2 → size ≡ 1

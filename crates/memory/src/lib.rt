@@ -2,7 +2,7 @@
 ghost use mathlib.Core.Path.{_≡_};
 ghost use Prim.Native.Nat.{_+_, _≤_};
 ghost use lib.ListN.{length};
-ghost use Rattle.kinds.specs.Laws.{ElementSize};
+ghost use Rattle.kinds.specs.Laws.Widths.{ElementSize};
 ghost use Rattle.memory.specs.Elements.{elementAt, withElement};
 
 // The element of `size` bytes from `byte` on.

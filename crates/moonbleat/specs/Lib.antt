@@ -1,3 +1,4 @@
 pub mod Rows
 pub mod Small
+pub mod Laws
 pub mod Theorems

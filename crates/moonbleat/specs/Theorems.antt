@@ -6,10 +6,10 @@ use borrow.Author.Tests.{eq-eqb, le-leb}
 use lib.ListN.{length}
 use lib.Seq.{sets}
 use Rattle.numbers.specs.Choice.{pick}
+use Rattle.numbers.specs.Bytes.{AreBytes}
 use Rattle.sheet_reader.specs.Reading.{readSheet}
 use Rattle.sheet_writer.specs.Writing.{writeAnswer, written, writtenRoom}
 use Rattle.sheet_reader.specs.Laws.Growing.{not-refused}
-use Rattle.round_trip.specs.Typed.{AreBytes}
 use Rattle.round_trip.specs.Theorems.{WritesBack, read-writes-back}
 use Rattle.moonbleat.specs.Rows.{rewritten, rewrittenRoom}
 

@@ -2,8 +2,8 @@ pub mod Choice
 pub mod All
 pub mod Little
 pub mod Lists
-pub mod Lines
-pub mod Places
+pub mod Bytes
+pub mod Orders
 pub mod First
-pub mod Joins
 pub mod Remainders
+pub mod Laws

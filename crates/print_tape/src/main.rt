@@ -60,10 +60,12 @@ fn unreadable() -> bool {
     libc::read(STDIN_FILENO, &mut more) < 0
 }
 
-// The longest accepted sheet has 744 bytes and the longest field 65,538, so what is past 66,282 bytes cannot change the answer (theorem
+// The longest accepted sheet has 1,096 bytes and the longest field 65,538: what is past both cannot change the answer (theorem
 // `prefix-reads` of the crate round_trip).
+const ENOUGH: usize = 1_096 + 65_538;
+
 fn main() {
-    let mut input = [0u8; 66_282];
+    let mut input = [0u8; ENOUGH];
     let n = io::read_full(STDIN_FILENO, &mut input);
     if n < input.len() {
         if unreadable() {

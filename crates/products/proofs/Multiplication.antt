@@ -9,7 +9,7 @@ use native.Mathlib.Omega.{arith}
 use lib.IntN.{ℤ, _*ℤ_}
 use lib.ListN.{getD}
 use Rattle.numbers.specs.Remainders.{remainder}
-use Rattle.kinds.specs.ModuloLaws.{dot-more, sum-more}
+use Rattle.kinds.specs.Laws.Modulo.{dot-more, sum-more}
 use Rattle.kinds.specs.Sums.{sumZ}
 use Rattle.registers.specs.Sized.{SizedType}
 use Rattle.registers.specs.Laws.Sized.{sized-places}

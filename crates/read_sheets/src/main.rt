@@ -119,13 +119,48 @@ fn show_whole() {
     show(b"a view of one dimension with its size: ", &one);
 }
 
+// A matrix of kind 3, two rows by four columns, times four components packed in register 0, plus a bias: a step of edition 2.
+fn show_vector() {
+    let vector = [
+        0x01u8,
+        0x01,
+        0x00,
+        0x02,
+        0x26,
+        0x13,
+        0x00,
+        0x01,
+        0x05,
+        0x00,
+        0x08,
+        0x03,
+        0x02,
+        0x04,
+        0x00,
+        0x08,
+        0x00,
+        0x00,
+        0x00,
+        0x00,
+        0x00,
+        0x01,
+        0x10,
+        0x00,
+        0x00,
+        0x00,
+    ];
+    show(b"a vector step: ", &vector);
+}
+
 fn show_heads() {
     let head = [0x01u8, 0x01, 0x00, 0x01, 0x20, 0x08];
     show(b"two bytes for a head: ", &head);
     let past = [0x01u8, 0x01, 0x00, 0x01, 0x24, 0x02, 0x00, 0x00];
     show(b"content past the end: ", &past);
-    let tag = [0x01u8, 0x01, 0x00, 0x01, 0x26, 0x00, 0x00];
+    let tag = [0x01u8, 0x01, 0x00, 0x01, 0x27, 0x00, 0x00];
     show(b"a tag not in the table: ", &tag);
+    let later = [0x01u8, 0x01, 0x00, 0x01, 0x26, 0x00, 0x00];
+    show(b"a tag of edition 2 in edition 1: ", &later);
 }
 
 fn show_order() {
@@ -135,13 +170,15 @@ fn show_order() {
     show(b"a repeated edition: ", &again);
     let early = [0x24u8, 0x02, 0x00, 0x00, 0x00];
     show(b"a step before the edition: ", &early);
+    let vector = [0x26u8, 0x00, 0x00];
+    show(b"a step of edition 2 before the edition: ", &vector);
 }
 
 fn show_contents() {
     let long = [0x01u8, 0x02, 0x00, 0x01, 0x00];
     show(b"an edition of two bytes: ", &long);
-    let next = [0x01u8, 0x01, 0x00, 0x02];
-    show(b"edition 2: ", &next);
+    let next = [0x01u8, 0x01, 0x00, 0x03];
+    show(b"edition 3: ", &next);
     let wide = [
         0x01u8,
         0x01,
@@ -186,6 +223,7 @@ fn show_contents() {
 
 fn main() {
     show_whole();
+    show_vector();
     show_heads();
     show_order();
     show_contents();

@@ -7,10 +7,10 @@ use native.Mathlib.Numerals.{add-one, add-two, add-three, add-four, add-five}
 use lib.ListN.{set}
 use lib.Seq.{sets}
 use lib.IntN.{ℤ}
-use Rattle.numbers.specs.Choice.{both-left, both-right}
+use Rattle.numbers.specs.Laws.Choice.{both-left, both-right}
 use Rattle.sheet.specs.Sizes.{registerCount}
 use Rattle.signed.specs.Numbers.{rise, fall}
-use Rattle.signed.specs.Laws.{one-way, spans-rise, spans-fall, least-rise}
+use Rattle.signed.specs.Laws.Numbers.{one-way, spans-rise, spans-fall, least-rise}
 use Rattle.records.specs.Records.{registerInRange, stepInRange, countInRange, copyInRange, bytesInRange, fillInRange}
 use Rattle.records.specs.Ranges.{Elements, Bytes}
 

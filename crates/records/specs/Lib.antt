@@ -1,5 +1,4 @@
 pub mod Records
-pub mod Ranges
 pub mod Room
+pub mod Ranges
 pub mod Laws
-pub mod ByteSteps

@@ -97,8 +97,8 @@ goodIf ok r = pick ok (Good r) Bad
 unfoldable pub copyOf : ℤ → ℤ → ℤ → ℤ → ℤ → Decoded
 copyOf register object c d e = goodIf (copyInRange register object c d e) (Copy (rise register) (rise object))
 
-unfoldable pub bytesOf : Bool → ℤ → ℤ → ℤ → ℤ → ℤ → Decoded
-bytesOf take register first count byte step =
+unfoldable pub movedOf : Bool → ℤ → ℤ → ℤ → ℤ → ℤ → Decoded
+movedOf take register first count byte step =
     goodIf (bytesInRange register first count byte step)
     (moved take (rise register) (rise first) (rise count) (rise byte) (rise step) (fall step))
 
@@ -113,8 +113,8 @@ wholeOf step b c d e = goodIf (wholeInRange step b c d e) (Whole (rise step))
 unfoldable pub recordOf : ℤ → ℤ → ℤ → ℤ → ℤ → ℤ → Decoded
 recordOf op a b c d e =
     pick (is 0 op) (copyOf a b c d e)
-    (pick (is 1 op) (bytesOf true a b c d e)
-    (pick (is 2 op) (bytesOf false a b c d e)
+    (pick (is 1 op) (movedOf true a b c d e)
+    (pick (is 2 op) (movedOf false a b c d e)
     (pick (is 3 op) (fillOf a b c d e)
     (pick (is 4 op) (wholeOf a b c d e)
     Bad))))

@@ -8,8 +8,8 @@ ghost use lib.Seq.{sets};
 ghost use lib.IntN.{pos};
 ghost use Rattle.sheet.specs.Sizes.{registerCount};
 ghost use Rattle.signed.specs.Numbers.{number, rise};
-ghost use Rattle.records.specs.Records.{recordLength, registerInRange, moved, bytesNumbers, recordNumbers, fields, copyInRange, bytesInRange, fillInRange, wholeInRange, copyOf, bytesOf, fillOf, wholeOf, recordAt};
-ghost use Rattle.records.specs.Ranges.{Elements, Bytes, Within, Sound};
+ghost use Rattle.records.specs.Records.{recordLength, registerInRange, moved, bytesNumbers, recordNumbers, fields, copyInRange, bytesInRange, fillInRange, wholeInRange, copyOf, movedOf, fillOf, wholeOf, recordAt};
+ghost use Rattle.records.specs.Ranges.{Elements, Bytes, InRange, GoodInRange};
 ghost use Rattle.records.specs.Room.{recordsFit};
 use sheet::editions;
 use sheet::sizes::REGISTERS;
@@ -154,7 +154,7 @@ fn register_at(tape: &[i32], at: usize) -> u8
 
 fn copy_record(tape: &[i32], at: usize) -> Decoded
     requires { ⌜ at + recordLength ≤ length (now tape) ⌝ }
-    ensures { λ r. ⌜ (r ≡ fields copyOf (now (tape .entry)) at) × Sound r ⌝ }
+    ensures { λ r. ⌜ (r ≡ fields copyOf (now (tape .entry)) at) × GoodInRange r ⌝ }
 {
     if !copy_in_range(tape, at) {
         return Decoded::Bad;
@@ -198,7 +198,7 @@ pub fn moved(
 
 fn bytes_record(tape: &[i32], at: usize, take: bool) -> Decoded
     requires { ⌜ at + recordLength ≤ length (now tape) ⌝ }
-    ensures { λ r. ⌜ (r ≡ fields (bytesOf take) (now (tape .entry)) at) × Sound r ⌝ }
+    ensures { λ r. ⌜ (r ≡ fields (movedOf take) (now (tape .entry)) at) × GoodInRange r ⌝ }
 {
     if !bytes_in_range(tape, at) {
         return Decoded::Bad;
@@ -214,7 +214,7 @@ fn bytes_record(tape: &[i32], at: usize, take: bool) -> Decoded
 
 fn fill_record(tape: &[i32], at: usize) -> Decoded
     requires { ⌜ at + recordLength ≤ length (now tape) ⌝ }
-    ensures { λ r. ⌜ (r ≡ fields fillOf (now (tape .entry)) at) × Sound r ⌝ }
+    ensures { λ r. ⌜ (r ≡ fields fillOf (now (tape .entry)) at) × GoodInRange r ⌝ }
 {
     if !fill_in_range(tape, at) {
         return Decoded::Bad;
@@ -233,7 +233,7 @@ fn fill_record(tape: &[i32], at: usize) -> Decoded
 
 fn whole_record(tape: &[i32], at: usize) -> Decoded
     requires { ⌜ at + recordLength ≤ length (now tape) ⌝ }
-    ensures { λ r. ⌜ (r ≡ fields wholeOf (now (tape .entry)) at) × Sound r ⌝ }
+    ensures { λ r. ⌜ (r ≡ fields wholeOf (now (tape .entry)) at) × GoodInRange r ⌝ }
 {
     if !whole_in_range(tape, at) {
         return Decoded::Bad;
@@ -245,7 +245,7 @@ fn whole_record(tape: &[i32], at: usize) -> Decoded
 // The record whose numbers begin at a place of a tape.
 pub fn read_record(tape: &[i32], at: usize) -> Decoded
     requires { ⌜ at + recordLength ≤ length (now tape) ⌝ }
-    ensures { λ r. ⌜ (r ≡ recordAt (now (tape .entry)) at) × Sound r ⌝ }
+    ensures { λ r. ⌜ (r ≡ recordAt (now (tape .entry)) at) × GoodInRange r ⌝ }
 {
     if signed::is(tape, at, 0) {
         return copy_record(tape, at);
@@ -320,7 +320,7 @@ fn put_fill(tape: &mut [i32], at: usize, register: u8, first: usize, count: usiz
 
 pub fn put_record(tape: &mut [i32], at: usize, r: Record)
     requires { ⌜ at + recordLength ≤ length (now tape) ⌝ }
-    requires { ⌜ Within r ⌝ }
+    requires { ⌜ InRange r ⌝ }
     ensures { λ _. ⌜ now (tape .exit) ≡ sets (now (tape .entry)) at (recordNumbers r) ⌝ }
 {
     match r {

@@ -6,7 +6,7 @@ use native.Mathlib.Nat.{mul-le-mul}
 use native.Mathlib.Omega.{arith}
 use lib.ListN.{getD}
 use Rattle.numbers.specs.Lists.{line}
-use Rattle.numbers.specs.Lines.{line-outside}
+use Rattle.numbers.specs.Laws.Lines.{line-outside}
 use Rattle.sheet.specs.Sizes.{sidePlaces, matrixPlaces}
 use Rattle.registers.specs.Registers.{placeOf, elementOf}
 

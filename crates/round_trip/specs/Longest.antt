@@ -10,9 +10,9 @@ longestLayout = 3 + layoutLength rankPlaces
 abbrev pub longestView : ℕ
 longestView = 3 + viewLength rankPlaces rankPlaces
 
--- the content of a fill or of a load
+-- the content of a vector step
 abbrev pub longestStep : ℕ
-longestStep = 3 + 8
+longestStep = 3 + 19
 
 -- an edition, and as many layouts, views and steps as a sheet has places for, each as long as one can be
 abbrev pub longest : ℕ

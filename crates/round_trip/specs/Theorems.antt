@@ -10,7 +10,8 @@ use lib.Dec.{leb}
 use lib.ListN.{length, getD, take, drop}
 use lib.Seq.{sets, sets-eq, take-at, take-all, length-take-le, getD-take}
 use Rattle.numbers.specs.Choice.{pick}
-use Rattle.numbers.specs.Places.{by-test, by-order}
+use Rattle.numbers.specs.Laws.Choice.{by-test, by-order}
+use Rattle.numbers.specs.Bytes.{AreBytes}
 use Rattle.sheet.specs.Sheets.{writable}
 use Rattle.sheet.specs.Laws.Within.{within, within-writable}
 use Rattle.sheet.specs.declared.Sheet.{Sheet}
@@ -18,7 +19,7 @@ use Rattle.sheet_reader.specs.Reading.{refusedRead, acceptedRead, readSheet}
 use Rattle.sheet_reader.specs.declared.ReadAnswer.{ReadAnswer}
 use Rattle.sheet_writer.specs.Bytes.{sheetBytes}
 use Rattle.sheet_writer.specs.Writing.{written, writtenRoom}
-use Rattle.round_trip.specs.Typed.{AreBytes, Typed}
+use Rattle.round_trip.specs.Typed.{Typed}
 use Rattle.round_trip.specs.Longest.{longest, enough}
 use Rattle.round_trip.specs.Laws.Stretches.{has-all}
 use Rattle.round_trip.specs.Laws.Sheets.{sheet-short}

@@ -2,8 +2,7 @@
 -- each number fits its type. Of the numbers only those are named whose range no judge of the model tests.
 use Prim.Native.Nat.{ℕ, _<_}
 use mathlib.Core.Path.{_≡_}
-use mathlib.Core.List.{List}
-use lib.ListN.{length, getD}
+use lib.ListN.{length}
 use Rattle.sheet.specs.Sizes.{rankPlaces, layoutPlaces, viewPlaces, stepPlaces}
 use Rattle.sheet.specs.Layouts.{theDimension, theLayout}
 use Rattle.sheet.specs.Views.{theViewDimension, theView}
@@ -12,13 +11,12 @@ use Rattle.sheet.specs.declared.Dimension.{Dimension}
 use Rattle.sheet.specs.declared.Layout.{Layout}
 use Rattle.sheet.specs.declared.Clip.{Clip}
 use Rattle.sheet.specs.declared.View.{View}
+use Rattle.sheet.specs.declared.VectorStep.{VectorStep}
+use Rattle.sheet.specs.declared.WholeStep.{WholeStep}
+use Rattle.sheet.specs.declared.WholeStep.the-variants.{Fill, Reduce, Transpose, MultiplyAdd, Vector}
 use Rattle.sheet.specs.declared.Step.{Step}
 use Rattle.sheet.specs.declared.Step.the-variants.{Nothing, Load, Store, Whole}
 use Rattle.sheet.specs.declared.Sheet.{Sheet}
-
--- each number of s is a byte
-abbrev pub AreBytes : List ℕ → Type 0
-AreBytes s = (i : ℕ) → i < length s → getD s i 0 < 256
 
 abbrev pub U16 : ℕ → Type 0
 U16 x = x < 65536
@@ -43,11 +41,23 @@ pub record ViewFits (v : View) : Type 0 where
   pub rows : ClipFits (v .rows)
   pub columns : ClipFits (v .columns)
 
+pub record VectorFits (v : VectorStep) : Type 0 where
+  pub stride : U16 (v .stride)
+  pub offset : U32 (v .offset)
+  pub bias : U32 (v .bias)
+
+abbrev pub WholeFits : WholeStep → Type 0
+WholeFits (Fill register rows columns kind value) = Unit {0}
+WholeFits (Reduce result source rows columns mode combine) = Unit {0}
+WholeFits (Transpose result source) = Unit {0}
+WholeFits (MultiplyAdd result a b c) = Unit {0}
+WholeFits (Vector v) = VectorFits v
+
 abbrev pub StepFits : Step → Type 0
 StepFits Nothing = Unit {0}
 StepFits (Load register object window) = U32 (window .base)
 StepFits (Store register window) = U32 (window .base)
-StepFits (Whole whole) = Unit {0}
+StepFits (Whole whole) = WholeFits whole
 
 abbrev pub LayoutArrays : Layout → Type 0
 LayoutArrays l = length (l .dimensions) ≡ rankPlaces

@@ -2,3 +2,4 @@ pub mod Elements
 pub mod Records
 pub mod Turns
 pub mod Answers
+pub mod Fits

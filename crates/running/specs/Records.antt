@@ -1,5 +1,6 @@
 -- What a record of a running tape does.
-use Prim.Native.Nat.{ℕ, zero, suc, _+_}
+use Prim.Native.Nat.{ℕ, _+_}
+use Rattle.numbers.specs.Orders.{inOrder}
 use Rattle.kinds.specs.Widths.{bytesOf}
 use Rattle.sheet.specs.Steps.{theStep}
 use Rattle.sheet.specs.declared.Tensors.{Tensors}
@@ -12,11 +13,6 @@ use Rattle.carrying.specs.Steps.{Machine, machine, stateOf, machineOf, performe
 use Rattle.records.specs.declared.Record.{Record}
 use Rattle.records.specs.declared.Record.the-variants.{Copy, Take, Put, Fill, Whole}
 use Rattle.judging.specs.Records.{byteAt, stepNamed}
-
--- element after element, each on what the last one left
-unfoldable pub inOrder : (ℕ → State → State) → ℕ → State → State
-inOrder act zero s = s
-inOrder act (suc n) s = act n (inOrder act n s)
 
 -- a record that works on elements of register r: their acts, by the size of its elements
 abbrev pub onElements : ℕ → (ℕ → ℕ → State → State) → ℕ → Machine → Machine

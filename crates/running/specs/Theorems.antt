@@ -1,5 +1,5 @@
--- A byte outside the puts of a tape is unchanged by running it.
-use Prim.Native.Nat.{ℕ, zero, suc, _+_, _<_}
+-- A byte outside the puts of a tape is unchanged by running it, and the elements that running leaves fit.
+use Prim.Native.Nat.{ℕ, zero, suc, _+_}
 use mathlib.Core.Path.{_≡_, refl, _∙_}
 use mathlib.Core.Bool.{true}
 use mathlib.Core.List.{List}
@@ -8,37 +8,41 @@ use borrow.Author.Tests.{eqb-true, eqb-false}
 use lib.Dec.{eqb, leb}
 use lib.IntN.{ℤ}
 use lib.ListN.{length, getD}
-use Rattle.numbers.specs.Choice.{pick-case}
+use Rattle.numbers.specs.Laws.Orders.{in-order-keeps}
+use Rattle.numbers.specs.Laws.Choice.{pick-case}
+use Rattle.numbers.specs.Bytes.{AreBytes}
 use Rattle.kinds.specs.Widths.{bytesOf}
 use Rattle.sheet.specs.Sizes.{memoryLimit}
+use Rattle.sheet.specs.Laws.Within.{Within}
 use Rattle.sheet.specs.declared.Sheet.{Sheet}
 use Rattle.refusals.specs.declared.Refusal.{Refusal}
 use Rattle.memory.specs.Laws.Elements.{with-outside}
 use Rattle.registers.specs.Types.{theType}
 use Rattle.registers.specs.Registers.{emptyRegisters, elementOf}
+use Rattle.registers.specs.Fits.{Fit}
+use Rattle.registers.specs.Laws.Fits.{fit-empty}
 use Rattle.registers.specs.declared.MatrixType.{MatrixType}
 use Rattle.transfers.specs.Acts.{State}
 use Rattle.carrying.specs.Steps.{Machine, stateOf, performedStep}
 use Rattle.carrying.specs.Carrying.{started}
+use Rattle.carrying.specs.Machines.{Formed}
+use Rattle.carrying.specs.Laws.Types.{started-formed}
+use Rattle.carrying.specs.Laws.Fits.{FitMachine, started-fits}
+use Rattle.carrying.specs.declared.CarryAnswer.{CarryAnswer}
 use Rattle.records.specs.declared.Record.the-variants.{Copy, Take, Put, Fill, Whole}
 use Rattle.records.specs.declared.Decoded.{Decoded}
 use Rattle.records.specs.declared.Decoded.the-variants.{Good, Bad}
 use Rattle.judging.specs.Records.{byteAt}
 use Rattle.sheet_reader.specs.Reading.{readSheet}
+use Rattle.sheet_reader.specs.Laws.Growing.{read-within}
 use Rattle.judging.specs.Judging.{tapeRecord, decodedOk, decodedTypes, rangeFrom, rangeRefusal}
 use Rattle.judging.specs.Laws.Turns.{tape-clear}
 use Rattle.judging.specs.Laws.Records.{whole-named}
-use Rattle.running.specs.Records.{inOrder, ranRecordWith, ranRecord}
-use Rattle.running.specs.Running.{ranDecoded, ranFrom, ran, runRefusal, ranMemory}
-use Rattle.running.specs.Laws.Records.{decoded-types, decoded-length}
+use Rattle.running.specs.Records.{ranRecordWith}
+use Rattle.running.specs.Running.{ranDecoded, ranFrom, ran, runRefusal, runTape, ranMemory}
+use Rattle.running.specs.Laws.Records.{decoded-types, decoded-length, decoded-formed}
+use Rattle.running.specs.Laws.Fits.{decoded-fits}
 use Rattle.running.specs.Outside.{OutsideRecord, OutsideFrom}
-
--- what holds before the elements of a record, and after each, holds after all
-in-order-keeps : (P : State → Type 0) (act : ℕ → State → State) (n : ℕ) → ((i : ℕ) → i < n → (s : State) → P s → P (act i s))
-    → (s : State) → P s → P (inOrder act n s)
-unfolding inOrder
-in-order-keeps P act zero h s q = q
-in-order-keeps P act (suc n) h s q = h n (omega arith) (inOrder act n s) (in-order-keeps P act n (λ i l. h i (omega arith)) s q)
 
 module _ (sh : Sheet) (len p : ℕ) where
   abbrev Kept : Machine → Machine → Type 0
@@ -94,6 +98,20 @@ module _ (sh : Sheet) (len p : ℕ) where
       from-length n the (k + 1) (ranDecoded sh (the k) m) (rw (decoded-types sh m len (the k) (r .first)) (r .others))
       ∙ decoded-length sh m len (the k) (r .first)
 
+-- Records in range leave elements that fit, one after the other.
+module _ (sh : Sheet) (w : Within sh) where
+  from-fits : (n : ℕ) (the : ℕ → Decoded) (k : ℕ) (m : Machine) → rangeFrom n sh (length (m .memory)) the k (m .registers .types) .number ≡ 0
+      → Formed m → FitMachine m → FitMachine (ranFrom n sh the k m)
+  unfolding ranFrom
+  from-fits zero the k m h f g = g
+  from-fits (suc n) the k m h f g =
+      let len = length (m .memory) in
+      let r = ranged sh len 0 n the k (m .registers .types) h in
+      from-fits n the (k + 1) (ranDecoded sh (the k) m)
+      (rw (decoded-length sh m len (the k) (r .first), decoded-types sh m len (the k) (r .first)) (r .others))
+      (decoded-formed sh m len w (the k) (r .first) f)
+      (decoded-fits sh m f g w (the k) (r .first))
+
 -- The same of the memory that running leaves, refused or not; and it is as long as before.
 module _ (s : List ℕ) (tape : List ℤ) (records : ℕ) (memory : List ℕ) where
   abbrev sh : Sheet
@@ -111,6 +129,16 @@ module _ (s : List ℕ) (tape : List ℤ) (records : ℕ) (memory : List ℕ) wh
       P : Refusal → Type 0
       P r = r .number ≡ 0 → rangeRefusal records sh (length memory) (tapeRecord tape) .number ≡ 0
 
+  -- and its sheet was read
+  was-read : runRefusal s tape records (length memory) .number ≡ 0 → readSheet s .refusal .number ≡ 0
+  unfolding runRefusal
+  was-read =
+      pick-case P (leb (length memory) memoryLimit) _ _
+      (λ l. pick-case P (eqb (readSheet s .refusal .number) 0) _ _ (λ e h. eqb-true _ 0 e) (λ e h. h)) (λ l h. absurd (omega arith))
+    where
+      P : Refusal → Type 0
+      P r = r .number ≡ 0 → readSheet s .refusal .number ≡ 0
+
   pub ran-untouched : (p : ℕ) → OutsideFrom records sh (tapeRecord tape) 0 (emptyRegisters .types) p → getD (ranMemory s tape records memory) p 0 ≡ getD memory p 0
   unfolding ranMemory
   ran-untouched p o =
@@ -122,3 +150,21 @@ module _ (s : List ℕ) (tape : List ℤ) (records : ℕ) (memory : List ℕ) wh
   ran-length =
       pick-case (λ (l : List ℕ). length l ≡ length memory) (eqb (runRefusal s tape records (length memory) .number) 0) _ _
       (λ e. from-length sh (length memory) 0 records (tapeRecord tape) 0 (started memory) (in-range (eqb-true _ 0 e))) (λ e. refl)
+
+  -- what a tape that is not refused leaves
+  accepted-fits : AreBytes memory → runRefusal s tape records (length memory) .number ≡ 0 → FitMachine (ran records sh (tapeRecord tape) (started memory))
+  accepted-fits b e =
+      from-fits sh (read-within s (was-read e)) records (tapeRecord tape) 0 (started memory) (in-range e) (started-formed memory) (started-fits memory b)
+
+  -- The elements of the registers that running gives fit, refused or not: each is below 2 to its kind's width, and the places past a matrix are 0.
+  pub ran-fits : AreBytes memory → Fit (runTape s tape records memory .registers .types) (runTape s tape records memory .registers .elements)
+  unfolding runTape
+  ran-fits b =
+      pick-case (λ (r : CarryAnswer). Fit (r .registers .types) (r .registers .elements)) (eqb (runRefusal s tape records (length memory) .number) 0) _ _
+      (λ e. accepted-fits b (eqb-true _ 0 e) .fit) (λ e. fit-empty)
+
+  -- Memory of bytes stays so.
+  pub ran-bytes : AreBytes memory → AreBytes (ranMemory s tape records memory)
+  unfolding ranMemory
+  ran-bytes b =
+      pick-case AreBytes (eqb (runRefusal s tape records (length memory) .number) 0) _ _ (λ e. accepted-fits b (eqb-true _ 0 e) .bytes) (λ e. b)

@@ -13,7 +13,7 @@ ghost use Rattle.transfers.specs.Acts.{state};
 ghost use Rattle.carrying.specs.Steps.{machine, machineOf, performedStep};
 ghost use Rattle.carrying.specs.Carrying.{started};
 ghost use Rattle.records.specs.Records.{recordLength};
-ghost use Rattle.records.specs.Ranges.{Sound};
+ghost use Rattle.records.specs.Ranges.{GoodInRange};
 ghost use Rattle.records.specs.declared.Decoded.the-variants.{Good};
 ghost use Rattle.judging.specs.Records.{wholeClear, recordOkWith};
 ghost use Rattle.judging.specs.Judging.{tapeRecord, decodedOkWith, rangeRefusal};
@@ -68,7 +68,7 @@ fn run_record(
     r: Record,
     counted: usize,
 ) -> Stepped
-    requires { ⌜ Sized types × Sound (Good r) × (counted < 2 ^ 31) ⌝ }
+    requires { ⌜ Sized types × GoodInRange (Good r) × (counted < 2 ^ 31) ⌝ }
     requires { ⌜ ((edition steps : ℕ) × Placed edition named × (recordOkWith edition steps types (length (now memory)) named r ≡ true)) ⌝ }
     ensures { λ p. ⌜ ((tensors : Tensors) → machineOf (p .types) (state (now (elements .exit)) (now (memory .exit)) (p .count)) ≡ ranRecordWith tensors named r (machineOf types (state (now (elements .entry)) (now (memory .entry)) counted))) ⌝ }
 {
@@ -159,7 +159,7 @@ fn run_decoded(
     d: Decoded,
     counted: usize,
 ) -> Stepped
-    requires { ⌜ Sized types × Sound d × (counted < 2 ^ 31) ⌝ }
+    requires { ⌜ Sized types × GoodInRange d × (counted < 2 ^ 31) ⌝ }
     requires { ⌜ ((edition steps : ℕ) × Placed edition named × (decodedOkWith edition steps types (length (now memory)) named d ≡ true)) ⌝ }
     ensures { λ p. ⌜ ((tensors : Tensors) → machineOf (p .types) (state (now (elements .exit)) (now (memory .exit)) (p .count)) ≡ ranDecodedWith tensors named d (machineOf types (state (now (elements .entry)) (now (memory .entry)) counted))) ⌝ }
 {

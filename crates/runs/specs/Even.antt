@@ -25,7 +25,7 @@ abbrev pub endOf : Stretch → ℕ
 endOf r = firstOf r + countOf r
 
 -- an element that has this byte
-pub record HasByte (o : Outcome) (at : ℤ) : Type 0 where
+pub record AtByte (o : Outcome) (at : ℤ) : Type 0 where
   pub byte : ℕ
   pub placed : o ≡ Placed byte
   pub same : pos byte ≡ at
@@ -48,7 +48,7 @@ module _ (f : ℕ → Outcome) (n : ℕ) where
   pub record EvenBytes (first count byte : ℕ) (step : ℤ) : Type 0 where
     pub some : 1 ≤ count
     pub within : first + count ≤ n
-    pub at : (i : ℕ) → i < count → HasByte (f (first + i)) (evenByte byte step i)
+    pub at : (i : ℕ) → i < count → AtByte (f (first + i)) (evenByte byte step i)
     pub lone : count ≡ 1 → step ≡ pos 0
 
   -- fills with the same bits

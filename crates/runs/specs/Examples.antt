@@ -11,7 +11,7 @@ use Rattle.outcomes.specs.declared.Outcome.the-variants.{Placed}
 use Rattle.signed.specs.Numbers.{difference}
 use Rattle.runs.specs.Runs.{meetByte, meetFill, next, held, runs}
 use Rattle.runs.specs.Even.{Stretch, bytes, Given}
-use Rattle.runs.specs.Unique.{stretches, runs-given, given-once}
+use Rattle.runs.specs.Theorems.Unique.{stretches, runs-given, given-once}
 
 -- the elements of a load at the bytes of a list
 abbrev pub loaded : List ℕ → ℕ → Outcome

@@ -1,11 +1,8 @@
 pub mod Runs
 pub mod Even
-pub mod Alike
 pub mod Acts
-pub mod Longest
-pub mod Unique
 pub mod RunRecords
-pub mod Examples
-pub mod States
 pub mod Ranges
-pub mod Writing
+pub mod Examples
+pub mod Laws
+pub mod Theorems

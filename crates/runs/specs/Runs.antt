@@ -12,38 +12,38 @@ use Rattle.records.specs.declared.Record.the-variants.{Fill}
 use Rattle.records.specs.Records.{moved}
 use Rattle.runs.specs.declared.Run.{Run}
 use Rattle.runs.specs.declared.Run.the-variants.{Idle, Bytes, Fills}
-use Rattle.runs.specs.declared.Turn.{Turn}
+use Rattle.runs.specs.declared.Progress.{Progress}
 
 -- the run that is done, and the run that is open
-abbrev pub turn : Run → Run → Turn
-turn r s = record { done = r; held = s }
+abbrev pub progress : Run → Run → Progress
+progress r s = record { done = r; held = s }
 
 -- a run of one has step 0
 abbrev pub lone : ℕ → ℕ → Run
 lone k b = Bytes k 1 b 0 0
 
 -- a run of bytes and the next element's byte b: the second element gives the step, a later one joins at the same step
-unfoldable pub meetByte : ℕ → ℕ → ℕ → ℕ → ℕ → ℕ → ℕ → Turn
+unfoldable pub meetByte : ℕ → ℕ → ℕ → ℕ → ℕ → ℕ → ℕ → Progress
 meetByte first count byte up down k b =
-    pick (eqb count 1) (turn Idle (Bytes first 2 byte (b - byte) (byte - b)))
-    (pick (eqb (b + count * down) (byte + count * up)) (turn Idle (Bytes first (count + 1) byte up down))
-    (turn (Bytes first count byte up down) (lone k b)))
+    pick (eqb count 1) (progress Idle (Bytes first 2 byte (b - byte) (byte - b)))
+    (pick (eqb (b + count * down) (byte + count * up)) (progress Idle (Bytes first (count + 1) byte up down))
+    (progress (Bytes first count byte up down) (lone k b)))
 
 -- a run of fills and the next element's fill: it joins with the same bits
-unfoldable pub meetFill : ℕ → ℕ → ℕ → ℕ → ℕ → Turn
+unfoldable pub meetFill : ℕ → ℕ → ℕ → ℕ → ℕ → Progress
 meetFill first count value k v =
-    pick (eqb v value) (turn Idle (Fills first (count + 1) value)) (turn (Fills first count value) (Fills k 1 v))
+    pick (eqb v value) (progress Idle (Fills first (count + 1) value)) (progress (Fills first count value) (Fills k 1 v))
 
 -- a run takes the next element k while it is of the same sort and, for bytes, at the same step;
 -- skipped and discarded elements end a run
-unfoldable pub next : Run → ℕ → Outcome → Turn
-next r k Skipped = turn r Idle
-next r k Discarded = turn r Idle
-next Idle k (Placed b) = turn Idle (lone k b)
-next (Fills first count value) k (Placed b) = turn (Fills first count value) (lone k b)
+unfoldable pub next : Run → ℕ → Outcome → Progress
+next r k Skipped = progress r Idle
+next r k Discarded = progress r Idle
+next Idle k (Placed b) = progress Idle (lone k b)
+next (Fills first count value) k (Placed b) = progress (Fills first count value) (lone k b)
 next (Bytes first count byte up down) k (Placed b) = meetByte first count byte up down k b
-next Idle k (Filled v) = turn Idle (Fills k 1 v)
-next (Bytes first count byte up down) k (Filled v) = turn (Bytes first count byte up down) (Fills k 1 v)
+next Idle k (Filled v) = progress Idle (Fills k 1 v)
+next (Bytes first count byte up down) k (Filled v) = progress (Bytes first count byte up down) (Fills k 1 v)
 next (Fills first count value) k (Filled v) = meetFill first count value k v
 
 -- no run writes nothing

@@ -3,10 +3,11 @@ ghost use mathlib.Core.Path.{_≡_};
 ghost use Prim.Native.Nat.{_+_, _*_, _-_, _<_, _≤_};
 ghost use lib.ListN.{length};
 ghost use lib.Seq.{sets};
+ghost use Rattle.sheet.specs.Sizes.{matrixPlaces, memoryLimit};
 ghost use Rattle.records.specs.Records.{recordLength, tapeNumbers};
-ghost use Rattle.records.specs.Laws.{AllWithin};
-ghost use Rattle.runs.specs.Runs.{turn, lone, meetByte, meetFill, next, emit, runRecords};
-ghost use Rattle.runs.specs.Ranges.{Near, Steady, Small};
+ghost use Rattle.records.specs.Ranges.{AllInRange};
+ghost use Rattle.runs.specs.Runs.{progress, lone, meetByte, meetFill, next, emit, runRecords};
+ghost use Rattle.runs.specs.Ranges.{Fitting, Steady, SmallRun};
 use outcomes::Outcome;
 use records::Record;
 
@@ -28,7 +29,7 @@ pub enum Run {
 }
 
 // What one more element does: the run that it ends, if any, and the run that is then open.
-pub struct Turn {
+pub struct Progress {
     pub done: Run,
     pub held: Run,
 }
@@ -72,13 +73,13 @@ fn meet_byte(
     down: usize,
     k: usize,
     b: usize,
-) -> Turn
+) -> Progress
     requires { ⌜ Steady k first count byte up down ⌝ }
-    requires { ⌜ (k < 65536) × (b < 65536) ⌝ }
+    requires { ⌜ (k < matrixPlaces) × (b < memoryLimit) ⌝ }
     ensures { λ t. ⌜ t ≡ meetByte first count byte up down k b ⌝ }
 {
     if count == 1 {
-        return Turn {
+        return Progress {
             done: Run::Idle,
             held: Run::Bytes {
                 first,
@@ -90,7 +91,7 @@ fn meet_byte(
         };
     }
     if b + count * down == byte + count * up {
-        return Turn {
+        return Progress {
             done: Run::Idle,
             held: Run::Bytes {
                 first,
@@ -101,7 +102,7 @@ fn meet_byte(
             },
         };
     }
-    Turn {
+    Progress {
         done: Run::Bytes {
             first,
             count,
@@ -114,12 +115,12 @@ fn meet_byte(
 }
 
 // A run of fills, and the next element's fill.
-fn meet_fill(first: usize, count: usize, value: u32, k: usize, v: u32) -> Turn
-    requires { ⌜ (first + count ≡ k) × (k < 65536) ⌝ }
+fn meet_fill(first: usize, count: usize, value: u32, k: usize, v: u32) -> Progress
+    requires { ⌜ (first + count ≡ k) × (k < matrixPlaces) ⌝ }
     ensures { λ t. ⌜ t ≡ meetFill first count value k v ⌝ }
 {
     if v == value {
-        return Turn {
+        return Progress {
             done: Run::Idle,
             held: Run::Fills {
                 first,
@@ -128,7 +129,7 @@ fn meet_fill(first: usize, count: usize, value: u32, k: usize, v: u32) -> Turn
             },
         };
     }
-    Turn {
+    Progress {
         done: Run::Fills {
             first,
             count,
@@ -138,13 +139,13 @@ fn meet_fill(first: usize, count: usize, value: u32, k: usize, v: u32) -> Turn
     }
 }
 
-fn next_byte(r: Run, k: usize, b: usize) -> Turn
-    requires { ⌜ Small k r ⌝ }
-    requires { ⌜ (k < 65536) × (b < 65536) ⌝ }
+fn next_byte(r: Run, k: usize, b: usize) -> Progress
+    requires { ⌜ SmallRun k r ⌝ }
+    requires { ⌜ (k < matrixPlaces) × (b < memoryLimit) ⌝ }
     ensures { λ t. ⌜ t ≡ next r k (Outcome.Placed b) ⌝ }
 {
     match r {
-        Run::Idle => Turn {
+        Run::Idle => Progress {
             done: r,
             held: lone(k, b),
         },
@@ -152,7 +153,7 @@ fn next_byte(r: Run, k: usize, b: usize) -> Turn
             first: _,
             count: _,
             value: _,
-        } => Turn {
+        } => Progress {
             done: r,
             held: lone(k, b),
         },
@@ -166,13 +167,13 @@ fn next_byte(r: Run, k: usize, b: usize) -> Turn
     }
 }
 
-fn next_fill(r: Run, k: usize, v: u32) -> Turn
-    requires { ⌜ Small k r ⌝ }
-    requires { ⌜ k < 65536 ⌝ }
+fn next_fill(r: Run, k: usize, v: u32) -> Progress
+    requires { ⌜ SmallRun k r ⌝ }
+    requires { ⌜ k < matrixPlaces ⌝ }
     ensures { λ t. ⌜ t ≡ next r k (Outcome.Filled v) ⌝ }
 {
     match r {
-        Run::Idle => Turn {
+        Run::Idle => Progress {
             done: r,
             held: sole(k, v),
         },
@@ -182,7 +183,7 @@ fn next_fill(r: Run, k: usize, v: u32) -> Turn
             byte: _,
             up: _,
             down: _,
-        } => Turn {
+        } => Progress {
             done: r,
             held: sole(k, v),
         },
@@ -195,19 +196,19 @@ fn next_fill(r: Run, k: usize, v: u32) -> Turn
 }
 
 // An element that writes nothing ends the open run.
-fn stopped(r: Run) -> Turn
-    ensures { λ t. ⌜ t ≡ turn r Run.Idle ⌝ }
+fn stopped(r: Run) -> Progress
+    ensures { λ t. ⌜ t ≡ progress r Run.Idle ⌝ }
 {
-    Turn {
+    Progress {
         done: r,
         held: Run::Idle,
     }
 }
 
 // The open run and the outcome of the next element k.
-pub fn next_run(r: Run, k: usize, o: Outcome) -> Turn
-    requires { ⌜ Small k r ⌝ }
-    requires { ⌜ (k < 65536) × Near o ⌝ }
+pub fn next_run(r: Run, k: usize, o: Outcome) -> Progress
+    requires { ⌜ SmallRun k r ⌝ }
+    requires { ⌜ (k < matrixPlaces) × Fitting o ⌝ }
     ensures { λ t. ⌜ t ≡ next r k o ⌝ }
 {
     match o {
@@ -242,7 +243,7 @@ pub fn records_of(r: Run) -> usize
 // Writes the record of a run as record `at` of a tape: the next record's number.
 pub fn write_run(tape: &mut [i32], at: usize, load: bool, register: u8, r: Run) -> usize
     requires { ⌜ (at + length (emit r)) * recordLength ≤ length (now tape) ⌝ }
-    requires { ⌜ AllWithin (runRecords load register r) ⌝ }
+    requires { ⌜ AllInRange (runRecords load register r) ⌝ }
     ensures { λ n. ⌜ (n ≡ at + length (emit r)) × (now (tape .exit) ≡ sets (now (tape .entry)) (at * recordLength) (tapeNumbers (runRecords load register r))) ⌝ }
 {
     match r {

@@ -1,12 +1,10 @@
 -- The bytes of fields, by the table of "The sheet": the edition, layouts and views.
 use Prim.Native.Nat.{ℕ}
 use mathlib.Core.List.{List, [], _∷_, _++_}
-use mathlib.Core.Bool.{Bool}
 use lib.ListN.{length, getD}
-use Rattle.numbers.specs.Choice.{pick}
 use Rattle.numbers.specs.Little.{u16Bytes, u32Bytes}
 use Rattle.numbers.specs.Lists.{each}
-use Rattle.sheet.specs.Codes.{editionTag, layoutTag, viewTag, clampCode}
+use Rattle.sheet.specs.Codes.{editionTag, layoutTag, viewTag, clampCode, flagCode}
 use Rattle.sheet.specs.Layouts.{theDimension}
 use Rattle.sheet.specs.Views.{theViewDimension, sizedRank}
 use Rattle.sheet.specs.declared.Dimension.{Dimension}

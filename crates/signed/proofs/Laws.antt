@@ -10,7 +10,7 @@ use lib.Signed.{mag, ltZ}
 use mir.Syntax.{w32}
 use mir.Val.{toZ, ofZ}
 use mir.Facts.{toZ-ofZ, toZ-pos}
-use Rattle.signed.specs.Laws.{minus}
+use Rattle.signed.specs.Laws.Numbers.{minus}
 
 -- a number that was read out of a slice
 pub back : (x : ℤ) → mag x < 2 ^ 31 → toZ w32 (ofZ w32 x) ≡ x

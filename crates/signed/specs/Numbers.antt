@@ -2,11 +2,13 @@
 use Prim.Native.Nat.{ℕ, suc, _-_, _^_}
 use mathlib.Core.Bool.{Bool, false}
 use mathlib.Core.List.{List}
-use lib.Dec.{eqb, ltb}
+use lib.Dec.{eqb}
 use lib.ListN.{getD}
 use lib.IntN.{ℤ, pos, negsuc, negℤ, _-ℤ_}
 use lib.Signed.{leZ}
-use Rattle.numbers.specs.Choice.{pick, both}
+use Rattle.numbers.specs.Choice.{both}
+use Rattle.kinds.specs.Widths.{s32}
+use Rattle.kinds.specs.Values.{value}
 
 -- the number at a place of a tape
 abbrev pub number : List ℤ → ℕ → ℤ
@@ -38,9 +40,9 @@ spans below above x = both (leZ (negℤ (pos below)) x) (leZ x (pos above))
 unfoldable pub difference : ℕ → ℕ → ℤ
 difference up down = pos up -ℤ pos down
 
--- 32 bits read as a signed number: the upper half is below 0
-unfoldable pub signedOf : ℕ → ℤ
-signedOf bits = pick (ltb bits (2 ^ 31)) (pos bits) (pos bits -ℤ pos (2 ^ 32))
+-- 32 bits read as a signed number
+abbrev pub signedOf : ℕ → ℤ
+signedOf bits = value s32 bits
 
 -- a signed number's 32 bits
 abbrev pub bitsOf : ℤ → ℕ

@@ -29,14 +29,18 @@ stepTag (Whole whole) = wholeTag whole
 abbrev pub windowBytes : Window → List ℕ
 windowBytes w = (w .layout ∷ viewingCode (w .view) ∷ []) ++ u32Bytes (w .base)
 
--- result and its kind, input and its interpretation; matrix, M, K and memory layout; stride, offset; bias and its offset
-abbrev pub vectorBytes : VectorStep → List ℕ
-vectorBytes v =
+-- result and its kind, input and its interpretation; matrix interpretation, M, K and memory layout
+abbrev pub vectorOperands : VectorStep → List ℕ
+vectorOperands v =
     (v .result ∷ v .kind ∷ v .input ∷ v .interpretation ∷ [])
-    ++ ((v .matrix ∷ v .rows ∷ v .columns ∷ memoryLayoutCode (v .layout) ∷ [])
-    ++ (u16Bytes (v .stride)
-    ++ (u32Bytes (v .offset)
-    ++ ((flagCode (v .biased) ∷ []) ++ u32Bytes (v .bias)))))
+    ++ (v .matrix ∷ v .rows ∷ v .columns ∷ memoryLayoutCode (v .layout) ∷ [])
+
+-- the matrix's stride and offset; whether there is a bias, and its offset
+abbrev pub vectorPlaces : VectorStep → List ℕ
+vectorPlaces v = u16Bytes (v .stride) ++ u32Bytes (v .offset) ++ (flagCode (v .biased) ∷ []) ++ u32Bytes (v .bias)
+
+abbrev pub vectorBytes : VectorStep → List ℕ
+vectorBytes v = vectorOperands v ++ vectorPlaces v
 
 -- the content of a step, in a sheet of an edition
 abbrev pub wholeBytes : ℕ → WholeStep → List ℕ

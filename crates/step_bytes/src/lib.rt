@@ -6,11 +6,12 @@ ghost use lib.ListN.{length};
 ghost use lib.Seq.{sets};
 ghost use Rattle.numbers.specs.Little.{u32Bytes};
 ghost use Rattle.sheet.specs.Codes.{reduceCode, combineCode, objectCode};
-ghost use Rattle.step_bytes.specs.Bytes.{wholeTag, stepTag, windowBytes, wholeBytes, stepBytes, stepField};
+ghost use Rattle.step_bytes.specs.Bytes.{wholeTag, stepTag, windowBytes, vectorOperands, vectorPlaces, vectorBytes, wholeBytes, stepBytes, stepField};
 use sheet::Combine;
 use sheet::Object;
 use sheet::ReduceMode;
 use sheet::Step;
+use sheet::VectorStep;
 use sheet::WholeStep;
 use sheet::Window;
 use sheet::codes;
@@ -47,6 +48,7 @@ fn whole_tag(s: WholeStep) -> u8
             b: _,
             c: _,
         } => codes::MULTIPLY_TAG,
+        WholeStep::Vector(_) => codes::VECTOR_TAG,
     }
 }
 
@@ -99,6 +101,7 @@ fn whole_len(edition: u8, s: WholeStep) -> u16
             b: _,
             c: _,
         } => 4,
+        WholeStep::Vector(_) => 19,
     }
 }
 
@@ -183,6 +186,42 @@ fn put_reduce(
     );
 }
 
+// The registers and the matrix's shape.
+fn put_vector_operands(out: &mut [u8], at: usize, v: VectorStep)
+    requires { ⌜ at + 8 ≤ length (now out) ⌝ }
+    ensures { λ _. ⌜ now (out .exit) ≡ sets (now (out .entry)) at (vectorOperands v) ⌝ }
+{
+    let layout = v.layout;
+    put_four(out, at, v.result, v.kind, v.input, v.interpretation);
+    put_four(
+        out,
+        at + 4,
+        v.matrix,
+        v.rows,
+        v.columns,
+        codes::memory_layout_code(layout),
+    );
+}
+
+// Where the matrix and the bias lie.
+fn put_vector_places(out: &mut [u8], at: usize, v: VectorStep)
+    requires { ⌜ at + 11 ≤ length (now out) ⌝ }
+    ensures { λ _. ⌜ now (out .exit) ≡ sets (now (out .entry)) at (vectorPlaces v) ⌝ }
+{
+    numbers::put_u16(out, at, v.stride);
+    numbers::put_u32(out, at + 2, v.offset);
+    fields::put_byte(out, at + 6, codes::flag_code(v.biased));
+    numbers::put_u32(out, at + 7, v.bias);
+}
+
+fn put_vector(out: &mut [u8], at: usize, v: VectorStep)
+    requires { ⌜ at + 19 ≤ length (now out) ⌝ }
+    ensures { λ _. ⌜ now (out .exit) ≡ sets (now (out .entry)) at (vectorBytes v) ⌝ }
+{
+    put_vector_operands(out, at, v);
+    put_vector_places(out, at + 8, v);
+}
+
 fn put_whole_content(out: &mut [u8], at: usize, edition: u8, s: WholeStep)
     requires { ⌜ at + length (wholeBytes edition s) ≤ length (now out) ⌝ }
     ensures { λ _. ⌜ now (out .exit) ≡ sets (now (out .entry)) at (wholeBytes edition s) ⌝ }
@@ -205,6 +244,7 @@ fn put_whole_content(out: &mut [u8], at: usize, edition: u8, s: WholeStep)
         } => put_reduce(out, at, result, source, rows, columns, mode, combine),
         WholeStep::Transpose { result, source } => fields::put_pair(out, at, result, source),
         WholeStep::MultiplyAdd { result, a, b, c } => put_four(out, at, result, a, b, c),
+        WholeStep::Vector(v) => put_vector(out, at, v),
     }
 }
 

@@ -57,8 +57,8 @@ Inside size len Discarded = Unit {0}
 Inside size len (Placed byte) = byte + size ≤ len
 
 -- byte b is one of the size bytes of an element with an outcome
-abbrev pub Has : ℕ → ℕ → Outcome → Type 0
-Has size b Skipped = ⊥
-Has size b (Filled bits) = ⊥
-Has size b Discarded = ⊥
-Has size b (Placed byte) = (byte ≤ b) × (b < byte + size)
+abbrev pub Occupies : ℕ → ℕ → Outcome → Type 0
+Occupies size b Skipped = ⊥
+Occupies size b (Filled bits) = ⊥
+Occupies size b Discarded = ⊥
+Occupies size b (Placed byte) = (byte ≤ b) × (b < byte + size)

@@ -4,7 +4,7 @@ ghost use Prim.Native.Nat.{_<_, _^_};
 ghost use Rattle.sheet.specs.Sizes.{registerCount, matrixPlaces};
 ghost use Rattle.addressing.specs.Valid.{Planned};
 ghost use lib.ListN.{length};
-ghost use Rattle.kinds.specs.Laws.{ElementSize};
+ghost use Rattle.kinds.specs.Laws.Widths.{ElementSize};
 ghost use Rattle.accesses.specs.Refusals.{accessRefusal};
 ghost use Rattle.transfers.specs.Acts.{state, loaded, stored, Inside};
 ghost use Rattle.transfers.specs.Transfers.{loadedElements, storedElements};

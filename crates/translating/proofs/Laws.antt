@@ -10,8 +10,9 @@ use lib.Dec.{eqb, ltb}
 use lib.IntN.{ℤ}
 use lib.ListN.{length, length-append}
 use lib.Seq.{sets}
-use Rattle.numbers.specs.Choice.{pick, pick-case}
-use Rattle.numbers.specs.Lists.{puts-after}
+use Rattle.numbers.specs.Choice.{pick}
+use Rattle.numbers.specs.Laws.Choice.{pick-case}
+use Rattle.numbers.specs.Laws.Lists.{puts-after}
 use Rattle.outcomes.specs.declared.Outcome.{Outcome}
 use Rattle.outcomes.specs.declared.Outcome.the-variants.{Skipped, Filled, Discarded, Placed}
 use Rattle.refusals.specs.Refusals.{tapeTooLong, refusalAt, notRefused}
@@ -49,14 +50,14 @@ use Rattle.checking.specs.Laws.Names.{load-window, store-window}
 use Rattle.checking.specs.Laws.Steps.{check-types, check-sized}
 use Rattle.checking.specs.Laws.Turns.{first-clear, rest-clear, one-less, within-step}
 use Rattle.checking.specs.declared.CheckAnswer.{CheckAnswer}
-use Rattle.records.specs.Laws.{length-tape, tape-append, fit-room}
+use Rattle.records.specs.Laws.Records.{length-tape, tape-append, fit-room}
 use Rattle.records.specs.Records.{recordLength, tapeNumbers}
 use Rattle.records.specs.Room.{recordsFit}
 use Rattle.records.specs.declared.Record.{Record}
-use Rattle.runs.specs.Ranges.{Near}
-use Rattle.runs.specs.RunRecords.{recordsOf, of-runs}
+use Rattle.runs.specs.Ranges.{Fitting}
+use Rattle.runs.specs.Laws.RunRecords.{recordsOf, of-runs}
 use Rattle.runs.specs.Runs.{held, runs, runsRecords}
-use Rattle.runs.specs.Writing.{count-all, count-few, count-records, emit-one, runs-same}
+use Rattle.runs.specs.Laws.Writing.{count-all, count-few, count-records, emit-one, runs-same}
 use Rattle.translating.specs.Tapes.{copyRecords, accessRecords, stepRecords, tapeFrom, tapeOf}
 use Rattle.translating.specs.Translating.{translateAnswer, fitsRoom, translated, translatedRoom}
 use Rattle.translating.specs.Writing.{ClearWindow, ClearStep, entriesOutcome, Room, Wrote}
@@ -64,12 +65,12 @@ use Rattle.translating.specs.Writing.{ClearWindow, ClearStep, entriesOut
 -- ---- outcomes
 
 -- an entry is of a byte of memory, and the bits that fill an element are 32
-pub entry-near : (fill : ℕ) → fill < 2 ^ 32 → (x : ℕ) → Near (entryOutcome fill x)
+pub entry-near : (fill : ℕ) → fill < 2 ^ 32 → (x : ℕ) → Fitting (entryOutcome fill x)
 unfolding entryOutcome
 entry-near fill h x =
-    pick-case Near (eqb x 0) Skipped _ (λ e. tt)
-    (λ e. pick-case Near (ltb x filledEntry) (Placed (x - 1)) _ (λ l. omega (arith, ltb-true x filledEntry l, eqb-false x 0 e))
-    (λ l. pick-case Near (eqb x filledEntry) (Filled fill) Discarded (λ f. h) (λ f. tt)))
+    pick-case Fitting (eqb x 0) Skipped _ (λ e. tt)
+    (λ e. pick-case Fitting (ltb x filledEntry) (Placed (x - 1)) _ (λ l. omega (arith, ltb-true x filledEntry l, eqb-false x 0 e))
+    (λ l. pick-case Fitting (eqb x filledEntry) (Filled fill) Discarded (λ f. h) (λ f. tt)))
 
 -- the runs of a survey are those of its access
 module _ (a : Access) {p : Plan} (so : p ≡ planned a) (ok : Planned p) {r : Tally} {entries : List ℕ} (v : Surveyed (elementOutcome (p .access)) (elementsOf (p .access)) r entries) (h : accessRefusal a .number ≡ 0) where

@@ -8,15 +8,15 @@ use lib.IntN.{ℤ, pos, _+ℤ_}
 use lib.Signed.{leZ}
 use borrow.Author.Tests.{ltb-true, ltb-false}
 use Rattle.numbers.specs.Choice.{pick}
-use Rattle.numbers.specs.Places.{by-test}
-use Rattle.numbers.specs.First.{first-before, first-passes}
+use Rattle.numbers.specs.Laws.Choice.{by-test}
+use Rattle.numbers.specs.Laws.First.{first-before, first-passes}
 use Rattle.numbers.specs.Remainders.{remainder}
 use Rattle.kinds.specs.Widths.{wordKind, width}
-use Rattle.kinds.specs.Laws.{word-width}
+use Rattle.kinds.specs.Laws.Widths.{word-width}
 use Rattle.kinds.specs.Values.{negative, taken, value}
 use Rattle.kinds.specs.Interpretations.{packed}
-use Rattle.kinds.specs.ModuloLaws.{remainder-sum, remainder-sub}
-use Rattle.kinds.specs.Raised.{taken-le}
+use Rattle.kinds.specs.Laws.Modulo.{remainder-sum, remainder-sub}
+use Rattle.kinds.specs.Laws.Raised.{taken-le}
 use Rattle.refusals.specs.Refusals.{outsideMemory, stopAt}
 use Rattle.sheet.specs.declared.VectorStep.{VectorStep}
 use Rattle.registers.specs.Registers.{elementOf}

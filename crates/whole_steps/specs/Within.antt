@@ -6,6 +6,7 @@ use Rattle.kinds.specs.Widths.{kindOk, fits}
 use Rattle.sheet.specs.Sizes.{registerCount, sidePlaces}
 use Rattle.sheet.specs.declared.WholeStep.{WholeStep}
 use Rattle.sheet.specs.declared.WholeStep.the-variants.{Fill, Reduce, Transpose, MultiplyAdd, Vector}
+use Rattle.vectors.specs.Within.{VectorParts}
 use Rattle.whole_steps.specs.Whole.{wholeResult}
 
 pub record Side (x : ℕ) : Type 0 where

@@ -1,4 +1,4 @@
-// Whole steps: fill, reduce, transpose and multiply-add. Each makes one matrix in one register.
+// Whole steps: fill, reduce, transpose, multiply-add and vector steps. Each makes one matrix in one register.
 pub mod stops;
 pub mod transposes;
 pub mod types;
@@ -62,6 +62,10 @@ fn whole_block(
             let tb = registers::the_type(types, b);
             let tc = registers::the_type(types, c);
             products::multiply_block(elements, a, ta, b, tb, c, tc)
+        }
+        WholeStep::Vector(v) => {
+            let t = registers::the_type(types, v.input);
+            vectors::vector_block(elements, memory, t, v)
         }
     }
 }

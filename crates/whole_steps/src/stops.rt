@@ -10,6 +10,7 @@ use refusals::stop_at;
 use registers::MatrixType;
 use sheet::WholeStep;
 use sheet::sizes::REGISTERS;
+use vectors::vector_refusal;
 
 // By the edition, the registers' types and the memory's length.
 pub fn whole_refusal(
@@ -49,6 +50,10 @@ pub fn whole_refusal(
             let tb = registers::the_type(types, b);
             let tc = registers::the_type(types, c);
             stop_at(multiply_refusal(ta, tb, tc), 0)
+        }
+        WholeStep::Vector(v) => {
+            let t = registers::the_type(types, v.input);
+            vector_refusal(t, memory, v)
         }
     }
 }

@@ -7,6 +7,7 @@ use reduces::shapes::reduced_type;
 use registers::MatrixType;
 use sheet::WholeStep;
 use sheet::sizes::REGISTERS;
+use vectors::vector_type;
 
 pub fn whole_result(step: WholeStep) -> u8
     ensures { λ r. ⌜ r ≡ wholeResult step ⌝ }
@@ -34,6 +35,7 @@ pub fn whole_result(step: WholeStep) -> u8
             b: _,
             c: _,
         } => result,
+        WholeStep::Vector(v) => v.result,
     }
 }
 
@@ -74,6 +76,7 @@ pub fn whole_type(types: [MatrixType; REGISTERS], step: WholeStep) -> MatrixType
             b: _,
             c,
         } => registers::the_type(types, c),
+        WholeStep::Vector(v) => vector_type(v),
     }
 }
 

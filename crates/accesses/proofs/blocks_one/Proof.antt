@@ -5,7 +5,8 @@ use native.Mathlib.Omega.{arith}
 use lib.Dec.{leb}
 use borrow.Author.Tests.{le-leb, lt-leb}
 use borrow.Author.Needs.{needs}
-use Rattle.numbers.specs.All.{all, all-none, all-more, all-false}
+use Rattle.numbers.specs.All.{all}
+use Rattle.numbers.specs.Laws.All.{all-none, all-more, all-false}
 use Rattle.sheet.specs.Laws.Facts.{layout-most}
 use Rattle.sheet.specs.Layouts.{theDimension}
 use Rattle.accesses.specs.Refusals.{blocksOne}

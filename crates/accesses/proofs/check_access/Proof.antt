@@ -1,6 +1,6 @@
 use mathlib.Core.Path.{_∙_}
 use borrow.Author.Needs.{needs}
-use Rattle.numbers.specs.Choice.{went, tests}
+use Rattle.numbers.specs.Laws.Choice.{went, tests}
 use Rattle.addressing.specs.Laws.Plans.{planned-access}
 use Rattle.accesses.specs.Laws.Accepted.{ranks-agree}
 use Rattle.accesses.proofs.Laws.{access-nine, access-ten, access-eleven, access-elements}

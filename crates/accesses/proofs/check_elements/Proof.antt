@@ -1,5 +1,5 @@
 use mathlib.Core.Path.{_∙_}
-use Rattle.numbers.specs.Choice.{went}
+use Rattle.numbers.specs.Laws.Choice.{went}
 use Rattle.addressing.specs.Laws.Plans.{plan-count}
 use Rattle.accesses.specs.Laws.Surveys.{element-near}
 use Rattle.accesses.proofs.Laws.{clash-surveyed, apart-none, apart-found, checked-refused, checked-load, checked-clash, checked-apart}

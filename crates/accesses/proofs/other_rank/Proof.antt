@@ -1,6 +1,6 @@
 use mathlib.Core.Path.{refl}
 use borrow.Author.Tests.{not-true, not-false}
-use Rattle.numbers.specs.Choice.{stop, pass}
+use Rattle.numbers.specs.Laws.Choice.{stop, pass}
 use Rattle.accesses.specs.Refusals.{otherRank}
 use Rattle.accesses.proofs.other_rank.Statement.{statement}
 use Rattle.accesses.proofs.other_rank.Tie as tie

@@ -1,5 +1,5 @@
 use Rattle.accesses.specs.Entries.{entryOutcome}
-use Rattle.numbers.specs.Choice.{taken, left, tests}
+use Rattle.numbers.specs.Laws.Choice.{taken, left, tests}
 use mathlib.Core.Path.{refl}
 use borrow.Author.Needs.{needs}
 use Rattle.accesses.proofs.outcome_of.Statement.{statement}

@@ -1,7 +1,7 @@
 use mathlib.Core.Bool.{not}
 use mathlib.Core.Path.{ap}
 use borrow.Author.Needs.{needs}
-use Rattle.numbers.specs.Choice.{stop, pass}
+use Rattle.numbers.specs.Laws.Choice.{stop, pass}
 use Rattle.accesses.specs.Refusals.{storeBlocked}
 use Rattle.accesses.proofs.store_blocked.Statement.{statement}
 use Rattle.accesses.proofs.store_blocked.Tie as tie

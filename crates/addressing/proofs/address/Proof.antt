@@ -3,7 +3,7 @@ use native.Mathlib.Nat.{mul-le-mul}
 use native.Mathlib.Omega.{arith}
 use borrow.Author.Tests.{le-leb, lt-leb}
 use borrow.Author.Needs.{needs}
-use Rattle.numbers.specs.Choice.{taken, left}
+use Rattle.numbers.specs.Laws.Choice.{taken, left}
 use Rattle.sheet.specs.Sizes.{rankPlaces}
 use Rattle.addressing.specs.Rules.{addressed}
 use Rattle.addressing.proofs.address.Statement.{statement}

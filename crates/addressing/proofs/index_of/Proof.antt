@@ -1,7 +1,7 @@
 use Rattle.addressing.proofs.Laws.{view-sizes-in, plan-width, plan-sizes, plan-strides, column-few, columns-few}
 use Rattle.addressing.specs.Rules.{indexed}
 use Rattle.addressing.specs.declared.Indexed.the-variants.{Index}
-use Rattle.numbers.specs.Choice.{taken, left, tests}
+use Rattle.numbers.specs.Laws.Choice.{taken, left, tests}
 use native.Mathlib.Nat.{min-le-left, div-le-self, div-add-mod'}
 use mathlib.Core.Path.{_≡_, refl, ap, sym, _∙_}
 use mathlib.Core.Bool.{true}

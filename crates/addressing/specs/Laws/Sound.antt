@@ -9,7 +9,7 @@ use lib.Dec.{leb}
 use lib.IntN.{ℤ, pos, negsuc, _+ℤ_}
 use lib.ListN.{getD}
 use borrow.Author.Tests.{leb-true}
-use Rattle.numbers.specs.Choice.{pick-case}
+use Rattle.numbers.specs.Laws.Choice.{pick-case}
 use Rattle.sheet.specs.Layouts.{theDimension}
 use Rattle.sheet.specs.declared.ClampMode.{ClampMode}
 use Rattle.sheet.specs.declared.ClampMode.the-variants.{Undefined, Constant, ClampToEdge, Repeat, MirrorRepeat}

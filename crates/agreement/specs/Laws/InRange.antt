@@ -5,8 +5,8 @@ use mathlib.Core.Bool.{Bool, true, false, not}
 use mathlib.Core.List.{List, [], _∷_}
 use native.Mathlib.Omega.{arith}
 use borrow.Author.Tests.{le-leb}
-use Rattle.numbers.specs.Choice.{both-true}
-use Rattle.numbers.specs.All.{all-true}
+use Rattle.numbers.specs.Laws.Choice.{both-true}
+use Rattle.numbers.specs.Laws.All.{all-true}
 use Rattle.numbers.specs.Lists.{each}
 use Rattle.kinds.specs.Widths.{bytesOf, fits}
 use Rattle.outcomes.specs.declared.Outcome.{Outcome}
@@ -18,7 +18,7 @@ use Rattle.records.specs.Records.{moved}
 use Rattle.runs.specs.declared.Run.{Run}
 use Rattle.runs.specs.declared.Run.the-variants.{Idle, Bytes, Fills}
 use Rattle.runs.specs.Runs.{held, ending, runRecords, endedRecords, runsRecords}
-use Rattle.runs.specs.Longest.{Going, Pouring, Open, held-open, ending-open}
+use Rattle.runs.specs.Theorems.Longest.{Going, Pouring, Open, held-open, ending-open}
 use Rattle.judging.specs.Records.{bytesRecordOk, fillRecordOk}
 use Rattle.judging.specs.Laws.Bytes.{inside-natural}
 use Rattle.agreement.specs.Laws.Passing.{Passes, none, more, passes-append}

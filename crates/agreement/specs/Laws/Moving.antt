@@ -3,6 +3,7 @@ use Prim.Native.Nat.{ℕ, zero, suc, _+_, _*_, _-_}
 use mathlib.Core.Path.{_≡_, refl, sym, ap, _∙_}
 use mathlib.Core.Bool.{Bool, true, false, true≢false}
 use mathlib.Core.List.{List, [], _∷_}
+use Rattle.numbers.specs.Orders.{inOrder}
 use Rattle.numbers.specs.Lists.{each}
 use Rattle.kinds.specs.Widths.{bytesOf}
 use Rattle.outcomes.specs.declared.Outcome.{Outcome}
@@ -16,9 +17,9 @@ use Rattle.carrying.specs.Steps.{Machine, stateOf, machineOf}
 use Rattle.records.specs.declared.Record.the-variants.{Fill}
 use Rattle.records.specs.Records.{moved}
 use Rattle.runs.specs.Runs.{runsRecords}
-use Rattle.runs.specs.Acts.{Act, meet, give, one, spread, pour}
-use Rattle.runs.specs.States.{fold, elementwise, fold-append, same-records}
-use Rattle.running.specs.Records.{inOrder, onElements, ranRecordWith, ranRecord}
+use Rattle.runs.specs.Acts.{Act, one, spread, pour, meet, give}
+use Rattle.runs.specs.Laws.States.{fold, elementwise, fold-append, same-records}
+use Rattle.running.specs.Records.{onElements, ranRecordWith, ranRecord}
 use Rattle.judging.specs.Laws.Bytes.{byte-natural}
 use Rattle.agreement.specs.Laws.Passing.{ranAll}
 

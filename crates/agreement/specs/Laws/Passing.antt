@@ -14,7 +14,7 @@ use Rattle.records.specs.declared.Record.{Record}
 use Rattle.records.specs.declared.Record.the-variants.{Whole}
 use Rattle.records.specs.declared.Decoded.{Decoded}
 use Rattle.records.specs.declared.Decoded.the-variants.{Good}
-use Rattle.runs.specs.States.{performAll}
+use Rattle.runs.specs.Laws.States.{performAll}
 use Rattle.judging.specs.Records.{recordOk, recordTypes}
 use Rattle.running.specs.Records.{ranRecord}
 use Rattle.judging.specs.Judging.{rangeFrom}

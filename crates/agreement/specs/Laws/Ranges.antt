@@ -6,7 +6,7 @@ use mathlib.Core.List.{List}
 use native.Mathlib.Omega.{arith}
 use borrow.Author.Tests.{ltb-true}
 use Rattle.kinds.specs.Widths.{width, fits}
-use Rattle.kinds.specs.Laws.{width-case, bytes-low}
+use Rattle.kinds.specs.Laws.Widths.{width-case, bytes-low}
 use Rattle.outcomes.specs.declared.Outcome.{Outcome}
 use Rattle.outcomes.specs.declared.Outcome.the-variants.{Skipped, Filled, Discarded, Placed}
 use Rattle.sheet.specs.Sizes.{registerCount, stepPlaces, memoryLimit}
@@ -17,7 +17,7 @@ use Rattle.sheet.specs.declared.Window.{Window}
 use Rattle.sheet.specs.declared.Sheet.{Sheet}
 use Rattle.sheet.specs.declared.Step.{Step}
 use Rattle.sheet.specs.declared.Step.the-variants.{Nothing, Load, Store, Whole}
-use Rattle.sheet.specs.Laws.Within.{Within, within-places}
+use Rattle.sheet.specs.Laws.Within.{InRange, within-places}
 use Rattle.registers.specs.Types.{theType}
 use Rattle.registers.specs.Registers.{emptyRegisters}
 use Rattle.registers.specs.Sized.{SizedType, Sized}
@@ -29,16 +29,18 @@ use Rattle.checking.specs.Steps.{accessOf, objectRegister}
 use Rattle.checking.specs.Laws.Names.{load-register, load-object-ok, store-register}
 use Rattle.checking.specs.Laws.Steps.{check-sized}
 use Rattle.checking.specs.Laws.Turns.{within-step}
-use Rattle.records.specs.Laws.{AllWithin, all-append}
+use Rattle.records.specs.Ranges.{AllInRange}
+use Rattle.records.specs.Laws.Records.{all-append}
 use Rattle.records.specs.Ranges as ranges
-use Rattle.runs.specs.Ranges.{Near, runs-within}
+use Rattle.runs.specs.Ranges.{Fitting}
+use Rattle.runs.specs.Laws.Ranges.{runs-within}
 use Rattle.translating.specs.Tapes.{copyRecords, accessRecords, stepRecords, tapeFrom, tapeOf}
 use Rattle.agreement.specs.Laws.InRange.{Passable}
 use Rattle.agreement.specs.Laws.Stepping.{access-passable}
 
 module _ (len : ℕ) (most : len ≤ memoryLimit) where
   -- a byte lies in memory, and bits fit their kind
-  near : (kind : ℕ) (o : Outcome) → Passable kind len o → Near o
+  near : (kind : ℕ) (o : Outcome) → Passable kind len o → Fitting o
   unfolding fits
   near kind Skipped h = tt
   near kind (Filled v) h =
@@ -48,18 +50,18 @@ module _ (len : ℕ) (most : len ≤ memoryLimit) where
 
   module _ (sh : Sheet) where
     access-within : (load : Bool) (register : ℕ) (window : Window) (t : MatrixType) → register < registerCount → SizedType t
-        → AllWithin (accessRecords (accessOf (sh .tensors) load window t len) register)
+        → AllInRange (accessRecords (accessOf (sh .tensors) load window t len) register)
     access-within load register window t few s =
         let a = accessOf (sh .tensors) load window t len in
         runs-within load register few (outcomeOf a) (elementsOf a) (omega (arith, sized-places t s))
         (λ i l. near (t .kind) (outcomeOf a i) (access-passable sh load register window t len i))
 
-    copies-within : (register : ℕ) (object : Object) → register < registerCount → objectOk object ≡ true → AllWithin (copyRecords register object)
+    copies-within : (register : ℕ) (object : Object) → register < registerCount → objectOk object ≡ true → AllInRange (copyRecords register object)
     copies-within register Kept few ok = tt
     copies-within register (Register object) few ok = ((few, ltb-true object registerCount ok), tt)
 
     step-within : (ts : List MatrixType) (k : ℕ) (st : Step) (edition layouts views : ℕ) → k < stepPlaces → stepOk edition layouts views st ≡ true → Sized ts
-        → AllWithin (stepRecords (sh .tensors) ts len k st)
+        → AllInRange (stepRecords (sh .tensors) ts len k st)
     unfolding stepRecords
     step-within ts k Nothing edition layouts views l ok s = tt
     step-within ts k (Load register object window) edition layouts views l ok s =
@@ -72,8 +74,8 @@ module _ (len : ℕ) (most : len ≤ memoryLimit) where
         access-within false register window (theType ts register) (store-register layouts views register window ok) (s .each register)
     step-within ts k (Whole whole) edition layouts views l ok s = (omega arith, tt)
 
-    module _ (w : Within sh) where
-      from-within : (n k : ℕ) (ts : List MatrixType) → k + n ≤ sh .steps → Sized ts → AllWithin (tapeFrom n sh len k ts)
+    module _ (w : InRange sh) where
+      from-within : (n k : ℕ) (ts : List MatrixType) → k + n ≤ sh .steps → Sized ts → AllInRange (tapeFrom n sh len k ts)
       unfolding tapeFrom
       from-within zero k ts l s = tt
       from-within (suc n) k ts l s =
@@ -84,6 +86,6 @@ module _ (len : ℕ) (most : len ≤ memoryLimit) where
           (from-within n (k + 1) _ (omega arith) (check-sized (sh .edition) (sh .tensors) ts len st (sh .edition) (sh .tensors .layouts) (sh .tensors .views) ok s))
 
       -- every record of the tape of a sheet within Sizes, for a memory of a length within Sizes
-      pub tape-within : AllWithin (tapeOf sh len)
+      pub tape-within : AllInRange (tapeOf sh len)
       unfolding tapeOf
       tape-within = from-within (sh .steps) 0 (emptyRegisters .types) (omega arith) sized-empty

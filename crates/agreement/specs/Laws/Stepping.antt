@@ -7,9 +7,9 @@ use native.Mathlib.Omega.{arith}
 use borrow.Author.Tests.{lt-ltb, eq-eqb}
 use lib.ListN.{length}
 use lib.Seq.{getD-set-same, set-getD}
-use Rattle.numbers.specs.Choice.{both-true}
+use Rattle.numbers.specs.Laws.Choice.{both-true}
 use Rattle.kinds.specs.Widths.{bytesOf, width, fits}
-use Rattle.kinds.specs.Laws.{width-bytes}
+use Rattle.kinds.specs.Laws.Widths.{width-bytes}
 use Rattle.outcomes.specs.declared.Outcome.{Outcome}
 use Rattle.outcomes.specs.declared.Outcome.the-variants.{Skipped, Filled, Discarded, Placed}
 use Rattle.sheet.specs.Sizes.{registerCount}
@@ -39,7 +39,7 @@ use Rattle.carrying.specs.Machines.{checkOn, Accepted}
 use Rattle.carrying.specs.Laws.Types.{object-type}
 use Rattle.records.specs.declared.Record.{Record}
 use Rattle.records.specs.declared.Record.the-variants.{Whole}
-use Rattle.runs.specs.States.{performAll, performAll-append}
+use Rattle.runs.specs.Laws.States.{performAll, performAll-append}
 use Rattle.translating.specs.Tapes.{copyRecords, accessRecords, stepRecords}
 use Rattle.judging.specs.Records.{wholeRecordOk, recordOk}
 use Rattle.running.specs.Records.{ranRecordWith, ranRecord}

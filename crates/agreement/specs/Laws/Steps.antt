@@ -14,7 +14,7 @@ use Rattle.carrying.specs.Carrying.{performedFrom}
 use Rattle.carrying.specs.Machines.{stepOn, AcceptedStep, Formed}
 use Rattle.carrying.specs.Laws.Types.{checkFrom, step-types, step-length, step-formed, first-accepted, rest-checked}
 use Rattle.records.specs.declared.Record.{Record}
-use Rattle.runs.specs.States.{performAll, performAll-append}
+use Rattle.runs.specs.Laws.States.{performAll, performAll-append}
 use Rattle.translating.specs.Tapes.{stepRecords, tapeFrom}
 use Rattle.running.specs.Records.{ranRecord}
 use Rattle.agreement.specs.Laws.Passing.{Passes, none, passes-append, ranAll}

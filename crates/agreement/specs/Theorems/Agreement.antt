@@ -9,7 +9,7 @@ use native.Mathlib.Omega.{arith}
 use borrow.Author.Tests.{le-leb}
 use lib.IntN.{ℤ}
 use lib.ListN.{length, getD, length-append}
-use Rattle.numbers.specs.Choice.{both-true, taken}
+use Rattle.numbers.specs.Laws.Choice.{both-true, taken}
 use Rattle.sheet.specs.Sizes.{memoryLimit}
 use Rattle.sheet.specs.declared.Sheet.{Sheet}
 use Rattle.sheet.specs.Editions.{limits}
@@ -21,7 +21,7 @@ use Rattle.records.specs.declared.Record.the-variants.{Whole}
 use Rattle.records.specs.declared.Decoded.{Decoded}
 use Rattle.records.specs.declared.Decoded.the-variants.{Good}
 use Rattle.records.specs.Records.{recordLength, tapeNumbers}
-use Rattle.records.specs.Laws.{tape-back, length-tape}
+use Rattle.records.specs.Laws.Records.{tape-back, length-tape}
 use Rattle.records.specs.Room.{recordsFit}
 use Rattle.translating.specs.Tapes.{tapeOf}
 use Rattle.judging.specs.Judging.{tapeRecord, tapeRefusal}

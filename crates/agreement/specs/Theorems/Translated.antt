@@ -8,7 +8,8 @@ use borrow.Author.Tests.{leb-true, le-leb, eq-eqb}
 use lib.IntN.{ℤ}
 use lib.ListN.{length, drop}
 use lib.Seq.{sets-eq}
-use Rattle.numbers.specs.Choice.{pick, both-left}
+use Rattle.numbers.specs.Choice.{pick}
+use Rattle.numbers.specs.Laws.Choice.{both-left}
 use Rattle.sheet.specs.Sizes.{memoryLimit}
 use Rattle.sheet.specs.declared.Sheet.{Sheet}
 use Rattle.sheet.specs.Editions.{limits}
@@ -18,7 +19,7 @@ use Rattle.checking.specs.Laws.Readable.{Readable, sheet-readable}
 use Rattle.carrying.specs.Steps.{Machine}
 use Rattle.carrying.specs.Carrying.{carryAnswer, carried, carriedMemory}
 use Rattle.records.specs.Records.{tapeNumbers}
-use Rattle.records.specs.Laws.{length-tape, fit-room}
+use Rattle.records.specs.Laws.Records.{length-tape, fit-room}
 use Rattle.records.specs.Room.{recordsFit}
 use Rattle.translating.specs.Tapes.{tapeOf}
 use Rattle.translating.specs.Translating.{fitsRoom, translated, translatedRoom}

@@ -7,7 +7,7 @@ use native.Mathlib.Nat.{zero-add, add-zero, not-suc-le-zero}
 use native.Mathlib.Omega.{arith}
 use lib.ListN.{length, length-replicate}
 use lib.Seq.{set-getD, getD-set-same}
-use Rattle.numbers.specs.Lists.{length-line}
+use Rattle.numbers.specs.Laws.Lists.{length-line}
 use Rattle.sheet.specs.Steps.{theStep, stepOk}
 use Rattle.sheet.specs.Sizes.{registerCount, matrixPlaces, elementPlaces}
 use Rattle.sheet.specs.declared.Object.{Object}

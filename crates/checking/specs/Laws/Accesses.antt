@@ -1,15 +1,15 @@
 -- The loads and stores of a sheet that is within Sizes, and what their check tells.
-use Prim.Native.Nat.{ℕ, _*_, _<_, _≤_}
+use Prim.Native.Nat.{ℕ, _≤_}
 use mathlib.Core.Path.{_≡_, refl, sym}
 use mathlib.Core.Bool.{Bool, true, false, true≢false}
 use mathlib.Core.List.{List}
 use mathlib.Core.Logic.{⊎-elim}
 use native.Mathlib.Omega.{arith}
-use borrow.Author.Tests.{ltb-true, eqb-false, eq-eqb}
-use lib.Dec.{eqb}
-use Rattle.numbers.specs.Choice.{pick, pick-case}
+use borrow.Author.Tests.{ltb-true, eqb-false}
+use Rattle.numbers.specs.Choice.{pick}
+use Rattle.numbers.specs.Laws.Choice.{pick-case}
 use Rattle.kinds.specs.Widths.{bytesOf}
-use Rattle.kinds.specs.Laws.{bytes-size, bytes-low, bytes-high}
+use Rattle.kinds.specs.Laws.Widths.{bytes-size, bytes-low, bytes-high}
 use Rattle.refusals.specs.Refusals.{emptyRegister}
 use Rattle.sheet.specs.Sizes.{memoryLimit}
 use Rattle.sheet.specs.Steps.{viewingOk, windowOk}
@@ -27,7 +27,7 @@ use Rattle.registers.specs.Laws.Sized.{sized-places}
 use Rattle.registers.specs.declared.MatrixType.{MatrixType}
 use Rattle.addressing.specs.Valid.{SizedAccess}
 use Rattle.addressing.specs.declared.Access.{Access}
-use Rattle.accesses.specs.Refusals.{checked, checkedAccess}
+use Rattle.accesses.specs.Refusals.{checkedElements, checkedAccess}
 use Rattle.checking.specs.Steps.{isViewed, viewNamed, accessOf, stepCheck, movedCheck, accessCheck}
 use Rattle.checking.specs.Clear.{Clear}
 use Rattle.checking.specs.Laws.Names.{window-layout, window-view}
@@ -81,5 +81,5 @@ module _ (before after : List MatrixType) (t : MatrixType) (a : Access) where
   access-moved e = rw e
 
   pub access-clear : accessCheck before after t a .stop .number ≡ 0 → Clear t a
-  unfolding checked
+  unfolding checkedElements
   access-clear h = let e = not-empty h in record { filled = e; clear = rw (access-moved e) at h }

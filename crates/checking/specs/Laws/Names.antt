@@ -3,7 +3,7 @@ use Prim.Native.Nat.{ℕ, _<_}
 use mathlib.Core.Path.{_≡_}
 use mathlib.Core.Bool.{true}
 use borrow.Author.Tests.{ltb-true}
-use Rattle.numbers.specs.Choice.{both-left, both-right}
+use Rattle.numbers.specs.Laws.Choice.{both-left, both-right}
 use Rattle.sheet.specs.Sizes.{registerCount}
 use Rattle.sheet.specs.Steps.{objectOk, viewingOk, windowOk, loadOk, storeOk}
 use Rattle.sheet.specs.declared.Object.{Object}

@@ -7,7 +7,8 @@ use native.Mathlib.Omega.{arith}
 use borrow.Author.Tests.{eq-eqb}
 use lib.Dec.{eqb}
 use lib.ListN.{length, length-set}
-use Rattle.numbers.specs.Choice.{pick, pick-case}
+use Rattle.numbers.specs.Choice.{pick}
+use Rattle.numbers.specs.Laws.Choice.{pick-case}
 use Rattle.refusals.specs.declared.Stop.{Stop}
 use Rattle.sheet.specs.Steps.{stepOk}
 use Rattle.sheet.specs.declared.Tensors.{Tensors}
@@ -15,7 +16,7 @@ use Rattle.sheet.specs.declared.Step.{Step}
 use Rattle.sheet.specs.declared.Step.the-variants.{Nothing, Load, Store, Whole}
 use Rattle.registers.specs.Types.{theType, isEmpty, withType}
 use Rattle.sheet.specs.Sizes.{matrixPlaces}
-use Rattle.registers.specs.Sized.{Sized, SizedType}
+use Rattle.registers.specs.Sized.{Sized}
 use Rattle.registers.specs.Laws.Sized.{sized-with, sized-places}
 use Rattle.registers.specs.declared.MatrixType.{MatrixType}
 use Rattle.whole_steps.specs.Whole.{wholeResult}
@@ -27,7 +28,6 @@ use Rattle.accesses.specs.Refusals.{checkedAccess, elementOutcome, placedCount}
 use Rattle.accesses.specs.Refusals as accesses
 use Rattle.accesses.specs.Laws.Accepted.{placed-most}
 use Rattle.checking.specs.Steps.{accessOf, objectRegister, accessCheck, checkedStep, stepTypes}
-use Rattle.checking.specs.Clear.{Clear}
 use Rattle.checking.specs.Laws.Accesses.{access-moved, access-clear}
 use Rattle.checking.specs.declared.StepCheck.{StepCheck}
 
@@ -69,8 +69,8 @@ check-registers edition tensors ts len (Store register window) =
     pick-case (λ (c : StepCheck). length (c .types) ≡ length ts) (isEmpty (theType ts register)) _ _ (λ e. refl) (λ e. refl)
 check-registers edition tensors ts len (Whole whole) = length-set ts (wholeResult whole) _
 
-checked-most : (f : ℕ → Located) (n : ℕ) (s : Stop) → accesses.checked f n s .placed ≤ n
-unfolding accesses.checked
+checked-most : (f : ℕ → Located) (n : ℕ) (s : Stop) → accesses.checkedElements f n s .placed ≤ n
+unfolding accesses.checkedElements
 checked-most f n s = pick-case (λ (x : ℕ). x ≤ n) (eqb (s .number) 0) (placedCount f n) 0 (λ e. placed-most f n) (λ e. omega arith)
 
 moved-most : (before after : List MatrixType) (t : MatrixType) (a : Access) → elementsOf a ≤ matrixPlaces → accessCheck before after t a .placed ≤ matrixPlaces
@@ -93,5 +93,5 @@ step-placed edition tensors ts len (Whole whole) s = omega arith
 
 -- an access that is not refused has placed what it counts
 pub access-placed : (a : Access) → checkedAccess a .stop .number ≡ 0 → checkedAccess a .placed ≡ placedCount (elementOutcome a) (elementsOf a)
-unfolding accesses.checked pick
+unfolding accesses.checkedElements pick
 access-placed a h = rw (eq-eqb (accesses.accessRefusal a .number) 0 h)

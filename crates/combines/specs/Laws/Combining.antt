@@ -7,7 +7,7 @@ use native.Mathlib.Omega.{arith}
 use lib.Bits.{and-lt, or-lt, xor-lt}
 use lib.Pow.{pow-pos}
 use lib.Signed.{leZ}
-use Rattle.numbers.specs.Choice.{pick-case}
+use Rattle.numbers.specs.Laws.Choice.{pick-case}
 use Rattle.kinds.specs.Widths.{width}
 use Rattle.kinds.specs.Values.{value}
 use Rattle.sheet.specs.declared.Combine.{Combine}

@@ -1,4 +1,4 @@
-use Rattle.numbers.specs.Choice.{tests, stop, pass}
+use Rattle.numbers.specs.Laws.Choice.{tests, stop, pass}
 use Rattle.contents.specs.Contents.{layoutLengthOk}
 use borrow.Author.Needs.{needs}
 use Rattle.contents.proofs.layout_length_ok.Statement.{statement}

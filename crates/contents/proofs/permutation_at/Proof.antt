@@ -1,6 +1,6 @@
-use mathlib.Core.Path.{refl}
-use Rattle.numbers.specs.Lists.{line, line-start, line-step}
-use mathlib.Core.Path.{_≡_}
+use mathlib.Core.Path.{refl, _≡_}
+use Rattle.numbers.specs.Lists.{line}
+use Rattle.numbers.specs.Laws.Lists.{line-start, line-step}
 use Prim.Native.Nat.{ℕ, _+_, _-_, _≤_}
 use lib.ListN.{replicate, getD}
 use Rattle.contents.specs.Contents.{permutationAt}

@@ -1,5 +1,5 @@
 use mathlib.Core.Path.{refl}
-use Rattle.numbers.specs.Choice.{tests, taken, left}
+use Rattle.numbers.specs.Laws.Choice.{tests, taken, left}
 use Rattle.contents.specs.Contents.{reduceAt}
 use borrow.Author.Needs.{needs}
 use Rattle.contents.proofs.reduce_at.Statement.{statement}

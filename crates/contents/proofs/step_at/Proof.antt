@@ -27,9 +27,13 @@ transpose-at-requires c κs = rw (c .match .keys5) at (c .before .before .pre)
 
 multiply-at-requires : tie.Need-multiply-at-requires
 unfolding stepLength pick
-multiply-at-requires c κs =
+multiply-at-requires c κs = rw (c .match .keys6) at (c .before .before .pre)
+
+vector-at-requires : tie.Need-vector-at-requires
+unfolding stepLength pick
+vector-at-requires c κs =
     let m = c .match .rest in
-    rw (ne-eqb _ _ (m .0 .0 .0 .0 .1), ne-eqb _ _ (m .0 .0 .0 .1), ne-eqb _ _ (m .0 .0 .1), ne-eqb _ _ (m .0 .1), ne-eqb _ _ (m .1)) at (c .before .before .pre)
+    rw (ne-eqb _ _ (m .0 .0 .0 .0 .0 .1), ne-eqb _ _ (m .0 .0 .0 .0 .1), ne-eqb _ _ (m .0 .0 .0 .1), ne-eqb _ _ (m .0 .0 .1), ne-eqb _ _ (m .0 .1), ne-eqb _ _ (m .1)) at (c .before .before .pre)
 
 returns : tie.Need-returns
 unfolding stepAt pick
@@ -53,9 +57,13 @@ returns-5 c = rw (c .before .match .keys5) (c .transpose-at .ensures)
 
 returns-6 : tie.Need-returns-6
 unfolding stepAt pick
-returns-6 c =
+returns-6 c = rw (c .before .match .keys6) (c .multiply-at .ensures)
+
+returns-7 : tie.Need-returns-7
+unfolding stepAt pick
+returns-7 c =
     let m = c .before .match .rest in
-    rw (ne-eqb _ _ (m .0 .0 .0 .0 .1), ne-eqb _ _ (m .0 .0 .0 .1), ne-eqb _ _ (m .0 .0 .1), ne-eqb _ _ (m .0 .1), ne-eqb _ _ (m .1)) (c .multiply-at .ensures)
+    rw (ne-eqb _ _ (m .0 .0 .0 .0 .0 .1), ne-eqb _ _ (m .0 .0 .0 .0 .1), ne-eqb _ _ (m .0 .0 .0 .1), ne-eqb _ _ (m .0 .0 .1), ne-eqb _ _ (m .0 .1), ne-eqb _ _ (m .1)) (c .vector-at .ensures)
 
 pub step-at-spec : {M : Type 1} → statement M
 step-at-spec =
@@ -67,9 +75,11 @@ step-at-spec =
     reduce-at-requires
     transpose-at-requires
     multiply-at-requires
+    vector-at-requires
     returns
     returns-2
     returns-3
     returns-4
     returns-5
-    returns-6)
+    returns-6
+    returns-7)

@@ -30,11 +30,15 @@ returns-5 c = rw (c .match .keys5)
 
 returns-6 : tie.Need-returns-6
 unfolding stepLength pick
-returns-6 c =
+returns-6 c = rw (c .match .keys6)
+
+returns-7 : tie.Need-returns-7
+unfolding stepLength pick
+returns-7 c =
     let m = c .match .rest in
-    rw (ne-eqb _ _ (m .0 .0 .0 .0 .1), ne-eqb _ _ (m .0 .0 .0 .1), ne-eqb _ _ (m .0 .0 .1), ne-eqb _ _ (m .0 .1), ne-eqb _ _ (m .1))
+    rw (ne-eqb _ _ (m .0 .0 .0 .0 .0 .1), ne-eqb _ _ (m .0 .0 .0 .0 .1), ne-eqb _ _ (m .0 .0 .0 .1), ne-eqb _ _ (m .0 .0 .1), ne-eqb _ _ (m .0 .1), ne-eqb _ _ (m .1))
 
 pub step-length-spec : {M : Type 1} → statement M
 step-length-spec =
     tie.close
-    (tie.spec fill-length-requires returns returns-2 returns-3 returns-4 returns-5 returns-6)
+    (tie.spec fill-length-requires returns returns-2 returns-3 returns-4 returns-5 returns-6 returns-7)

@@ -1,4 +1,4 @@
-use Rattle.numbers.specs.Choice.{tests, stop, pass}
+use Rattle.numbers.specs.Laws.Choice.{tests, stop, pass}
 use Rattle.contents.specs.Contents.{viewHeadOk}
 use borrow.Author.Needs.{needs}
 use Rattle.contents.proofs.view_head_ok.Statement.{statement}

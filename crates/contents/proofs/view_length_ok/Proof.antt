@@ -1,5 +1,5 @@
 use mathlib.Core.Path.{refl}
-use Rattle.numbers.specs.Choice.{tests, taken, left, stop, pass}
+use Rattle.numbers.specs.Laws.Choice.{tests, taken, left, stop, pass}
 use Rattle.contents.specs.Contents.{viewLengthOk}
 use borrow.Author.Needs.{needs}
 use Rattle.contents.proofs.view_length_ok.Statement.{statement}

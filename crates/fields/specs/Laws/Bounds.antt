@@ -6,7 +6,7 @@ use mathlib.Core.Logic.{⊎-elim}
 use native.Mathlib.Omega.{arith}
 use lib.ListN.{length, getD}
 use borrow.Author.Tests.{ltb-false, leb-true}
-use Rattle.numbers.specs.Choice.{pick-inv}
+use Rattle.numbers.specs.Laws.Choice.{pick-inv}
 use Rattle.numbers.specs.Little.{u16At}
 use Rattle.fields.specs.Fields.{fieldAt}
 use Rattle.fields.specs.declared.Cursor.{Cursor}

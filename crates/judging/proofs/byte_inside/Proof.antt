@@ -1,5 +1,5 @@
 use Rattle.judging.specs.Laws.Elements.{stride-small}
-use Rattle.numbers.specs.Choice.{tests, stop, pass}
+use Rattle.numbers.specs.Laws.Choice.{tests, stop, pass}
 use Rattle.judging.specs.Laws.Bytes.{inside-natural}
 use native.Mathlib.Omega.{arith}
 use Rattle.judging.proofs.byte_inside.Statement.{statement}

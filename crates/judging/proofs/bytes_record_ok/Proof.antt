@@ -1,6 +1,6 @@
-use Rattle.numbers.specs.Choice.{went-past, tests, stop, pass}
+use Rattle.numbers.specs.Laws.Choice.{went-past, tests, stop, pass}
 use Rattle.judging.specs.Laws.Elements.{turned, elements-fit}
-use Rattle.kinds.specs.Laws.{bytes-high}
+use Rattle.kinds.specs.Laws.Widths.{bytes-high}
 use Rattle.judging.specs.Records.{bytesRecordOk}
 use native.Mathlib.Omega.{arith}
 use borrow.Author.Needs.{needs}

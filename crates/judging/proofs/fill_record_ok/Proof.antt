@@ -1,5 +1,5 @@
 use Rattle.judging.specs.Laws.Elements.{turned}
-use Rattle.numbers.specs.Choice.{tests, stop, pass}
+use Rattle.numbers.specs.Laws.Choice.{tests, stop, pass}
 use Rattle.judging.specs.Records.{fillRecordOk}
 use borrow.Author.Needs.{needs}
 use Rattle.judging.proofs.fill_record_ok.Statement.{statement}

@@ -1,14 +1,14 @@
-use Rattle.numbers.specs.Choice.{ways}
-use Rattle.judging.specs.Records.{placeOf}
+use Rattle.numbers.specs.Laws.Choice.{ways}
+use Rattle.judging.specs.Records.{stepPlace}
 use Rattle.judging.proofs.place_of.Statement.{statement}
 use Rattle.judging.proofs.place_of.Tie as tie
 
 returns : tie.Need-returns
-unfolding placeOf
+unfolding stepPlace
 returns c = search ways
 
 returns-2 : tie.Need-returns-2
-unfolding placeOf
+unfolding stepPlace
 returns-2 c = search ways
 
 pub place-of-spec : {M : Type 1} → statement M

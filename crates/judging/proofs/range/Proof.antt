@@ -1,7 +1,7 @@
 use denote.Ref.{now}
 use Prim.Native.Nat.{_-_, _≤_}
 use mathlib.Core.Path.{_≡_, _∙_}
-use Rattle.numbers.specs.Choice.{went-not, went-past}
+use Rattle.numbers.specs.Laws.Choice.{went-not, went-past}
 use Rattle.registers.specs.Sized.{Sized}
 use Rattle.registers.specs.Laws.Sized.{sized-empty}
 use Rattle.checking.specs.Laws.Turns.{empty-types}

@@ -1,6 +1,6 @@
-use Rattle.numbers.specs.Choice.{taken, left, went-not, went-past}
+use Rattle.numbers.specs.Laws.Choice.{taken, left, went-not, went-past}
 use Rattle.judging.specs.Judging.{tapeRefusal}
-use Rattle.records.specs.Laws.{fit-few, fit-room}
+use Rattle.records.specs.Laws.Records.{fit-few, fit-room}
 use borrow.Author.Needs.{needs}
 use Rattle.judging.proofs.tape_refusal.Statement.{statement}
 use Rattle.judging.proofs.tape_refusal.Tie as tie

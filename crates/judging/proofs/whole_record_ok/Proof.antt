@@ -1,4 +1,4 @@
-use Rattle.numbers.specs.Choice.{tests, stop, pass}
+use Rattle.numbers.specs.Laws.Choice.{tests, stop, pass}
 use Rattle.judging.specs.Records.{wholeRecordOk}
 use borrow.Author.Needs.{needs}
 use Rattle.judging.proofs.whole_record_ok.Statement.{statement}

@@ -4,11 +4,11 @@ use mathlib.Core.Path.{_≡_, sym, ap, ap₂, _∙_}
 use native.Mathlib.Omega.{arith}
 use borrow.Author.Tests.{le-leb, lt-leb}
 use lib.Dec.{leb}
-use Rattle.numbers.specs.Choice.{both, stop, both-true}
-use Rattle.numbers.specs.Places.{by-order}
+use Rattle.numbers.specs.Choice.{both}
+use Rattle.numbers.specs.Laws.Choice.{stop, both-true, by-order}
 use Rattle.signed.specs.Numbers.{rise, fall, atLeast}
-use Rattle.signed.specs.Laws.{least-parts}
-use Rattle.records.specs.ByteSteps.{rise-step, fall-step}
+use Rattle.signed.specs.Laws.Numbers.{least-parts}
+use Rattle.records.specs.Laws.ByteSteps.{rise-step, fall-step}
 use Rattle.judging.specs.Records.{signedByte, byteAt, byteInside}
 
 module _ (byte up down i : ℕ) where

@@ -1,14 +1,15 @@
 -- A take, a put and a fill in range, by their parts.
-use Prim.Native.Nat.{ℕ, _+_, _*_, _<_, _≤_}
+use Prim.Native.Nat.{ℕ, _+_, _*_, _^_, _<_, _≤_}
 use mathlib.Core.Path.{_≡_, sym, ap, _∙_}
 use mathlib.Core.Bool.{Bool, true, false, not}
 use native.Mathlib.Nat.{mul-le-mul}
 use native.Mathlib.Omega.{arith}
-use borrow.Author.Tests.{leb-true}
-use Rattle.numbers.specs.Choice.{both-left, both-right}
-use Rattle.numbers.specs.All.{all-at}
-use Rattle.kinds.specs.Widths.{bytesOf}
+use borrow.Author.Tests.{leb-true, ltb-true, not-true}
+use Rattle.numbers.specs.Laws.Choice.{both-left, both-right}
+use Rattle.numbers.specs.Laws.All.{all-at}
+use Rattle.kinds.specs.Widths.{width, bytesOf, fits}
 use Rattle.sheet.specs.Sizes.{matrixPlaces}
+use Rattle.registers.specs.Types.{isEmpty}
 use Rattle.registers.specs.Sized.{SizedType}
 use Rattle.registers.specs.Laws.Sized.{sized-places}
 use Rattle.registers.specs.declared.MatrixType.{MatrixType}
@@ -40,6 +41,10 @@ elements-fit t first count s e = omega (arith, sized-places t s, leb-true (first
 
 -- a take or a put, and a fill, that is in range, by its parts
 module _ (t : MatrixType) (first count : ℕ) where
+  pub bytes-filled : (len byte up down : ℕ) → bytesRecordOk t len first count byte up down ≡ true → isEmpty t ≡ false
+  unfolding bytesRecordOk
+  bytes-filled len byte up down e = not-true _ (both-left _ _ e)
+
   pub bytes-elements : (len byte up down : ℕ) → bytesRecordOk t len first count byte up down ≡ true → elementsOk t first count ≡ true
   unfolding bytesRecordOk
   bytes-elements len byte up down e = both-left _ _ (both-right _ _ e)
@@ -48,9 +53,17 @@ module _ (t : MatrixType) (first count : ℕ) where
   unfolding bytesRecordOk
   bytes-inside len byte up down e = both-right _ _ (both-right _ _ e)
 
+  pub fill-filled : (value : ℕ) → fillRecordOk t first count value ≡ true → isEmpty t ≡ false
+  unfolding fillRecordOk
+  fill-filled value e = not-true _ (both-left _ _ e)
+
   pub fill-elements : (value : ℕ) → fillRecordOk t first count value ≡ true → elementsOk t first count ≡ true
   unfolding fillRecordOk
   fill-elements value e = both-left _ _ (both-right _ _ e)
+
+  pub fill-fits : (value : ℕ) → fillRecordOk t first count value ≡ true → value < 2 ^ width (t .kind)
+  unfolding fillRecordOk fits
+  fill-fits value e = ltb-true _ _ (both-right _ _ (both-right _ _ e))
 
 -- the way of an element from a record's byte
 pub stride-small : (i step : ℕ) → i < matrixPlaces → step ≤ 65535 → i * step ≤ matrixPlaces * 65536

@@ -6,8 +6,8 @@ use mathlib.Core.List.{List}
 use native.Mathlib.Omega.{arith}
 use borrow.Author.Tests.{ltb-true, lt-ltb, le-ltb}
 use lib.Dec.{ltb}
-use Rattle.numbers.specs.Choice.{pick, both, pick-case, both-right}
-use Rattle.numbers.specs.Places.{by-order}
+use Rattle.numbers.specs.Choice.{pick, both}
+use Rattle.numbers.specs.Laws.Choice.{pick-case, both-right, by-order}
 use Rattle.sheet.specs.Sizes.{stepPlaces}
 use Rattle.sheet.specs.Steps.{theStep, stepOk, stepUnused}
 use Rattle.sheet.specs.Laws.Within.{Within, within-places}
@@ -18,7 +18,7 @@ use Rattle.registers.specs.declared.MatrixType.{MatrixType}
 use Rattle.records.specs.declared.Decoded.{Decoded}
 use Rattle.records.specs.declared.Decoded.the-variants.{Good, Bad}
 use Rattle.records.specs.declared.Record.the-variants.{Copy, Take, Put, Fill, Whole}
-use Rattle.judging.specs.Records.{stepNamed, placeOf, wholeClear, wholeRecordOk}
+use Rattle.judging.specs.Records.{stepNamed, stepPlace, wholeClear, wholeRecordOk}
 use Rattle.judging.specs.Judging.{placeNamed, decodedOkWith, decodedOk, decodedTypesWith, decodedTypes}
 use Rattle.judging.specs.Laws.Records.{whole-named}
 
@@ -28,8 +28,8 @@ pub record Placed (edition : ℕ) (st : Step) : Type 0 where
   pub views : ℕ
   pub ok : stepUnused st ≡ false → stepOk edition layouts views st ≡ true
 
-place-small : (steps k : ℕ) → steps ≤ stepPlaces → placeOf steps k < stepPlaces
-unfolding placeOf
+place-small : (steps k : ℕ) → steps ≤ stepPlaces → stepPlace steps k < stepPlaces
+unfolding stepPlace
 place-small steps k h =
     pick-case (λ (n : ℕ). n < stepPlaces) (ltb k steps) k 0 (λ e. omega (arith, ltb-true k steps e)) (λ e. omega arith)
 
@@ -67,7 +67,7 @@ whole-used edition steps ts len named k e = clear-used edition ts len named (bot
 -- with what stands at that place a record is in range exactly where it is with the sheet, and it leaves the same types
 module _ (sh : Sheet) (ts : List MatrixType) (len : ℕ) where
   ok-there : (d : Decoded) → decodedOkWith (sh .edition) (sh .steps) ts len (theStep (sh .step) (placeNamed (sh .steps) d)) d ≡ decodedOk sh ts len d
-  unfolding wholeRecordOk both placeOf pick
+  unfolding wholeRecordOk both stepPlace pick
   ok-there (Good (Copy register object)) = refl
   ok-there (Good (Take register first count byte up down)) = refl
   ok-there (Good (Put register first count byte up down)) = refl
@@ -76,7 +76,7 @@ module _ (sh : Sheet) (ts : List MatrixType) (len : ℕ) where
   ok-there Bad = refl
 
   types-there : (d : Decoded) → decodedOk sh ts len d ≡ true → decodedTypesWith ts (theStep (sh .step) (placeNamed (sh .steps) d)) d ≡ decodedTypes sh ts d
-  unfolding placeOf pick
+  unfolding stepPlace pick
   types-there (Good (Copy register object)) e = refl
   types-there (Good (Take register first count byte up down)) e = refl
   types-there (Good (Put register first count byte up down)) e = refl

@@ -5,7 +5,7 @@ use mathlib.Core.Bool.{true, true≢false}
 use mathlib.Core.List.{List}
 use borrow.Author.Tests.{eqb-true, ltb-true}
 use lib.ListN.{length, length-set}
-use Rattle.numbers.specs.Choice.{both-left, both-right}
+use Rattle.numbers.specs.Laws.Choice.{both-left, both-right}
 use Rattle.sheet.specs.Steps.{theStep}
 use Rattle.sheet.specs.declared.Sheet.{Sheet}
 use Rattle.sheet.specs.declared.Step.{Step}

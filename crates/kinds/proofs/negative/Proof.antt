@@ -1,5 +1,5 @@
 use borrow.Author.Needs.{needs}
-use Rattle.numbers.specs.Choice.{tests, stop, pass}
+use Rattle.numbers.specs.Laws.Choice.{tests, stop, pass}
 use Rattle.kinds.specs.Values.{negative}
 use Rattle.kinds.proofs.negative.Statement.{statement}
 use Rattle.kinds.proofs.negative.Tie as tie

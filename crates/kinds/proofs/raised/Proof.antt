@@ -1,5 +1,5 @@
 use borrow.Author.Needs.{needs}
-use Rattle.kinds.specs.Raised.{taken-le}
+use Rattle.kinds.specs.Laws.Raised.{taken-le}
 use Rattle.kinds.proofs.raised.Statement.{statement}
 use Rattle.kinds.proofs.raised.Tie as tie
 

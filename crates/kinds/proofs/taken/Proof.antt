@@ -1,6 +1,6 @@
 use mathlib.Core.Path.{refl}
 use borrow.Author.Needs.{needs}
-use Rattle.numbers.specs.Choice.{tests, taken as chosen, left}
+use Rattle.numbers.specs.Laws.Choice.{tests, taken as chosen, left}
 use Rattle.kinds.specs.Values.{taken}
 use Rattle.kinds.proofs.taken.Statement.{statement}
 use Rattle.kinds.proofs.taken.Tie as tie

@@ -2,18 +2,26 @@
 use mathlib.Core.Path.{_≡_, refl, sym, ap, ap₂, _∙_}
 use mathlib.Core.Logic.{_≢_}
 use mathlib.Core.List.{List}
-use Prim.Native.Nat.{ℕ, zero, suc, _+_, _*_, _<_, _≤_, _%_, _^_}
-use native.Mathlib.Nat.{mod-one, mul-le-mul-right}
+use Prim.Native.Nat.{ℕ, zero, suc, _+_, _*_, _<_, _≤_, _/_, _%_, _^_}
+use native.Mathlib.Nat.{mod-lt, mod-one, mul-le-mul-right}
 use native.Mathlib.Omega.{arith}
 use lib.ListN.{length, getD}
 use lib.Pow.{pow-add, mod-pow-add}
-use Rattle.numbers.specs.Lists.{line, length-line}
-use Rattle.numbers.specs.Lines.{line-outside, line-inside, lines-apart}
+use Rattle.numbers.specs.Lists.{line}
+use Rattle.numbers.specs.Laws.Lists.{length-line}
+use Rattle.numbers.specs.Laws.Lines.{line-outside, line-inside, lines-apart}
+use Rattle.numbers.specs.Bytes.{AreBytes}
+use Rattle.numbers.specs.Laws.Bytes.{line-bytes}
 use Rattle.memory.specs.Elements.{elementAt, byteOf, withElement}
 
 pub length-with : (memory : List ℕ) (byte size x : ℕ) → length (withElement memory byte size x) ≡ length memory
 unfolding withElement
 length-with memory byte size x = length-line memory byte (byteOf x) size
+
+-- what is written are bytes
+pub with-bytes : (memory : List ℕ) (byte size x : ℕ) → AreBytes memory → AreBytes (withElement memory byte size x)
+unfolding withElement
+with-bytes memory byte size x b = line-bytes memory byte (byteOf x) size b (λ i. mod-lt (x / 2 ^ (8 * i)) (omega arith))
 
 -- one more byte
 power-more : (n : ℕ) → 2 ^ (8 * suc n) ≡ 2 ^ 8 * 2 ^ (8 * n)

@@ -1,4 +1,5 @@
-use Rattle.numbers.specs.Choice.{between, ways}
+use Rattle.numbers.specs.Choice.{between}
+use Rattle.numbers.specs.Laws.Choice.{ways}
 use Rattle.numbers.proofs.between.Statement.{statement}
 use Rattle.numbers.proofs.between.Tie as tie
 

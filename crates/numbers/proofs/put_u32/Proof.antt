@@ -1,6 +1,6 @@
 use denote.Ref.{now}
 use Prim.Native.Nat.{_%_, _/_}
-use Rattle.numbers.specs.Lists.{puts-after}
+use Rattle.numbers.specs.Laws.Lists.{puts-after}
 use Rattle.numbers.specs.Little.{u16Bytes}
 use borrow.Author.Needs.{needs}
 use Rattle.numbers.proofs.put_u32.Statement.{statement}

@@ -3,7 +3,7 @@ use Prim.Native.Nat.{_≤_, _<_, _-_, _^_}
 use native.Mathlib.Nat.{mod-lt}
 use native.Mathlib.Omega.{arith}
 use borrow.Author.Needs.{needs}
-use Rattle.kinds.specs.Sums.{sum-fits, product-fits}
+use Rattle.kinds.specs.Laws.Sums.{sum-fits, product-fits}
 use Rattle.registers.specs.Laws.Grids.{row-fits}
 use Rattle.products.proofs.Multiplication.{dot-next}
 use Rattle.products.specs.Residues.{dotOf}

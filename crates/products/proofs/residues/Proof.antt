@@ -3,8 +3,9 @@ use Prim.Native.Nat.{ℕ, _≤_, _-_, _+_, _*_, _^_}
 use native.Mathlib.Omega.{arith}
 use lib.ListN.{getD}
 use borrow.Author.Needs.{needs}
-use Rattle.numbers.specs.Lines.{line-same}
-use Rattle.numbers.specs.Lists.{line, line-none, line-step}
+use Rattle.numbers.specs.Laws.Lines.{line-same}
+use Rattle.numbers.specs.Lists.{line}
+use Rattle.numbers.specs.Laws.Lists.{line-none, line-step}
 use Rattle.numbers.specs.Remainders.{remainder}
 use Rattle.kinds.specs.Values.{value}
 use Rattle.sheet.specs.Sizes.{matrixPlaces}

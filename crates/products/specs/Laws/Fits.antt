@@ -5,10 +5,10 @@ use mathlib.Core.List.{List}
 use Prim.Native.Nat.{ℕ, _^_, _<_}
 use native.Mathlib.Omega.{arith}
 use lib.IntN.{_+ℤ_}
-use Rattle.numbers.specs.Choice.{both-right}
+use Rattle.numbers.specs.Laws.Choice.{both-right}
 use Rattle.kinds.specs.Widths.{width}
-use Rattle.kinds.specs.Laws.{word-width}
-use Rattle.numbers.specs.Remainders.{remainder-lt}
+use Rattle.kinds.specs.Laws.Widths.{word-width}
+use Rattle.numbers.specs.Laws.Remainders.{remainder-lt}
 use Rattle.registers.specs.declared.MatrixType.{MatrixType}
 use Rattle.products.specs.Shapes.{multiplyAgrees}
 use Rattle.products.specs.Multiplying.{valueAt, productAt, multiplied}

@@ -4,7 +4,7 @@ use mathlib.Core.Bool.{true}
 use mathlib.Core.Logic.{⊎-elim}
 use native.Mathlib.Omega.{arith}
 use borrow.Author.Tests.{eqb-true}
-use Rattle.numbers.specs.Choice.{both-left, both-right, pick-inv}
+use Rattle.numbers.specs.Laws.Choice.{both-left, both-right, pick-inv}
 use Rattle.refusals.specs.Refusals.{emptyRegister, shapesDisagree}
 use Rattle.registers.specs.Laws.Types.{past-empty}
 use Rattle.registers.specs.declared.MatrixType.{MatrixType}

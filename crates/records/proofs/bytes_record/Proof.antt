@@ -1,7 +1,7 @@
 use mathlib.Core.Path.{refl}
-use Rattle.numbers.specs.Choice.{taken, left, went-not, went-past}
-use Rattle.records.specs.Records.{bytesOf}
-use Rattle.records.specs.Laws.{moved-within}
+use Rattle.numbers.specs.Laws.Choice.{taken, left, went-not, went-past}
+use Rattle.records.specs.Records.{movedOf}
+use Rattle.records.specs.Laws.Records.{moved-within}
 use Rattle.records.proofs.Laws.{bytes-register, bytes-count, bytes-step, elements-read, bytes-read}
 use native.Mathlib.Omega.{arith}
 use borrow.Author.Needs.{needs}
@@ -12,7 +12,7 @@ bytes-in-range-requires : tie.Need-bytes-in-range-requires
 bytes-in-range-requires c κs = search needs
 
 returns : tie.Need-returns
-unfolding bytesOf
+unfolding movedOf
 returns c = (left _ (went-not (c .before .bytes-in-range .ensures) (c .if1 .taken)) refl, tt)
 
 add-register-at : tie.Need-add-register-at
@@ -55,7 +55,7 @@ moved-requires : tie.Need-moved-requires
 moved-requires c κs = search needs
 
 returns-2 : tie.Need-returns-2
-unfolding bytesOf
+unfolding movedOf
 returns-2 c =
     let s = c .before .before .before .before .before .before .before in
     let ok = went-past (s .before .bytes-in-range .ensures) (s .if1 .left) in (

@@ -1,4 +1,4 @@
-use Rattle.numbers.specs.Choice.{tests, stop, pass}
+use Rattle.numbers.specs.Laws.Choice.{tests, stop, pass}
 use Rattle.records.specs.Records.{copyInRange}
 use borrow.Author.Needs.{needs}
 use Rattle.records.proofs.copy_in_range.Statement.{statement}

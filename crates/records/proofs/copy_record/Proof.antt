@@ -1,5 +1,5 @@
 use mathlib.Core.Path.{refl}
-use Rattle.numbers.specs.Choice.{taken, left, went-not, went-past}
+use Rattle.numbers.specs.Laws.Choice.{taken, left, went-not, went-past}
 use Rattle.records.specs.Records.{copyOf}
 use Rattle.records.proofs.Laws.{copy-register, copy-object}
 use native.Mathlib.Omega.{arith}

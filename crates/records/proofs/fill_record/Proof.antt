@@ -1,5 +1,5 @@
 use mathlib.Core.Path.{refl}
-use Rattle.numbers.specs.Choice.{taken, left, went-not, went-past}
+use Rattle.numbers.specs.Laws.Choice.{taken, left, went-not, went-past}
 use Rattle.records.specs.Records.{fillOf}
 use Rattle.records.proofs.Laws.{fill-register, fill-count, elements-read}
 use native.Mathlib.Omega.{arith}

@@ -1,5 +1,5 @@
 use mathlib.Core.Path.{subst}
-use Rattle.records.specs.Ranges.{Within}
+use Rattle.records.specs.Ranges.{InRange}
 use native.Mathlib.Omega.{arith}
 use borrow.Author.Needs.{needs}
 use Rattle.records.proofs.put_record.Statement.{statement}
@@ -21,25 +21,25 @@ enum-known-r-2 : tie.Need-enum-known-r-2
 enum-known-r-2 c = search needs
 
 put-bytes-requires : tie.Need-put-bytes-requires
-put-bytes-requires c κs = let h = subst Within (c .before .before .r2 .given .1) (c .before .before .before .before .pre .1) in (omega arith, (omega arith, h .0, h .1))
+put-bytes-requires c κs = let h = subst InRange (c .before .before .r2 .given .1) (c .before .before .before .before .pre .1) in (omega arith, (omega arith, h .0, h .1))
 
 enum-known-r-3 : tie.Need-enum-known-r-3
 enum-known-r-3 c = search needs
 
 put-bytes-requires-2 : tie.Need-put-bytes-requires-2
-put-bytes-requires-2 c κs = let h = subst Within (c .before .before .r3 .given .1) (c .before .before .before .before .pre .1) in (omega arith, (omega arith, h .0, h .1))
+put-bytes-requires-2 c κs = let h = subst InRange (c .before .before .r3 .given .1) (c .before .before .before .before .pre .1) in (omega arith, (omega arith, h .0, h .1))
 
 enum-known-r-4 : tie.Need-enum-known-r-4
 enum-known-r-4 c = search needs
 
 put-fill-requires : tie.Need-put-fill-requires
-put-fill-requires c κs = let h = subst Within (c .before .before .r4 .given .1) (c .before .before .before .before .pre .1) in (omega arith, h .0)
+put-fill-requires c κs = let h = subst InRange (c .before .before .r4 .given .1) (c .before .before .before .before .pre .1) in (omega arith, h .0)
 
 enum-known-r-5 : tie.Need-enum-known-r-5
 enum-known-r-5 c = search needs
 
 put-plain-requires-2 : tie.Need-put-plain-requires-2
-put-plain-requires-2 c κs = let h = subst Within (c .before .before .r5 .given .1) (c .before .before .before .before .pre .1) in (omega arith, (omega arith, h, omega arith))
+put-plain-requires-2 c κs = let h = subst InRange (c .before .before .r5 .given .1) (c .before .before .before .before .pre .1) in (omega arith, (omega arith, h, omega arith))
 
 same-length : tie.Need-same-length
 same-length c = search needs

@@ -1,5 +1,5 @@
 use mathlib.Core.Path.{refl}
-use Rattle.numbers.specs.Choice.{tests, taken, left}
+use Rattle.numbers.specs.Laws.Choice.{tests, taken, left}
 use Rattle.records.specs.Records.{recordOf}
 use borrow.Author.Needs.{needs}
 use Rattle.records.proofs.read_record.Statement.{statement}

@@ -1,6 +1,6 @@
 use mathlib.Core.Path.{refl, ap}
 use borrow.Author.Tests.{lt-leb, le-leb}
-use Rattle.numbers.specs.Choice.{stop, pass}
+use Rattle.numbers.specs.Laws.Choice.{stop, pass}
 use Rattle.sheet.specs.Laws.Editions.{limits-records}
 use Rattle.sheet.specs.declared.editions.SizeLimits.{SizeLimits}
 use Rattle.records.specs.Room.{recordsFit}

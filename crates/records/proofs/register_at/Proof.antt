@@ -1,6 +1,6 @@
 use Prim.Native.Nat.{_≤_, _-_}
 use Rattle.sheet.specs.Sizes.{registerCount}
-use Rattle.signed.specs.Laws.{spans-rise}
+use Rattle.signed.specs.Laws.Numbers.{spans-rise}
 use native.Mathlib.Omega.{arith}
 use borrow.Author.Needs.{needs}
 use Rattle.records.proofs.register_at.Statement.{statement}

@@ -1,5 +1,5 @@
 use mathlib.Core.Path.{refl}
-use Rattle.numbers.specs.Choice.{taken, left, went-not, went-past}
+use Rattle.numbers.specs.Laws.Choice.{taken, left, went-not, went-past}
 use Rattle.records.specs.Records.{wholeOf}
 use borrow.Author.Needs.{needs}
 use Rattle.records.proofs.whole_record.Statement.{statement}

@@ -4,7 +4,7 @@ use mathlib.Core.Bool.{true}
 use mathlib.Core.Logic.{⊎-elim}
 use Prim.Native.Nat.{ℕ, _<_}
 use native.Mathlib.Omega.{arith}
-use Rattle.numbers.specs.Choice.{pick-inv}
+use Rattle.numbers.specs.Laws.Choice.{pick-inv}
 use Rattle.refusals.specs.Refusals.{emptyRegister, shapesDisagree}
 use Rattle.sheet.specs.declared.ReduceMode.{ReduceMode}
 use Rattle.registers.specs.Laws.Types.{past-empty}

@@ -2,8 +2,9 @@ use mathlib.Core.Path.{_≡_, sym}
 use Prim.Native.Nat.{_≤_, _-_}
 use native.Mathlib.Omega.{arith}
 use borrow.Author.Needs.{needs}
-use Rattle.numbers.specs.Lines.{line-next}
-use Rattle.numbers.specs.Lists.{line, line-none}
+use Rattle.numbers.specs.Laws.Lines.{line-next}
+use Rattle.numbers.specs.Lists.{line}
+use Rattle.numbers.specs.Laws.Lists.{line-none}
 use Rattle.sheet.specs.Sizes.{matrixPlaces}
 use Rattle.registers.specs.Registers.{elementOf}
 use Rattle.registers.proofs.Laws.{unwritten}

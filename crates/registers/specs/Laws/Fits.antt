@@ -7,7 +7,8 @@ use native.Mathlib.Omega.{arith}
 use lib.ListN.{length, getD, replicate}
 use lib.Seq.{getD-set-same, getD-set-other}
 use Rattle.numbers.specs.Lists.{line}
-use Rattle.numbers.specs.Places.{by-place, none-all}
+use Rattle.numbers.specs.Laws.Choice.{by-place}
+use Rattle.numbers.specs.Laws.Places.{none-all}
 use Rattle.kinds.specs.Widths.{width}
 use Rattle.sheet.specs.Sizes.{registerCount, matrixPlaces, elementPlaces}
 use Rattle.registers.specs.Types.{noType, theType, withType}
@@ -43,10 +44,10 @@ fit-block t f s h =
     }
 
 module _ (ts : List MatrixType) (es : List ℕ) (r : ℕ) (t : MatrixType) where
-  -- a register given a type, and places that fit it
-  pub fit-written : (g : ℕ → ℕ) → length ts ≡ registerCount → length es ≡ elementPlaces → r < registerCount → Sized ts → SizedType t → Fit ts es
+  -- a register given a type, and places that fit it; past the last register nothing is written
+  pub fit-written : (g : ℕ → ℕ) → length ts ≡ registerCount → length es ≡ elementPlaces → Sized ts → SizedType t → Fit ts es
       → FitMatrix t g → Fit (withType ts r t) (line es (placeOf r 0) g matrixPlaces)
-  fit-written g p q l z s w f =
+  fit-written g p q z s w f =
       record {
         each =
             λ k m.
@@ -56,9 +57,9 @@ module _ (ts : List MatrixType) (es : List ℕ) (r : ℕ) (t : MatrixType) where
       }
 
   -- a register made a matrix of elements that fit
-  pub fit-made : (f : ℕ → ℕ → ℕ) → length ts ≡ registerCount → length es ≡ elementPlaces → r < registerCount → Sized ts → SizedType t → Fit ts es
+  pub fit-made : (f : ℕ → ℕ → ℕ) → length ts ≡ registerCount → length es ≡ elementPlaces → Sized ts → SizedType t → Fit ts es
       → ((i j : ℕ) → i < t .rows → j < t .columns → f i j < 2 ^ width (t .kind)) → Fit (withType ts r t) (withBlock es r (block (t .rows) (t .columns) f))
-  fit-made f p q l z s w h = fit-written (λ (e : ℕ). getD (block (t .rows) (t .columns) f) e 0) p q l z s w (fit-block t f s h)
+  fit-made f p q z s w h = fit-written (λ (e : ℕ). getD (block (t .rows) (t .columns) f) e 0) p q z s w (fit-block t f s h)
 
 -- an element of a register's matrix put
 module _ (ts : List MatrixType) (es : List ℕ) (r e x : ℕ) (z : Sized ts) (at : placeOf r e < length es) (l : e < theType ts r .rows * theType ts r .columns) (h : x < 2 ^ width (theType ts r .kind)) (w : Fit ts es) where
@@ -88,9 +89,9 @@ module _ (ts : List MatrixType) (es : List ℕ) (r e x : ℕ) (z : Sized ts) (at
   fit-put = record { each = λ k m. record { inside = put-inside k m; past = put-past k m } }
 
 -- a register made equal to another
-pub fit-copied : (ts : List MatrixType) (es : List ℕ) (r s : ℕ) → length ts ≡ registerCount → length es ≡ elementPlaces → r < registerCount → s < registerCount
+pub fit-copied : (ts : List MatrixType) (es : List ℕ) (r s : ℕ) → length ts ≡ registerCount → length es ≡ elementPlaces → s < registerCount
     → Sized ts → Fit ts es → Fit (withType ts r (theType ts s)) (copiedElements es r s)
-fit-copied ts es r s p q l m z w = fit-written ts es r (theType ts s) (elementOf es s) p q l z (z .each s) w (w .each s m)
+fit-copied ts es r s p q m z w = fit-written ts es r (theType ts s) (elementOf es s) p q z (z .each s) w (w .each s m)
 
 -- the places of empty registers are 0
 pub fit-empty : Fit (emptyRegisters .types) (emptyRegisters .elements)

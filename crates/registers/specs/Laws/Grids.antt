@@ -6,9 +6,10 @@ use native.Mathlib.Nat.{mul-le-mul-right, mul-add-div-right, mul-add-mod-self-ri
 use native.Mathlib.Numerals.{add-one}
 use native.Mathlib.Omega.{arith}
 use lib.ListN.{getD}
-use Rattle.numbers.specs.Lists.{line, line-none}
-use Rattle.numbers.specs.Lines.{line-same, line-joined}
-use Rattle.numbers.specs.Places.{places-given, places-past}
+use Rattle.numbers.specs.Lists.{line}
+use Rattle.numbers.specs.Laws.Lists.{line-none}
+use Rattle.numbers.specs.Laws.Lines.{line-same, line-joined}
+use Rattle.numbers.specs.Laws.Places.{places-given, places-past}
 use Rattle.sheet.specs.Sizes.{sidePlaces, matrixPlaces}
 use Rattle.registers.specs.Laws.Sized.{sides}
 use Rattle.registers.specs.Grids.{numbered, blank, block}

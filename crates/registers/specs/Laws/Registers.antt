@@ -6,7 +6,7 @@ use Prim.Native.Nat.{ℕ, _+_, _<_, _≤_}
 use native.Mathlib.Omega.{arith}
 use lib.ListN.{length}
 use Rattle.numbers.specs.Lists.{line}
-use Rattle.numbers.specs.Lines.{line-inside, line-outside}
+use Rattle.numbers.specs.Laws.Lines.{line-inside, line-outside}
 use Rattle.sheet.specs.Sizes.{matrixPlaces}
 use Rattle.registers.specs.Registers.{placeOf, elementOf}
 

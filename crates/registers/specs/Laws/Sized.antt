@@ -4,7 +4,7 @@ use mathlib.Core.List.{List, [], _∷_}
 use Prim.Native.Nat.{ℕ, zero, suc, _*_, _≤_}
 use native.Mathlib.Nat.{mul-le-mul}
 use native.Mathlib.Omega.{arith}
-use Rattle.numbers.specs.Places.{none-all}
+use Rattle.numbers.specs.Laws.Places.{none-all}
 use Rattle.sheet.specs.Sizes.{registerCount, sidePlaces, matrixPlaces}
 use Rattle.registers.specs.Types.{noType, theType, withType}
 use Rattle.registers.specs.Registers.{emptyRegisters}

@@ -1,5 +1,5 @@
--- The numbers by which a sheet names a clamp mode, a reduce mode, a combine, an object, a view and has-dimensions: from the name and back,
--- and from the number and back.
+-- The numbers by which a sheet names a clamp mode, a reduce mode, a combine, a memory layout, a flag, an object and a view: from the name
+-- and back, and from the number and back.
 use Prim.Native.Nat.{ℕ, zero, suc, _+_, _<_, _≤_}
 use mathlib.Core.Path.{_≡_, refl}
 use mathlib.Core.Bool.{Bool, true, false}
@@ -7,9 +7,9 @@ use native.Mathlib.Omega.{arith}
 use borrow.Author.Tests.{ltb-true, ne-eqb}
 use lib.Dec.{eqb}
 use Rattle.numbers.specs.Choice.{pick}
-use Rattle.numbers.specs.Places.{by-place}
+use Rattle.numbers.specs.Laws.Choice.{by-place}
 use Rattle.sheet.specs.Sizes.{viewPlaces}
-use Rattle.sheet.specs.Codes.{clampCode, clampMode, reduceCode, reduceMode, combineCode, combineOf, none, objectCode, objectOf, viewingCode, viewingOf}
+use Rattle.sheet.specs.Codes.{clampCode, clampMode, reduceCode, reduceMode, combineCode, combineOf, memoryLayoutCode, memoryLayout, flagCode, none, objectCode, objectOf, viewingCode, viewingOf}
 use Rattle.sheet.specs.Steps.{objectOk, viewingOk}
 use Rattle.sheet.specs.declared.ClampMode.{ClampMode}
 use Rattle.sheet.specs.declared.ClampMode.the-variants.{Undefined, Constant, ClampToEdge, Repeat, MirrorRepeat}
@@ -17,11 +17,12 @@ use Rattle.sheet.specs.declared.ReduceMode.{ReduceMode}
 use Rattle.sheet.specs.declared.ReduceMode.the-variants.{Row, Column, Both, TwoByTwo}
 use Rattle.sheet.specs.declared.Combine.{Combine}
 use Rattle.sheet.specs.declared.Combine.the-variants.{Add, Min, Max, And, Or, Xor}
+use Rattle.sheet.specs.declared.MemoryLayout.{MemoryLayout}
+use Rattle.sheet.specs.declared.MemoryLayout.the-variants.{RowMajor, ColumnMajor}
 use Rattle.sheet.specs.declared.Object.{Object}
 use Rattle.sheet.specs.declared.Object.the-variants.{Kept, Register}
 use Rattle.sheet.specs.declared.Viewing.{Viewing}
 use Rattle.sheet.specs.declared.Viewing.the-variants.{Plain, Through}
-use Rattle.sheet_bytes.specs.Bytes.{flagCode}
 
 -- P of each of the n numbers from low on
 abbrev pub Each : (ℕ → Type 0) → ℕ → ℕ → Type 0
@@ -93,6 +94,34 @@ unfolding combineOf pick
 combine-code-of x h =
     one-of (λ (x : ℕ). combineCode (combineOf x) ≡ x) 0 6 (refl, (refl, (refl, (refl, (refl, (refl, tt)))))) x (omega arith) (omega arith)
 
+pub memory-layout-of : (l : MemoryLayout) → memoryLayout (memoryLayoutCode l) ≡ l
+unfolding memoryLayout pick
+memory-layout-of RowMajor = refl
+memory-layout-of ColumnMajor = refl
+
+pub memory-layout-code-small : (l : MemoryLayout) → memoryLayoutCode l ≤ 1
+memory-layout-code-small RowMajor = omega arith
+memory-layout-code-small ColumnMajor = omega arith
+
+pub memory-layout-code-of : (x : ℕ) → x ≤ 1 → memoryLayoutCode (memoryLayout x) ≡ x
+unfolding memoryLayout pick
+memory-layout-code-of x h =
+    one-of (λ (x : ℕ). memoryLayoutCode (memoryLayout x) ≡ x) 0 2 (refl, (refl, tt)) x (omega arith) (omega arith)
+
+pub flag-of : (b : Bool) → eqb (flagCode b) 1 ≡ b
+unfolding flagCode pick
+flag-of true = refl
+flag-of false = refl
+
+pub flag-code-small : (b : Bool) → flagCode b ≤ 1
+unfolding flagCode pick
+flag-code-small true = omega arith
+flag-code-small false = omega arith
+
+pub flag-code-of : (x : ℕ) → x ≤ 1 → flagCode (eqb x 1) ≡ x
+unfolding flagCode pick
+flag-code-of x h = one-of (λ (x : ℕ). flagCode (eqb x 1) ≡ x) 0 2 (refl, (refl, tt)) x (omega arith) (omega arith)
+
 -- no register and no view has the number that stands for none
 pub object-of : (o : Object) → objectOk o ≡ true → objectOf (objectCode o) ≡ o
 unfolding objectOf pick
@@ -120,17 +149,3 @@ module _ (views : ℕ) (few : views ≤ viewPlaces) where
 pub viewing-code-of : (x : ℕ) → viewingCode (viewingOf x) ≡ x
 unfolding viewingOf pick
 viewing-code-of x = by-place x none (λ q. rw q) (λ q. rw (ne-eqb x none q))
-
-pub flag-of : (b : Bool) → eqb (flagCode b) 1 ≡ b
-unfolding flagCode pick
-flag-of true = refl
-flag-of false = refl
-
-pub flag-code-small : (b : Bool) → flagCode b ≤ 1
-unfolding flagCode pick
-flag-code-small true = omega arith
-flag-code-small false = omega arith
-
-pub flag-code-of : (x : ℕ) → x ≤ 1 → flagCode (eqb x 1) ≡ x
-unfolding flagCode pick
-flag-code-of x h = one-of (λ (x : ℕ). flagCode (eqb x 1) ≡ x) 0 2 (refl, (refl, tt)) x (omega arith) (omega arith)

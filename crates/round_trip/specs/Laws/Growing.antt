@@ -8,12 +8,14 @@ use native.Mathlib.Nat.{add-zero}
 use native.Mathlib.Omega.{arith}
 use borrow.Author.Tests.{eqb-true, le-ltb}
 use lib.ListN.{length, getD, length-append, getD-replicate}
-use Rattle.numbers.specs.Choice.{pick, both-left, both-right}
+use Rattle.numbers.specs.Choice.{pick}
+use Rattle.numbers.specs.Laws.Choice.{both-left, both-right}
 use Rattle.numbers.specs.Lists.{each}
-use Rattle.numbers.specs.Places.{none-all, set-keeps}
+use Rattle.numbers.specs.Laws.Places.{none-all, set-keeps}
+use Rattle.numbers.specs.Bytes.{AreBytes}
 use Rattle.refusals.specs.Refusals.{outOfOrder, unknownEdition}
 use Rattle.sheet.specs.Sizes.{rankPlaces, layoutPlaces, viewPlaces, stepPlaces}
-use Rattle.sheet.specs.Codes.{editionTag, layoutTag, viewTag, fillTag, multiplyTag}
+use Rattle.sheet.specs.Codes.{editionTag, layoutTag, viewTag, fillTag, lastStepTag}
 use Rattle.sheet.specs.Layouts.{noDimension, noLayout, theLayout}
 use Rattle.sheet.specs.Views.{noViewDimension, noClip, noView, theView}
 use Rattle.sheet.specs.Steps.{noCell}
@@ -34,7 +36,7 @@ use Rattle.sheet_bytes.specs.Bytes.{fieldBytes, layoutBytes, viewBytes}
 use Rattle.sheet_bytes.specs.Laws.Lengths.{length-field}
 use Rattle.step_bytes.specs.Bytes.{stepTag, stepBytes}
 use Rattle.sheet_writer.specs.Bytes.{sheetBytes}
-use Rattle.round_trip.specs.Typed.{AreBytes, U16, DimensionFits, ClipFits, LayoutArrays, LayoutFits, ViewArrays, ViewFits, StepFits, SheetFits}
+use Rattle.round_trip.specs.Typed.{U16, DimensionFits, ClipFits, LayoutArrays, LayoutFits, ViewArrays, ViewFits, StepFits, SheetFits}
 use Rattle.round_trip.specs.Longest.{longest}
 use Rattle.round_trip.specs.Laws.Stretches.{Has, has-at, has-back, has-join, low-at, high-at}
 use Rattle.round_trip.specs.Laws.Layouts.{layout-at-shaped, layout-at-long, has-layout, layout-at-fits}
@@ -150,7 +152,7 @@ module _ (s : List ℕ) (at : ℕ) (sh : Sheet) (g : GrownFrom s at sh) (inside 
         stands = stands-more s at sh sh′ viewTag (viewBytes v) g more long t (has-view s (at + 3) len (taken .head));
       }
 
-  step-from : (taken : StepTaken s (at + 3) (lengthAt s at) (givenOf sh) (tagAt s at)) → fillTag ≤ tagAt s at → tagAt s at ≤ multiplyTag → GrownFrom s (nextAt s at) (withStep sh (stepAt s (tagAt s at) (at + 3)))
+  step-from : (taken : StepTaken s (at + 3) (lengthAt s at) (givenOf sh) (tagAt s at)) → fillTag ≤ tagAt s at → tagAt s at ≤ lastStepTag → GrownFrom s (nextAt s at) (withStep sh (stepAt s (tagAt s at) (at + 3)))
   step-from taken low high =
       let st = stepAt s (tagAt s at) (at + 3) in
       let sh′ = withStep sh st in

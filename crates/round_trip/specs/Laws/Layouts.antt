@@ -7,10 +7,11 @@ use native.Mathlib.Nat.{add-zero}
 use native.Mathlib.Omega.{arith}
 use borrow.Author.Tests.{eqb-true, leb-true, le-leb, eq-eqb}
 use lib.ListN.{length, getD, replicate}
-use Rattle.numbers.specs.Choice.{both-left, both-right, both-true, between-low, between-true}
+use Rattle.numbers.specs.Laws.Choice.{both-left, both-right, both-true, between-low, between-true}
 use Rattle.numbers.specs.Little.{u16At, u32At}
 use Rattle.numbers.specs.Lists.{each, line}
-use Rattle.numbers.specs.Places.{places-given, places-past, places-count, places-are, places-all, Held, held}
+use Rattle.numbers.specs.Laws.Places.{places-given, places-past, places-count, places-are, places-all, Held, held}
+use Rattle.numbers.specs.Bytes.{AreBytes}
 use Rattle.sheet.specs.Sizes.{rankPlaces}
 use Rattle.sheet.specs.Codes.{clampMode, clampCode, undefined}
 use Rattle.sheet.specs.Layouts.{noDimension, noLayout, theDimension, dimensionOk, dimensionUnused, dimensionAtOk, dimensionsOk, layoutOk, layoutUnused}
@@ -25,7 +26,7 @@ use Rattle.sheet_bytes.specs.Bytes.{dimensionBytes, dimensionsBytes, layoutByte
 use Rattle.sheet_bytes.specs.Laws.Lengths.{length-dimension, length-layout}
 use Rattle.round_trip.specs.Laws.Stretches.{Has, has-shift, has-back, has-rows-at, has-rows, u16-of, u32-of, low-at, high-at, u16-below, u32-below, has-u32}
 use Rattle.round_trip.specs.Laws.Codes.{clamp-mode-of, clamp-code-small, clamp-code-of}
-use Rattle.round_trip.specs.Typed.{AreBytes, DimensionFits, LayoutFits, LayoutArrays}
+use Rattle.round_trip.specs.Typed.{DimensionFits, LayoutFits, LayoutArrays}
 
 pub dimension-of : (s : List ℕ) (p : ℕ) (d : Dimension) → Has s p 0 (dimensionBytes d) → dimensionAt s p ≡ d
 unfolding dimensionAt dimensionBytes

@@ -10,12 +10,13 @@ use lib.Dec.{eqb}
 use lib.ListN.{length, getD}
 use Rattle.numbers.specs.Choice.{pick}
 use Rattle.numbers.specs.Little.{u16At, u32At}
+use Rattle.numbers.specs.Bytes.{AreBytes}
 use Rattle.sheet.specs.Sheets.{emptySheet}
 use Rattle.sheet.specs.declared.Sheet.{Sheet}
 use Rattle.fields.specs.Fields.{fieldAt}
 use Rattle.fields.specs.declared.Cursor.{Cursor}
 use Rattle.fields.specs.declared.Field.the-variants.{Whole}
-use Rattle.contents.specs.Contents.{layoutAt, layoutHeadOk, viewAt, viewHeadOk, fillAt, windowAt, loadAt, storeAt, reduceAt, transposeAt, multiplyAt, stepAt}
+use Rattle.contents.specs.Contents.{layoutAt, layoutHeadOk, viewAt, viewHeadOk, fillAt, windowAt, loadAt, storeAt, reduceAt, transposeAt, multiplyAt, vectorNumbers, vectorAt, stepAt}
 use Rattle.sheet_reader.specs.Reading.{givenOf, editionRefusal, layoutRefusal, viewRefusal, stepRefusal, fieldRefusal, withEdition, withField, refusedRead, Turn, over, on, turnField, turn, afterTurn, readFrom, readSheet}
 use Rattle.sheet_reader.specs.Laws.Taken.{Took, edition, layout, view, step, took}
 use Rattle.sheet_reader.specs.Laws.Turns.{with-edition, with-layout, with-view, with-step}
@@ -23,7 +24,6 @@ use Rattle.sheet_reader.specs.Laws.Ways.{tagAt, lengthAt, nextAt, Goes, Ways, t
 use Rattle.sheet_reader.specs.declared.Given.{Given}
 use Rattle.sheet_reader.specs.declared.ReadAnswer.{ReadAnswer}
 use Rattle.sheet_bytes.specs.Bytes.{layoutBytes, viewBytes}
-use Rattle.round_trip.specs.Typed.{AreBytes}
 use Rattle.round_trip.specs.Longest.{longest, enough}
 use Rattle.round_trip.specs.Laws.Stretches.{has-same, u16-below}
 use Rattle.round_trip.specs.Laws.Layouts.{layout-at-shaped, layout-at-long, layout-of, has-layout}
@@ -44,9 +44,13 @@ ways-on s P R at sh w = record { refused = w .refused; ended = w .ended; taken =
 module _ (s t : List ℕ) (bs : AreBytes s) (bt : AreBytes t) (same : (i : ℕ) → i < enough → getD s i 0 ≡ getD t i 0) where
   -- the content of a field
   module _ (p : ℕ) (small : p ≤ longest + 3) (len : ℕ) (short : len ≤ 65535) where
-    u32-same : (q : ℕ) → q ≤ p + 4 → u32At s q ≡ u32At t q
-    unfolding u32At u16At
-    u32-same q h = rw (same q (omega arith), same (q + 1) (omega arith), same (q + 2) (omega arith), same (q + 2 + 1) (omega arith))
+    u16-same : (q : ℕ) → q ≤ p + 17 → u16At s q ≡ u16At t q
+    unfolding u16At
+    u16-same q h = rw (same q (omega arith), same (q + 1) (omega arith))
+
+    u32-same : (q : ℕ) → q ≤ p + 15 → u32At s q ≡ u32At t q
+    unfolding u32At
+    u32-same q h = rw (u16-same q (omega arith), u16-same (q + 2) (omega arith))
 
     layout-head-same : layoutHeadOk s p len ≡ layoutHeadOk t p len
     unfolding layoutHeadOk
@@ -73,7 +77,7 @@ module _ (s t : List ℕ) (bs : AreBytes s) (bt : AreBytes t) (same : (i : ℕ) 
     window-same q h = rw (same q (omega arith), same (q + 1) (omega arith), u32-same (q + 2) (omega arith))
 
     step-at-same : (tag : ℕ) → stepAt s tag p ≡ stepAt t tag p
-    unfolding stepAt fillAt loadAt storeAt reduceAt transposeAt multiplyAt
+    unfolding stepAt fillAt loadAt storeAt reduceAt transposeAt multiplyAt vectorAt vectorNumbers
     step-at-same tag =
         rw (
           same p (omega arith),
@@ -82,7 +86,13 @@ module _ (s t : List ℕ) (bs : AreBytes s) (bt : AreBytes t) (same : (i : ℕ) 
           same (p + 3) (omega arith),
           same (p + 4) (omega arith),
           same (p + 5) (omega arith),
+          same (p + 6) (omega arith),
+          same (p + 7) (omega arith),
+          same (p + 14) (omega arith),
+          u16-same (p + 8) (omega arith),
           u32-same (p + 4) (omega arith),
+          u32-same (p + 10) (omega arith),
+          u32-same (p + 15) (omega arith),
           window-same (p + 1) (omega arith),
           window-same (p + 2) (omega arith),
         )

@@ -10,9 +10,10 @@ use borrow.Author.Tests.{lt-ltb, le-ltb, le-leb, eq-eqb}
 use lib.ListN.{length, getD, replicate, length-append}
 use Rattle.numbers.specs.Choice.{pick, both}
 use Rattle.numbers.specs.Little.{u16At}
-use Rattle.numbers.specs.Lists.{line, each, line-next}
-use Rattle.numbers.specs.Joins.{each-long}
-use Rattle.numbers.specs.Places.{places-are}
+use Rattle.numbers.specs.Lists.{line, each}
+use Rattle.numbers.specs.Laws.Lists.{line-next}
+use Rattle.numbers.specs.Laws.Joins.{each-long}
+use Rattle.numbers.specs.Laws.Places.{places-are}
 use Rattle.sheet.specs.Sizes.{layoutPlaces, viewPlaces, stepPlaces}
 use Rattle.sheet.specs.Editions.{limits}
 use Rattle.sheet.specs.Codes.{editionTag, layoutTag, viewTag}
@@ -38,7 +39,7 @@ use Rattle.round_trip.specs.Typed.{LayoutArrays, ViewArrays, SheetArrays
 use Rattle.round_trip.specs.Laws.Stretches.{Has, has-at, has-shift, has-left, has-right, has-self, u16-of}
 use Rattle.round_trip.specs.Laws.Layouts.{layout-shaped, layout-of, layout-length-ok, layout-head-ok, no-layout}
 use Rattle.round_trip.specs.Laws.Views.{view-shaped, view-of, view-length-ok, view-head-ok, no-view}
-use Rattle.round_trip.specs.Laws.Steps.{step-of, step-long, tag-range, tag-judged, no-step}
+use Rattle.round_trip.specs.Laws.Steps.{step-of, step-long, tag-range, tag-known, tag-judged, no-step}
 
 -- a field with this content from p on is not refused, and takes one sheet to the other
 record Takes (s : List ℕ) (tag p len : ℕ) (sh sh′ : Sheet) : Type 0 where
@@ -113,8 +114,9 @@ module _ (s : List ℕ) (p : ℕ) (sh : Sheet) where
   step-judged : sh .tensors .views ≤ viewPlaces → (st : Step) → stepOk (sh .edition) (sh .tensors .layouts) (sh .tensors .views) st ≡ true → stepMayCome (givenOf sh) ≡ true → Has s p 0 (stepBytes (sh .edition) st) → stepRefusal s (stepTag st) p (length (stepBytes (sh .edition) st)) (givenOf sh) ≡ 0
   unfolding stepRefusal pick
   step-judged few st ok may h =
+      let k = tag-known (sh .edition) (sh .tensors .layouts) (sh .tensors .views) st ok in
       let n = step-long (sh .edition) (sh .tensors .layouts) (sh .tensors .views) st ok in
-      rw (may, n, eq-eqb (stepLength (sh .edition) (stepTag st)) _ refl, step-of s p (sh .edition) (sh .tensors .layouts) (sh .tensors .views) few st ok h, ok)
+      rw (k, may, n, eq-eqb (stepLength (sh .edition) (stepTag st)) _ refl, step-of s p (sh .edition) (sh .tensors .layouts) (sh .tensors .views) few st ok h, ok)
 
   step-taken : sh .tensors .views ≤ viewPlaces → (st : Step) → stepOk (sh .edition) (sh .tensors .layouts) (sh .tensors .views) st ≡ true → stepMayCome (givenOf sh) ≡ true → Has s p 0 (stepBytes (sh .edition) st) → Takes s (stepTag st) p (length (stepBytes (sh .edition) st)) sh (withStep sh st)
   step-taken few st ok may h =

@@ -4,8 +4,9 @@ use mathlib.Core.Path.{_≡_, sym, ap, _∙_}
 use mathlib.Core.List.{List, [], _++_, append-assoc, append-nil}
 use native.Mathlib.Omega.{arith}
 use lib.ListN.{length}
-use Rattle.numbers.specs.Lists.{each, each-none}
-use Rattle.numbers.specs.Joins.{each-set, each-short}
+use Rattle.numbers.specs.Lists.{each}
+use Rattle.numbers.specs.Laws.Lists.{each-none}
+use Rattle.numbers.specs.Laws.Joins.{each-set, each-short}
 use Rattle.sheet.specs.Codes.{layoutTag, viewTag}
 use Rattle.sheet.specs.Layouts.{theLayout}
 use Rattle.sheet.specs.Views.{theView}

@@ -5,13 +5,15 @@ use mathlib.Core.List.{List, [], _∷_, _++_}
 use native.Mathlib.Nat.{zero-add, add-zero, add-assoc, add-comm, not-suc-le-zero, div-add-mod'}
 use native.Mathlib.Numerals.{add-one}
 use native.Mathlib.Omega.{arith}
-use lib.ListN.{length, getD, List·getD-eq-default}
+use lib.ListN.{length, getD}
 use lib.Seq.{ext-getD}
 use Rattle.numbers.specs.Little.{u16At, u32At, u16Bytes, u32Bytes}
 use Rattle.numbers.specs.Lists.{each}
-use Rattle.numbers.specs.Joins.{length-each}
-use Rattle.numbers.specs.Places.{by-place, by-order}
-use Rattle.round_trip.specs.Typed.{AreBytes, U16, U32}
+use Rattle.numbers.specs.Laws.Joins.{length-each}
+use Rattle.numbers.specs.Laws.Choice.{by-place}
+use Rattle.numbers.specs.Bytes.{AreBytes}
+use Rattle.numbers.specs.Laws.Bytes.{byte-at}
+use Rattle.round_trip.specs.Typed.{U16, U32}
 
 -- the bytes bs stand in s from p + i on
 abbrev pub Has : List ℕ → ℕ → ℕ → List ℕ → Type 0
@@ -37,7 +39,7 @@ module _ (s : List ℕ) (p : ℕ) where
       let e : i + suc (length a) ≡ i + 1 + length a = omega arith in
       rw e (has-rest (i + 1) a b (h .1))
 
-  has-append : (i : ℕ) (a b : List ℕ) → Has s p i a → Has s p (i + length a) b → Has s p i (a ++ b)
+  pub has-append : (i : ℕ) (a b : List ℕ) → Has s p i a → Has s p (i + length a) b → Has s p i (a ++ b)
   has-append i [] b h g = rw add-zero at g
   has-append i (x ∷ a) b h g =
       let e : i + suc (length a) ≡ i + 1 + length a = omega arith in
@@ -116,20 +118,17 @@ u32-of s p i x bs h =
 
 -- the bytes of a number that was read
 module _ (s : List ℕ) (b : AreBytes s) where
-  pub byte-at : (i : ℕ) → getD s i 0 < 256
-  byte-at i = by-order i (length s) (b i) (λ h. rw (List·getD-eq-default s 0 h) (omega arith))
-
   pub low-at : (p i : ℕ) → getD s (p + i) 0 ≡ u16At s (p + i) % 256
   unfolding u16At
-  low-at p i = omega (arith, byte-at (p + i))
+  low-at p i = omega (arith, byte-at s b (p + i))
 
   pub high-at : (p i : ℕ) → getD s (p + (i + 1)) 0 ≡ u16At s (p + i) / 256
   unfolding u16At
-  high-at p i = rw (← add-assoc p i 1) (omega (arith, byte-at (p + i)))
+  high-at p i = rw (← add-assoc p i 1) (omega (arith, byte-at s b (p + i)))
 
   pub u16-below : (p : ℕ) → U16 (u16At s p)
   unfolding u16At
-  u16-below p = omega (arith, byte-at p, byte-at (p + 1))
+  u16-below p = omega (arith, byte-at s b p, byte-at s b (p + 1))
 
   pub u32-below : (p : ℕ) → U32 (u32At s p)
   unfolding u32At

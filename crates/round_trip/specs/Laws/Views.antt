@@ -7,12 +7,15 @@ use native.Mathlib.Nat.{add-zero}
 use native.Mathlib.Omega.{arith}
 use borrow.Author.Tests.{eqb-true, leb-true, le-leb, le-ltb, eq-eqb, not-true}
 use lib.ListN.{length, getD, length-append}
-use Rattle.numbers.specs.Choice.{pick, both, between, both-left, both-right, both-true, between-low, between-true}
-use Rattle.numbers.specs.All.{all-at}
+use Rattle.numbers.specs.Choice.{pick, both, between}
+use Rattle.numbers.specs.Laws.Choice.{both-left, both-right, both-true, between-low, between-true}
+use Rattle.numbers.specs.Laws.All.{all-at}
 use Rattle.numbers.specs.Little.{u16At, u16Bytes}
 use Rattle.numbers.specs.Lists.{line}
-use Rattle.numbers.specs.Places.{places-given, places-past, places-count, places-are, places-all, Held, held}
+use Rattle.numbers.specs.Laws.Places.{places-given, places-past, places-count, places-are, places-all, Held, held}
+use Rattle.numbers.specs.Bytes.{AreBytes}
 use Rattle.sheet.specs.Sizes.{rankPlaces, sizeOk}
+use Rattle.sheet.specs.Codes.{flagCode}
 use Rattle.sheet.specs.Views.{noViewDimension, noClip, noView, theViewDimension, entryOk, permutationOk, viewDimensionUnused, viewDimensionAtOk, viewDimensionsOk, sizedRank, viewOk, clipUnused, viewUnused}
 use Rattle.sheet.specs.Laws.Facts.{view-some, view-most}
 use Rattle.sheet.specs.declared.ViewDimension.{ViewDimension}
@@ -20,11 +23,11 @@ use Rattle.sheet.specs.declared.Clip.{Clip}
 use Rattle.sheet.specs.declared.View.{View}
 use Rattle.contents.specs.Contents.{permutationAt, viewDimensionAt, viewDimensionsAt, clipAt, viewOf, hasDimensions, viewAt, viewLength, viewLengthOk, viewHeadOk}
 use Rattle.contents.specs.Laws.Heads.{sized-few, view-head}
-use Rattle.sheet_bytes.specs.Bytes.{entriesBytes, viewDimensionBytes, viewDimensionsBytes, clipBytes, flagCode, viewBytes}
+use Rattle.sheet_bytes.specs.Bytes.{entriesBytes, viewDimensionBytes, viewDimensionsBytes, clipBytes, viewBytes}
 use Rattle.sheet_bytes.specs.Laws.Lengths.{length-entries, length-view-dimension, length-view-dimensions, length-clip, length-view}
 use Rattle.round_trip.specs.Laws.Stretches.{Has, has-at, has-shift, has-back, has-left, has-right, has-join, has-rows-at, has-rows, u16-of, low-at, high-at, u16-below}
 use Rattle.round_trip.specs.Laws.Codes.{one-of, flag-of, flag-code-small, flag-code-of}
-use Rattle.round_trip.specs.Typed.{AreBytes, U16, ClipFits, ViewFits, ViewArrays}
+use Rattle.round_trip.specs.Typed.{U16, ClipFits, ViewFits, ViewArrays}
 
 -- two numbers of 16 bits, one after the other: a view dimension with its stride, and one side of the clip
 module _ (s : List ℕ) (p : ℕ) where

@@ -1,22 +1,25 @@
 -- The bytes of a model that is writable and whose numbers fit their types are bytes.
 use Prim.Native.Nat.{ℕ, zero, suc, _^_, _<_, _≤_}
 use mathlib.Core.Path.{_≡_, sym}
-use mathlib.Core.Bool.{true, true≢false}
+use mathlib.Core.Bool.{Bool, true, true≢false}
 use mathlib.Core.List.{List, [], _∷_, _++_}
 use native.Mathlib.Omega.{arith}
-use borrow.Author.Tests.{eqb-true, ltb-true, leb-true}
+use borrow.Author.Tests.{ltb-true, leb-true}
 use lib.Dec.{ltb}
 use lib.ListN.{length, getD}
-use Rattle.numbers.specs.Choice.{pick, pick-case, both-left, both-right, between-high}
+use Rattle.numbers.specs.Choice.{pick}
+use Rattle.numbers.specs.Laws.Choice.{pick-case, both-left, both-right, between-high}
 use Rattle.numbers.specs.Little.{u16Bytes, u32Bytes}
 use Rattle.numbers.specs.Lists.{each}
-use Rattle.kinds.specs.Widths.{width, fits}
+use Rattle.numbers.specs.Bytes.{AreBytes}
+use Rattle.kinds.specs.Widths.{kindOk, width, fits}
+use Rattle.kinds.specs.Interpretations.{packed, packedSigned, packedUnsigned, interpretationOk}
 use Rattle.sheet.specs.Sizes.{registerCount, layoutPlaces, viewPlaces, sizeLimit, sizeOk}
-use Rattle.sheet.specs.Editions.{editionOk, limits, sideOk}
-use Rattle.sheet.specs.Codes.{editionTag, layoutTag, viewTag, clampCode}
+use Rattle.sheet.specs.Editions.{newestEdition, editionOk, limits, sideOk}
+use Rattle.sheet.specs.Codes.{editionTag, layoutTag, viewTag, clampCode, flagCode}
 use Rattle.sheet.specs.Layouts.{theDimension, theLayout, dimensionOk, layoutOk}
 use Rattle.sheet.specs.Views.{theViewDimension, theView, sizedRank, viewOk}
-use Rattle.sheet.specs.Steps.{theStep, fillOk, windowOk, loadOk, storeOk, reduceOk, transposeOk, multiplyOk, wholeOk, stepOk}
+use Rattle.sheet.specs.Steps.{theStep, fillOk, windowOk, loadOk, storeOk, reduceOk, transposeOk, multiplyOk, vectorOk, wholeOk, stepOk}
 use Rattle.sheet.specs.Laws.Facts.{layout-most, view-most, view-entry}
 use Rattle.sheet.specs.Laws.Within.{Within}
 use Rattle.sheet.specs.declared.Dimension.{Dimension}
@@ -28,14 +31,15 @@ use Rattle.sheet.specs.declared.Window.{Window}
 use Rattle.sheet.specs.declared.Step.{Step}
 use Rattle.sheet.specs.declared.Step.the-variants.{Nothing, Load, Store, Whole}
 use Rattle.sheet.specs.declared.WholeStep.{WholeStep}
-use Rattle.sheet.specs.declared.WholeStep.the-variants.{Fill, Reduce, Transpose, MultiplyAdd}
+use Rattle.sheet.specs.declared.WholeStep.the-variants.{Fill, Reduce, Transpose, MultiplyAdd, Vector}
+use Rattle.sheet.specs.declared.VectorStep.{VectorStep}
 use Rattle.sheet.specs.declared.Sheet.{Sheet}
-use Rattle.sheet_bytes.specs.Bytes.{headBytes, fieldBytes, editionField, dimensionBytes, dimensionsBytes, layoutBytes, layoutField, entriesBytes, viewDimensionBytes, viewDimensionsBytes, clipBytes, flagCode, viewBytes, viewField}
+use Rattle.sheet_bytes.specs.Bytes.{headBytes, fieldBytes, editionField, dimensionBytes, dimensionsBytes, layoutBytes, layoutField, entriesBytes, viewDimensionBytes, viewDimensionsBytes, clipBytes, viewBytes, viewField}
 use Rattle.sheet_bytes.specs.Laws.Lengths.{length-layout, length-view, sized-within}
-use Rattle.step_bytes.specs.Bytes.{stepTag, windowBytes, wholeBytes, stepBytes, stepField}
+use Rattle.step_bytes.specs.Bytes.{stepTag, windowBytes, vectorOperands, vectorPlaces, vectorBytes, wholeBytes, stepBytes, stepField}
 use Rattle.sheet_writer.specs.Bytes.{layoutsBytes, viewsBytes, stepsBytes, sheetBytes}
-use Rattle.round_trip.specs.Typed.{AreBytes, U16, U32, DimensionFits, LayoutFits, ClipFits, ViewFits, StepFits, SheetFits}
-use Rattle.round_trip.specs.Laws.Codes.{clamp-code-small, reduce-code-between, combine-code-small, object-code-small, viewing-code-small, flag-code-small}
+use Rattle.round_trip.specs.Typed.{U16, U32, DimensionFits, LayoutFits, ClipFits, ViewFits, VectorFits, WholeFits, StepFits, SheetFits}
+use Rattle.round_trip.specs.Laws.Codes.{clamp-code-small, reduce-code-between, combine-code-small, memory-layout-code-small, flag-code-small, object-code-small, viewing-code-small}
 use Rattle.round_trip.specs.Laws.Layouts.{layout-held}
 use Rattle.round_trip.specs.Laws.Views.{view-held}
 use Rattle.round_trip.specs.Laws.Steps.{step-short, tag-range}
@@ -137,26 +141,54 @@ unfolding limits
 side-below edition x e = omega (arith, between-high 1 16 x e)
 
 edition-below : (edition : ℕ) → editionOk edition ≡ true → edition < 256
-edition-below edition e = omega (arith, eqb-true edition 1 e)
+edition-below edition e = omega (arith, between-high 1 newestEdition edition e)
 
-below-whole : (edition : ℕ) (w : WholeStep) → wholeOk edition w ≡ true → Below (wholeBytes edition w)
+interpretation-below : (x : ℕ) → interpretationOk x ≡ true → x < 256
+unfolding interpretationOk
+interpretation-below x =
+    pick-case (λ (b : Bool). b ≡ true → x < 256) (kindOk x) true (packed x) (λ q e. omega (arith, leb-true x 5 q))
+    (λ q e. omega (arith, between-high packedSigned packedUnsigned x e))
+
+below-vector : (edition : ℕ) (v : VectorStep) → vectorOk edition v ≡ true → VectorFits v → Below (vectorBytes v)
+unfolding vectorOk
+below-vector edition v e f =
+    let e1 = both-right _ _ e in
+    let e2 = both-right _ _ e1 in
+    let e3 = both-right _ _ e2 in
+    let e4 = both-right _ _ e3 in
+    let e5 = both-right _ _ e4 in
+    let e6 = both-right _ _ e5 in
+    let e7 = both-right _ _ e6 in
+    let k = between-high 4 5 (v .kind) (both-left _ _ e2) in
+    let m = leb-true (v .matrix) 5 (both-left _ _ e5) in
+    let x = u16Bytes (v .stride) in
+    let y = u32Bytes (v .offset) in
+    let z = flagCode (v .biased) ∷ [] in
+    below-append (vectorOperands v) (vectorPlaces v)
+    (register-below (v .result) (both-left _ _ e1), (omega arith, (register-below (v .input) (both-left _ _ e3), (interpretation-below (v .interpretation) (both-left _ _ e4), (omega arith, (side-below edition (v .rows) (both-left _ _ e6), (side-below edition (v .columns) (both-left _ _ e7), (omega (arith, memory-layout-code-small (v .layout)), tt))))))))
+    (below-append (x ++ y ++ z) (u32Bytes (v .bias))
+    (below-append (x ++ y) z (below-append x y (below-u16 (v .stride) (f .stride)) (below-u32 (v .offset) (f .offset))) (omega (arith, flag-code-small (v .biased)), tt))
+    (below-u32 (v .bias) (f .bias)))
+
+below-whole : (edition : ℕ) (w : WholeStep) → wholeOk edition w ≡ true → WholeFits w → Below (wholeBytes edition w)
 unfolding fillOk reduceOk transposeOk multiplyOk
-below-whole edition (Fill register rows columns kind value) e =
+below-whole edition (Fill register rows columns kind value) e f =
     let e1 = both-right _ _ e in
     let e2 = both-right _ _ e1 in
     let e3 = both-right _ _ e2 in
     let k = leb-true kind 5 (both-left _ _ e3) in
     (register-below register (both-left _ _ e), (side-below edition rows (both-left _ _ e1), (side-below edition columns (both-left _ _ e2), (omega arith, below-u32 value (value-below kind value (both-right _ _ e3))))))
-below-whole edition (Reduce result source rows columns mode combine) e =
+below-whole edition (Reduce result source rows columns mode combine) e f =
     let e1 = both-right _ _ e in
     let e2 = both-right _ _ e1 in
     (register-below result (both-left _ _ e), (register-below source (both-left _ _ e1), (side-below edition rows (both-left _ _ e2), (side-below edition columns (both-right _ _ e2), (omega (arith, reduce-code-between mode), (omega (arith, combine-code-small combine), tt))))))
-below-whole edition (Transpose result source) e =
+below-whole edition (Transpose result source) e f =
     (register-below result (both-left _ _ e), (register-below source (both-right _ _ e), tt))
-below-whole edition (MultiplyAdd result a b c) e =
+below-whole edition (MultiplyAdd result a b c) e f =
     let e1 = both-right _ _ e in
     let e2 = both-right _ _ e1 in
     (register-below result (both-left _ _ e), (register-below a (both-left _ _ e1), (register-below b (both-left _ _ e2), (register-below c (both-right _ _ e2), tt))))
+below-whole edition (Vector v) e f = below-vector edition v e f
 
 module _ (edition layouts views : ℕ) (fl : layouts ≤ layoutPlaces) (fv : views ≤ viewPlaces) where
   below-window : (w : Window) → windowOk layouts views w ≡ true → U32 (w .base) → Below (windowBytes w)
@@ -171,7 +203,7 @@ module _ (edition layouts views : ℕ) (fl : layouts ≤ layoutPlaces) (fv : vie
       let e1 = both-right _ _ e in
       (register-below register (both-left _ _ e), (object-code-small object (both-left _ _ e1), below-window window (both-right _ _ e1) f))
   below-step (Store register window) e f = (register-below register (both-left _ _ e), below-window window (both-right _ _ e) f)
-  below-step (Whole whole) e f = below-whole edition whole e
+  below-step (Whole whole) e f = below-whole edition whole e f
 
 -- the whole sheet
 module _ (sh : Sheet) (w : Within sh) (f : SheetFits sh) where

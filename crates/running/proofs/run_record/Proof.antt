@@ -1,5 +1,5 @@
 use denote.Ref.{now}
-use Rattle.numbers.specs.Choice.{both-right}
+use Rattle.numbers.specs.Laws.Choice.{both-right}
 use Rattle.judging.specs.Records.{wholeRecordOk}
 use Rattle.running.specs.Records.{ranRecordWith}
 use native.Mathlib.Omega.{arith}

@@ -13,14 +13,14 @@ use Rattle.judging.specs.Judging.{tapeRecord, decodedOk}
 use Rattle.judging.specs.Laws.Named.{named-place, named-held, named-ok}
 use Rattle.running.specs.Running.{ranDecoded, ran}
 use Rattle.running.specs.Laws.Records.{named-ran}
-use Rattle.running.specs.Laws.Turns.{Ready, ready-start, turn-ok, turn-next, turns-end}
+use Rattle.running.specs.Laws.Turns.{RunReady, ready-start, turn-ok, turn-next, turns-end}
 use borrow.Author.Needs.{needs}
 use Rattle.running.proofs.run_records.Statement.{statement}
 use Rattle.running.proofs.run_records.Tie as tie
 
 abbrev Inv-loop : tie.InvT-loop
 Inv-loop tape records memory₀ sheet steps types₀ elements₀ count₀ k₀ memory types elements count k =
-    (k ≤ records) × Ready (records - k) sheet (length memory₀) (tapeRecord tape) k (machineOf types (state elements memory count)) (ran records sheet (tapeRecord tape) (started memory₀))
+    (k ≤ records) × RunReady (records - k) sheet (length memory₀) (tapeRecord tape) k (machineOf types (state elements memory count)) (ran records sheet (tapeRecord tape) (started memory₀))
 
 abbrev μ-loop : tie.MeasureT-loop
 μ-loop tape records memory₀ sheet steps types₀ elements₀ count₀ k₀ memory types elements count k = records - k

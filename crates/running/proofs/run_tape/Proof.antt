@@ -10,7 +10,7 @@ use Rattle.sheet_reader.specs.Laws.Growing.{read-within}
 use Rattle.carrying.specs.Carrying.{started, carryAnswer}
 use Rattle.judging.specs.Judging.{tapeRecord, tapeRefusal}
 use Rattle.running.specs.Running.{ran}
-use Rattle.records.specs.Laws.{fit-few, fit-room}
+use Rattle.records.specs.Laws.Records.{fit-few, fit-room}
 use Rattle.judging.specs.Laws.Turns.{tape-fit, tape-clear}
 use Rattle.running.specs.Laws.Answers.{run-large, run-unread, run-readable, run-refused, ran-refused, run-accepted, ran-accepted}
 use native.Mathlib.Omega.{arith}

@@ -1,15 +1,15 @@
 -- The turns over the elements of a take, a put and a fill.
-use Prim.Native.Nat.{ℕ, zero, suc, _+_, _≤_}
+use Prim.Native.Nat.{ℕ, zero, suc, _+_, _<_, _≤_}
 use mathlib.Core.Path.{_≡_, refl, sym, ap, _∙_}
 use mathlib.Core.List.{List}
 use native.Mathlib.Numerals.{add-one}
 use native.Mathlib.Nat.{add-zero}
 use native.Mathlib.Omega.{arith}
+use Rattle.numbers.specs.Orders.{inOrder}
 use Rattle.memory.specs.Elements.{elementAt, withElement}
 use Rattle.registers.specs.Registers.{elementOf, withElementOf}
 use Rattle.transfers.specs.Acts.{State, state}
 use Rattle.judging.specs.Records.{byteAt}
-use Rattle.running.specs.Records.{inOrder}
 use Rattle.running.specs.Elements.{taking, putting, filling}
 
 module _ (act : ℕ → State → State) where

@@ -8,7 +8,7 @@ use borrow.Author.Tests.{lt-ltb}
 use lib.ListN.{length, length-set}
 use Rattle.numbers.specs.Choice.{pick}
 use Rattle.registers.specs.declared.MatrixType.{MatrixType}
-use Rattle.numbers.specs.Lists.{length-line}
+use Rattle.numbers.specs.Laws.Lists.{length-line}
 use Rattle.kinds.specs.Widths.{bytesOf}
 use Rattle.sheet.specs.Steps.{theStep}
 use Rattle.sheet.specs.declared.Sheet.{Sheet}
@@ -16,7 +16,7 @@ use Rattle.sheet.specs.Laws.Within.{Within}
 use Rattle.memory.specs.Laws.Elements.{length-with}
 use Rattle.registers.specs.Types.{theType}
 use Rattle.sheet.specs.Sizes.{matrixPlaces}
-use Rattle.registers.specs.Registers.{placeOf, elementOf}
+use Rattle.registers.specs.Registers.{stepPlace, elementOf}
 use Rattle.registers.specs.Sized.{Sized}
 use Rattle.transfers.specs.Acts.{State}
 use Rattle.carrying.specs.Steps.{Machine, performedStep, stateOf}
@@ -61,7 +61,7 @@ module _ (sh : Sheet) (m : Machine) (len : ℕ) where
 
   record-places : (r : Record) → length (ranRecord sh r m .registers .elements) ≡ length (m .registers .elements)
   unfolding ranRecordWith
-  record-places (Copy register object) = length-line (m .registers .elements) (placeOf register 0) (elementOf (m .registers .elements) object) matrixPlaces
+  record-places (Copy register object) = length-line (m .registers .elements) (stepPlace register 0) (elementOf (m .registers .elements) object) matrixPlaces
   record-places (Take register first count byte up down) =
       order-keeps _ (λ (s : State). length (s .elements)) (λ i s. length-set (s .elements) _ _) count (stateOf m)
   record-places (Put register first count byte up down) =

@@ -5,7 +5,8 @@ use mathlib.Core.Bool.{true}
 use mathlib.Core.List.{List}
 use native.Mathlib.Omega.{arith}
 use lib.ListN.{length}
-use Rattle.numbers.specs.Choice.{pick, pick-case}
+use Rattle.numbers.specs.Choice.{pick}
+use Rattle.numbers.specs.Laws.Choice.{pick-case}
 use Rattle.sheet.specs.Sizes.{matrixPlaces}
 use Rattle.sheet.specs.declared.Sheet.{Sheet}
 use Rattle.refusals.specs.declared.Refusal.{Refusal}
@@ -21,7 +22,7 @@ use Rattle.running.specs.Running.{ranDecoded, ranFrom, ran}
 use Rattle.running.specs.Laws.Records.{decoded-types, decoded-length, decoded-count, decoded-formed}
 
 -- a machine before record k of n more: well formed, few elements counted, the rest in range, and the rest leaves the goal
-pub record Ready (n : ℕ) (sh : Sheet) (len : ℕ) (the : ℕ → Decoded) (k : ℕ) (m goal : Machine) : Type 0 where
+pub record RunReady (n : ℕ) (sh : Sheet) (len : ℕ) (the : ℕ → Decoded) (k : ℕ) (m goal : Machine) : Type 0 where
   pub formed : Formed m
   pub few : m .count ≤ k * matrixPlaces
   pub kept : length (m .memory) ≡ len
@@ -29,7 +30,7 @@ pub record Ready (n : ℕ) (sh : Sheet) (len : ℕ) (the : ℕ → Decoded) (k :
   pub rest : ranFrom n sh the k m ≡ goal
 
 pub ready-start : (n : ℕ) (sh : Sheet) (the : ℕ → Decoded) (memory : List ℕ) → rangeRefusal n sh (length memory) the .number ≡ 0
-    → Ready n sh (length memory) the 0 (started memory) (ran n sh the (started memory))
+    → RunReady n sh (length memory) the 0 (started memory) (ran n sh the (started memory))
 ready-start n sh the memory h =
     record { formed = started-formed memory; few = omega arith; kept = refl; clear = h; rest = refl }
 
@@ -44,7 +45,7 @@ module _ (n : ℕ) (sh : Sheet) (len : ℕ) (the : ℕ → Decoded) (k : ℕ) (m
   unfolding rangeFrom pick
   rest-in-range h = rw (first-in-range h) at h
 
-  ready-next : Ready (suc n) sh len the k m goal → Within sh → Ready n sh len the (k + 1) (ranDecoded sh (the k) m) goal
+  ready-next : RunReady (suc n) sh len the k m goal → Within sh → RunReady n sh len the (k + 1) (ranDecoded sh (the k) m) goal
   unfolding ranFrom
   ready-next r w =
       let e = first-in-range (r .clear) in
@@ -58,11 +59,11 @@ module _ (n : ℕ) (sh : Sheet) (len : ℕ) (the : ℕ → Decoded) (k : ℕ) (m
       }
 
 -- the same with what is left counted from the whole
-module _ (n : ℕ) (sh : Sheet) (len : ℕ) (the : ℕ → Decoded) (k : ℕ) (m goal : Machine) (r : Ready (n - k) sh len the k m goal) where
+module _ (n : ℕ) (sh : Sheet) (len : ℕ) (the : ℕ → Decoded) (k : ℕ) (m goal : Machine) (r : RunReady (n - k) sh len the k m goal) where
   pub turn-ok : k < n → decodedOk sh (m .registers .types) len (the k) ≡ true
   turn-ok h = first-in-range (n - (k + 1)) sh len the k m goal ((rw (one-less n k h) at r) .clear)
 
-  pub turn-next : k < n → Within sh → {m′ : Machine} → m′ ≡ ranDecoded sh (the k) m → Ready (n - (k + 1)) sh len the (k + 1) m′ goal
+  pub turn-next : k < n → Within sh → {m′ : Machine} → m′ ≡ ranDecoded sh (the k) m → RunReady (n - (k + 1)) sh len the (k + 1) m′ goal
   turn-next h w e = rw e (ready-next (n - (k + 1)) sh len the k m goal (rw (one-less n k h) at r) w)
 
   pub turns-end : n ≤ k → m ≡ goal

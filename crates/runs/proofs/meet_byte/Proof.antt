@@ -2,7 +2,8 @@ use Prim.Native.Nat.{ℕ, _*_, _≤_, _<_}
 use native.Mathlib.Nat.{mul-le-mul}
 use mathlib.Core.Path.{refl}
 use borrow.Author.Tests.{eq-eqb, ne-eqb}
-use Rattle.numbers.specs.Choice.{taken, left}
+use Rattle.numbers.specs.Laws.Choice.{taken, left}
+use Rattle.sheet.specs.Sizes.{matrixPlaces, memoryLimit}
 use Rattle.runs.specs.Runs.{meetByte}
 use native.Mathlib.Omega.{arith}
 use borrow.Author.Needs.{needs}
@@ -10,8 +11,8 @@ use Rattle.runs.proofs.meet_byte.Statement.{statement}
 use Rattle.runs.proofs.meet_byte.Tie as tie
 
 -- a product that fits
-few : (n d : ℕ) → n < 65536 → d < 65536 → n * d ≤ 65536 * 65536
-few n d p q = mul-le-mul {n₂ = 65536} {m₂ = 65536} (omega arith) (omega arith)
+few : (n d : ℕ) → n < matrixPlaces → d < memoryLimit → n * d ≤ matrixPlaces * memoryLimit
+few n d p q = mul-le-mul {n₂ = matrixPlaces} {m₂ = memoryLimit} (omega arith) (omega arith)
 
 beyond-requires : tie.Need-beyond-requires
 beyond-requires c κs = search needs

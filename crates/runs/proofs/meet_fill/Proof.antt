@@ -1,6 +1,6 @@
 use mathlib.Core.Path.{refl}
 use borrow.Author.Tests.{eq-eqb, ne-eqb}
-use Rattle.numbers.specs.Choice.{taken, left}
+use Rattle.numbers.specs.Laws.Choice.{taken, left}
 use Rattle.runs.specs.Runs.{meetFill}
 use borrow.Author.Needs.{needs}
 use Rattle.runs.proofs.meet_fill.Statement.{statement}

@@ -1,6 +1,6 @@
 use mathlib.Core.Path.{subst}
 use Rattle.runs.specs.Runs.{next}
-use Rattle.runs.specs.Ranges.{Small}
+use Rattle.runs.specs.Ranges.{SmallRun}
 use borrow.Author.Needs.{needs}
 use Rattle.runs.proofs.next_fill.Statement.{statement}
 use Rattle.runs.proofs.next_fill.Tie as tie
@@ -23,7 +23,7 @@ enum-known-r c = search needs
 meet-fill-requires : tie.Need-meet-fill-requires
 meet-fill-requires c κs =
     let s = c .before .before .before in
-    (subst (Small (s .args .k)) (c .before .r .given .1) (s .pre .0) .ends, s .pre .1)
+    (subst (SmallRun (s .args .k)) (c .before .r .given .1) (s .pre .0) .ends, s .pre .1)
 
 returns : tie.Need-returns
 unfolding next

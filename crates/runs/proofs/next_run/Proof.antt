@@ -1,6 +1,6 @@
 use mathlib.Core.Path.{subst}
 use Rattle.runs.specs.Runs.{next}
-use Rattle.runs.specs.Ranges.{Near}
+use Rattle.runs.specs.Ranges.{Fitting}
 use borrow.Author.Needs.{needs}
 use Rattle.runs.proofs.next_run.Statement.{statement}
 use Rattle.runs.proofs.next_run.Tie as tie
@@ -23,7 +23,7 @@ enum-known-o c = search needs
 next-byte-requires : tie.Need-next-byte-requires
 next-byte-requires c κs =
     let s = c .before .before .before in
-    (s .pre .0, (s .pre .1 .0, subst Near (c .before .o .given .1) (s .pre .1 .1)))
+    (s .pre .0, (s .pre .1 .0, subst Fitting (c .before .o .given .1) (s .pre .1 .1)))
 
 enum-known-o-2 : tie.Need-enum-known-o-2
 enum-known-o-2 c = search needs

@@ -6,7 +6,7 @@ use lib.ListN.{length}
 use lib.Seq.{sets}
 use Rattle.records.specs.Records.{recordLength, recordNumbers, tapeNumbers}
 use Rattle.records.specs.declared.Record.{Record}
-use Rattle.records.specs.Laws.{AllWithin}
+use Rattle.records.specs.Ranges.{AllInRange}
 use Rattle.runs.specs.declared.Run.{Run}
 use Rattle.runs.specs.Runs.{emit, runRecords}
 use native.Mathlib.Omega.{arith}
@@ -35,7 +35,7 @@ put-record-requires c κs =
     let s = c .before .before .before .before .before in
     let e = c .before .before .before .r .given .1 in
     let room = subst (λ (r : Run). (s .args .at + length (emit r)) * recordLength ≤ length (s .args .tape .now)) e (s .pre .0) in
-    let w = subst (λ (r : Run). AllWithin (runRecords (s .args .load) (s .args .register) r)) e (s .pre .1) in
+    let w = subst (λ (r : Run). AllInRange (runRecords (s .args .load) (s .args .register) r)) e (s .pre .1) in
     (omega arith, rw (c .before .moved .ensures) (w .0))
 
 add-result : tie.Need-add-result
@@ -52,7 +52,7 @@ put-record-requires-2 c κs =
     let s = c .before .before .before .before in
     let e = c .before .before .r2 .given .1 in
     let room = subst (λ (r : Run). (s .args .at + length (emit r)) * recordLength ≤ length (s .args .tape .now)) e (s .pre .0) in
-    let w = subst (λ (r : Run). AllWithin (runRecords (s .args .load) (s .args .register) r)) e (s .pre .1) in
+    let w = subst (λ (r : Run). AllInRange (runRecords (s .args .load) (s .args .register) r)) e (s .pre .1) in
     (omega arith, w .0)
 
 add-result-2 : tie.Need-add-result-2

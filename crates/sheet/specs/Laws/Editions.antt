@@ -3,7 +3,7 @@ use Prim.Native.Nat.{ℕ, _<_, _≤_}
 use mathlib.Core.Path.{_≡_}
 use mathlib.Core.Bool.{true}
 use native.Mathlib.Nat.{le-refl}
-use Rattle.numbers.specs.Choice.{between-low}
+use Rattle.numbers.specs.Laws.Choice.{between-low}
 use Rattle.sheet.specs.Sizes.{sidePlaces, stepPlaces, recordPlaces}
 use Rattle.sheet.specs.Editions.{newestEdition, editionOk, limits}
 

@@ -6,8 +6,9 @@ use lib.ListN.{getD}
 use lib.Dec.{ltb, eqb}
 use borrow.Author.Tests.{lt-ltb, ltb-true, eqb-false, not-true}
 use native.Mathlib.Omega.{arith}
-use Rattle.numbers.specs.Choice.{pick, both, both-left, both-right, between-low, between-high}
-use Rattle.numbers.specs.All.{all-at}
+use Rattle.numbers.specs.Choice.{pick, both}
+use Rattle.numbers.specs.Laws.Choice.{both-left, both-right, between-low, between-high}
+use Rattle.numbers.specs.Laws.All.{all-at}
 use Rattle.sheet.specs.Sizes.{rankPlaces, rankOk, sizeLimit, sizeOk, offsetOk}
 use Rattle.sheet.specs.Layouts.{theDimension, dimensionOk, dimensionAtOk, dimensionsOk, layoutOk}
 use Rattle.sheet.specs.Views.{theViewDimension, fresh, entryOk, permutationOk, viewDimensionAtOk, viewDimensionsOk, sizedRank, viewOk}

@@ -5,8 +5,8 @@ use mathlib.Core.Bool.{Bool, true}
 use mathlib.Core.List.{List, []}
 use native.Mathlib.Omega.{arith}
 use borrow.Author.Tests.{leb-true, le-leb}
-use Rattle.numbers.specs.Choice.{both-left, both-right, both-true}
-use Rattle.numbers.specs.Places.{Held, held, held-all}
+use Rattle.numbers.specs.Laws.Choice.{both-left, both-right, both-true}
+use Rattle.numbers.specs.Laws.Places.{Held, held, held-all}
 use Rattle.sheet.specs.Sizes.{layoutPlaces, viewPlaces, stepPlaces}
 use Rattle.sheet.specs.Editions.{editionOk, limits}
 use Rattle.sheet.specs.Layouts.{theLayout, layoutOk, layoutUnused}

@@ -5,8 +5,8 @@ use mathlib.Core.Bool.{Bool}
 use mathlib.Core.List.{List}
 use native.Mathlib.Omega.{arith}
 use lib.ListN.{length, length-append}
-use Rattle.numbers.specs.Choice.{pick-case}
-use Rattle.numbers.specs.Lists.{length-each}
+use Rattle.numbers.specs.Laws.Choice.{pick-case}
+use Rattle.numbers.specs.Laws.Lists.{length-each}
 use Rattle.sheet.specs.Layouts.{theDimension}
 use Rattle.sheet.specs.Views.{theViewDimension, sizedRank}
 use Rattle.sheet.specs.declared.Dimension.{Dimension}

@@ -6,7 +6,8 @@ use native.Mathlib.Nat.{add-zero}
 use native.Mathlib.Omega.{arith}
 use lib.ListN.{length}
 use lib.Seq.{sets, length-sets}
-use Rattle.numbers.specs.Lists.{each, each-none, each-more, length-each-more, each-fits, puts-after}
+use Rattle.numbers.specs.Lists.{each}
+use Rattle.numbers.specs.Laws.Lists.{each-none, each-more, length-each-more, each-fits, puts-after}
 use Rattle.sheet_bytes.specs.Bytes.{headBytes, fieldBytes}
 
 -- a head, then the content that it announces

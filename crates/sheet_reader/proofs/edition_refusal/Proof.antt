@@ -1,5 +1,5 @@
 use mathlib.Core.Path.{refl}
-use Rattle.numbers.specs.Choice.{tests, taken, left}
+use Rattle.numbers.specs.Laws.Choice.{tests, taken, left}
 use Rattle.sheet_reader.specs.Reading.{editionRefusal}
 use borrow.Author.Needs.{needs}
 use Rattle.sheet_reader.proofs.edition_refusal.Statement.{statement}

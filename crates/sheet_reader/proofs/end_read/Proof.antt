@@ -1,4 +1,4 @@
-use Rattle.numbers.specs.Choice.{calls, left, ways}
+use Rattle.numbers.specs.Laws.Choice.{calls, left, ways}
 use Rattle.sheet_reader.specs.Reading.{endRead, acceptedRead}
 use borrow.Author.Needs.{needs}
 use Rattle.sheet_reader.proofs.end_read.Statement.{statement}

@@ -1,6 +1,7 @@
 use mathlib.Core.Path.{refl}
 use borrow.Author.Tests.{ne-eqb}
-use Rattle.numbers.specs.Choice.{ways, pick, taken, left}
+use Rattle.numbers.specs.Choice.{pick}
+use Rattle.numbers.specs.Laws.Choice.{ways, taken, left}
 use Rattle.sheet_reader.specs.Reading.{fieldRefusal}
 use borrow.Author.Needs.{needs}
 use Rattle.sheet_reader.proofs.field_refusal.Statement.{statement}

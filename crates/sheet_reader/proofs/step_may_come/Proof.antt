@@ -1,4 +1,4 @@
-use Rattle.numbers.specs.Choice.{tests, stop, pass}
+use Rattle.numbers.specs.Laws.Choice.{tests, stop, pass}
 use Rattle.sheet_reader.specs.Reading.{stepMayCome}
 use borrow.Author.Needs.{needs}
 use Rattle.sheet_reader.proofs.step_may_come.Statement.{statement}

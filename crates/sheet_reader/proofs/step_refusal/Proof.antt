@@ -1,23 +1,30 @@
 use mathlib.Core.Path.{refl}
-use Rattle.numbers.specs.Choice.{tests, taken, left}
+use Rattle.numbers.specs.Laws.Choice.{tests, taken, left}
 use Rattle.sheet_reader.specs.Reading.{stepRefusal}
 use borrow.Author.Needs.{needs}
 use Rattle.sheet_reader.proofs.step_refusal.Statement.{statement}
 use Rattle.sheet_reader.proofs.step_refusal.Tie as tie
 
-step-may-come-requires : tie.Need-step-may-come-requires
-step-may-come-requires c κs = search needs
+tag-known-requires : tie.Need-tag-known-requires
+tag-known-requires c κs = search needs
 
 returns : tie.Need-returns
 unfolding stepRefusal
 returns c = left _ (search tests) refl
 
-step-length-requires : tie.Need-step-length-requires
-step-length-requires c κs = search needs
+step-may-come-requires : tie.Need-step-may-come-requires
+step-may-come-requires c κs = search needs
 
 returns-2 : tie.Need-returns-2
 unfolding stepRefusal
-returns-2 c = taken _ (search tests) (rw (← c .before .step-length .ensures) (left _ (search tests) refl))
+returns-2 c = taken _ (search tests) (left _ (search tests) refl)
+
+step-length-requires : tie.Need-step-length-requires
+step-length-requires c κs = search needs
+
+returns-3 : tie.Need-returns-3
+unfolding stepRefusal
+returns-3 c = taken _ (search tests) (taken _ (search tests) (rw (← c .before .step-length .ensures) (left _ (search tests) refl)))
 
 step-at-requires : tie.Need-step-at-requires
 step-at-requires c κs = search needs
@@ -25,23 +32,29 @@ step-at-requires c κs = search needs
 step-ok-requires : tie.Need-step-ok-requires
 step-ok-requires c κs = search needs
 
-returns-3 : tie.Need-returns-3
-unfolding stepRefusal
-returns-3 c = taken _ (search tests) (rw (← c .before .before .before .before .step-length .ensures, ← c .before .before .step-at .ensures) (taken _ (search tests) (left _ (search tests) refl)))
-
 returns-4 : tie.Need-returns-4
 unfolding stepRefusal
-returns-4 c = taken _ (search tests) (rw (← c .before .before .before .before .step-length .ensures, ← c .before .before .step-at .ensures) (taken _ (search tests) (taken _ (search tests) refl)))
+returns-4 c =
+    taken _ (search tests) (taken _ (search tests)
+    (rw (← c .before .before .before .before .step-length .ensures, ← c .before .before .step-at .ensures) (taken _ (search tests) (left _ (search tests) refl))))
+
+returns-5 : tie.Need-returns-5
+unfolding stepRefusal
+returns-5 c =
+    taken _ (search tests) (taken _ (search tests)
+    (rw (← c .before .before .before .before .step-length .ensures, ← c .before .before .step-at .ensures) (taken _ (search tests) (taken _ (search tests) refl))))
 
 pub step-refusal-spec : {M : Type 1} → statement M
 step-refusal-spec =
     tie.close
     (tie.spec
-    step-may-come-requires
+    tag-known-requires
     returns
-    step-length-requires
+    step-may-come-requires
     returns-2
+    step-length-requires
+    returns-3
     step-at-requires
     step-ok-requires
-    returns-3
-    returns-4)
+    returns-4
+    returns-5)

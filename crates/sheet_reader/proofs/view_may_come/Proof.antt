@@ -1,4 +1,4 @@
-use Rattle.numbers.specs.Choice.{tests, stop, pass}
+use Rattle.numbers.specs.Laws.Choice.{tests, stop, pass}
 use Rattle.sheet_reader.specs.Reading.{viewMayCome}
 use Rattle.sheet_reader.proofs.view_may_come.Statement.{statement}
 use Rattle.sheet_reader.proofs.view_may_come.Tie as tie

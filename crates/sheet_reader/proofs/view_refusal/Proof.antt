@@ -1,5 +1,5 @@
 use mathlib.Core.Path.{refl}
-use Rattle.numbers.specs.Choice.{tests, taken, left, went-past}
+use Rattle.numbers.specs.Laws.Choice.{tests, taken, left, went-past}
 use Rattle.contents.specs.Laws.Heads.{view-room}
 use Rattle.sheet_reader.specs.Reading.{viewRefusal}
 use borrow.Author.Needs.{needs}

@@ -5,33 +5,32 @@ use mathlib.Core.Bool.{true, true≢false}
 use mathlib.Core.Logic.{_⊎_, inl, inr, ⊎-elim}
 use mathlib.Core.List.{List, []}
 use native.Mathlib.Omega.{arith}
-use borrow.Author.Tests.{eqb-true, ltb-true, le-ltb, ne-eqb}
+use borrow.Author.Tests.{eqb-true, ltb-true, le-ltb}
 use lib.ListN.{length, getD, length-set}
-use Rattle.numbers.specs.Choice.{pick, both, both-left, both-right}
+use Rattle.numbers.specs.Choice.{pick, both}
+use Rattle.numbers.specs.Laws.Choice.{both-left, both-right}
 use Rattle.numbers.specs.All.{all}
-use Rattle.numbers.specs.Places.{held-none, held-more}
+use Rattle.numbers.specs.Laws.Places.{held-none, held-more}
 use Rattle.refusals.specs.Refusals.{outOfOrder, unknownEdition}
 use Rattle.sheet.specs.Sizes.{layoutPlaces, viewPlaces, stepPlaces}
 use Rattle.sheet.specs.Editions.{editionOk, limits}
 use Rattle.sheet.specs.Laws.Editions.{edition-some, limits-steps}
-use Rattle.sheet.specs.Codes.{editionTag, layoutTag, viewTag, fillTag}
+use Rattle.sheet.specs.Codes.{editionTag}
 use Rattle.sheet.specs.Layouts.{noLayout, theLayout, layoutOk, layoutUnused, dimensionAtOk, dimensionUnused}
 use Rattle.sheet.specs.Views.{noView, theView, viewOk, viewUnused, entryOk, viewDimensionAtOk, viewDimensionUnused, clipUnused}
 use Rattle.sheet.specs.Steps.{noCell, stepOk, stepUnused}
 use Rattle.sheet.specs.Sheets.{noTensors, emptySheet}
-use Rattle.sheet.specs.Laws.Within.{StepsHeld, TensorsWithin, Within}
+use Rattle.sheet.specs.Laws.Within.{StepsHeld, Within}
 use Rattle.sheet.specs.declared.Layout.{Layout}
 use Rattle.sheet.specs.declared.View.{View}
 use Rattle.sheet.specs.declared.Step.{Step}
 use Rattle.sheet.specs.declared.Cell.{Cell}
-use Rattle.sheet.specs.declared.Tensors.{Tensors}
 use Rattle.sheet.specs.declared.Sheet.{Sheet}
 use Rattle.contents.specs.Contents.{layoutAt, viewAt, stepAt}
 use Rattle.sheet_reader.specs.Reading.{givenOf, layoutMayCome, viewMayCome, stepMayCome, withEdition, moreLayout, moreView, withTensors, withStep, withField, refusedRead, acceptedRead, endRead, readSheet}
-use Rattle.sheet_reader.specs.Laws.Taken.{EditionTaken, LayoutTaken, ViewTaken, StepTaken, Took, edition, layout, view, step, layout-place, view-place, step-place}
+use Rattle.sheet_reader.specs.Laws.Taken.{EditionTaken, Took, edition, layout, view, step, layout-place, view-place}
 use Rattle.sheet_reader.specs.Laws.Turns.{with-edition, with-layout, with-view, with-step}
-use Rattle.sheet_reader.specs.Laws.Ways.{lengthAt, nextAt, Ways, reads}
-use Rattle.sheet_reader.specs.declared.Given.{Given}
+use Rattle.sheet_reader.specs.Laws.Ways.{lengthAt, Ways, reads}
 use Rattle.sheet_reader.specs.declared.ReadAnswer.{ReadAnswer}
 
 -- each array has its places

@@ -1,18 +1,18 @@
 -- What is known of a field that is taken.
 use Prim.Native.Nat.{ℕ, suc, _<_, _≤_}
-use mathlib.Core.Path.{_≡_, refl, sym, _∙_}
+use mathlib.Core.Path.{_≡_, refl}
 use mathlib.Core.Bool.{Bool, true, false}
 use mathlib.Core.List.{List}
 use native.Mathlib.Omega.{arith}
 use lib.ListN.{getD}
 use lib.Dec.{eqb, ltb}
 use borrow.Author.Tests.{eqb-true, ltb-true, ltb-false}
-use Rattle.numbers.specs.Choice.{pick, both, both-left, both-right, pick-case}
-use Rattle.refusals.specs.Refusals.{unknownTag, outOfOrder, wrongLength, beyondSizes, unknownEdition}
+use Rattle.numbers.specs.Choice.{pick}
+use Rattle.numbers.specs.Laws.Choice.{both-right, pick-case}
 use Rattle.sheet.specs.Sizes.{layoutPlaces, viewPlaces, stepPlaces}
-use Rattle.sheet.specs.Editions.{editionOk, limits}
+use Rattle.sheet.specs.Editions.{editionOk, tagKnown, limits}
 use Rattle.sheet.specs.Laws.Editions.{limits-steps}
-use Rattle.sheet.specs.Codes.{editionTag, layoutTag, viewTag, fillTag, multiplyTag}
+use Rattle.sheet.specs.Codes.{editionTag, layoutTag, viewTag, fillTag, lastStepTag}
 use Rattle.sheet.specs.Layouts.{layoutOk}
 use Rattle.sheet.specs.Views.{viewOk}
 use Rattle.sheet.specs.Steps.{stepOk}
@@ -50,6 +50,7 @@ module _ (s : List ℕ) (p len : ℕ) (g : Given) where
     pub ok : viewOk (viewAt s p) ≡ true
 
   pub record StepTaken (tag : ℕ) : Type 0 where
+    pub known : tagKnown (g .edition) tag ≡ true
     pub may : stepMayCome g ≡ true
     pub long : len ≡ stepLength (g .edition) tag
     pub ok : stepOk (g .edition) (g .layouts) (g .views) (stepAt s tag p) ≡ true
@@ -86,14 +87,15 @@ module _ (s : List ℕ) (p len : ℕ) (g : Given) where
       let a = taken-way _ _ _ (omega arith) e in
       let b = taken-way _ _ _ (omega arith) (a .1) in
       let c = taken-way _ _ _ (omega arith) (b .1) in
-      record { may = a .0; long = eqb-true _ _ (b .0); ok = c .0 }
+      let d = taken-way _ _ _ (omega arith) (c .1) in
+      record { known = a .0; may = b .0; long = eqb-true _ _ (c .0); ok = d .0 }
 
   -- by its tag
   pub data Took (tag : ℕ) : Type 0 where
     edition : tag ≡ editionTag → EditionTaken → Took tag
     layout : tag ≡ layoutTag → LayoutTaken → Took tag
     view : tag ≡ viewTag → ViewTaken → Took tag
-    step : fillTag ≤ tag → tag ≤ multiplyTag → StepTaken tag → Took tag
+    step : fillTag ≤ tag → tag ≤ lastStepTag → StepTaken tag → Took tag
 
   pub took : (tag : ℕ) → fieldRefusal s tag p len g ≡ 0 → Took tag
   unfolding fieldRefusal
@@ -105,8 +107,8 @@ module _ (s : List ℕ) (p len : ℕ) (g : Given) where
       pick-case To (eqb tag viewTag) _ _ (λ q e. view (eqb-true _ _ q) (view-taken e))
       (λ q3.
       pick-case To (ltb tag fillTag) _ _ (λ q e. absurd (omega arith))
-      (λ q4. pick-case To (ltb tag (suc multiplyTag)) _ _
-      (λ q e. let h = ltb-true tag (suc multiplyTag) q in step (ltb-false _ _ q4) (omega arith) (step-taken tag e))
+      (λ q4. pick-case To (ltb tag (suc lastStepTag)) _ _
+      (λ q e. let h = ltb-true tag (suc lastStepTag) q in step (ltb-false _ _ q4) (omega arith) (step-taken tag e))
       (λ q e. absurd (omega arith))))))
     where
       To : ℕ → Type 0

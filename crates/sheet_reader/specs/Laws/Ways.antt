@@ -1,5 +1,5 @@
 -- What holds at the start and is kept by each field that is taken holds of a whole reading.
-use Prim.Native.Nat.{ℕ, zero, suc, _+_, _-_, _<_, _≤_}
+use Prim.Native.Nat.{ℕ, zero, suc, _+_, _-_, _≤_}
 use mathlib.Core.Path.{_≡_}
 use mathlib.Core.Bool.{Bool, true, false}
 use mathlib.Core.List.{List}
@@ -7,7 +7,8 @@ use native.Mathlib.Omega.{arith}
 use borrow.Author.Tests.{eqb-true, eqb-false, ltb-false, leb-true}
 use lib.Dec.{eqb, ltb, leb}
 use lib.ListN.{length, getD}
-use Rattle.numbers.specs.Choice.{pick, pick-case}
+use Rattle.numbers.specs.Choice.{pick}
+use Rattle.numbers.specs.Laws.Choice.{pick-case}
 use Rattle.numbers.specs.Little.{u16At}
 use Rattle.refusals.specs.Refusals.{cutShort, unknownEdition}
 use Rattle.sheet.specs.Sheets.{emptySheet}
@@ -42,7 +43,7 @@ field-number s tag p len g =
     (pick-most _ (pick-most _ (pick-most _ (pick-most _ (pick-most _ (omega arith) (omega arith)) (omega arith)) (omega arith)) (omega arith))
     (pick-most _ (pick-most _ (pick-most _ (pick-most _ (pick-most _ (omega arith) (omega arith)) (omega arith)) (omega arith)) (omega arith))
     (pick-most _ (omega arith)
-    (pick-most _ (pick-most _ (pick-most _ (pick-most _ (omega arith) (omega arith)) (omega arith)) (omega arith)) (omega arith)))))
+    (pick-most _ (pick-most _ (pick-most _ (pick-most _ (pick-most _ (omega arith) (omega arith)) (omega arith)) (omega arith)) (omega arith)) (omega arith)))))
 
 -- R of a reading that is over, P of one that goes on
 abbrev pub Goes : (ℕ → Sheet → Type 0) → (ReadAnswer → Type 0) → Turn → Type 0

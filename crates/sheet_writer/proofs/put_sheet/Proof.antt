@@ -3,7 +3,7 @@ use native.Mathlib.Omega.{arith}
 use denote.Ref.{now}
 use borrow.Author.Needs.{needs}
 use lib.ListN.{length-append}
-use Rattle.numbers.specs.Lists.{puts-after}
+use Rattle.numbers.specs.Laws.Lists.{puts-after}
 use Rattle.sheet.specs.Laws.Within.{within, within-places}
 use Rattle.sheet_bytes.specs.Bytes.{fieldBytes, editionField}
 use Rattle.sheet_bytes.specs.Laws.Puts.{puts-at}

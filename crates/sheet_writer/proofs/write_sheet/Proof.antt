@@ -1,7 +1,7 @@
 use mathlib.Core.Path.{refl}
 use borrow.Author.Tests.{le-leb, lt-leb}
 use borrow.Author.Needs.{needs}
-use Rattle.numbers.specs.Choice.{taken, left, went-not, went-past}
+use Rattle.numbers.specs.Laws.Choice.{taken, left, went-not, went-past}
 use Rattle.sheet_writer.specs.Writing.{written, writtenRoom}
 use Rattle.sheet_writer.proofs.write_sheet.Statement.{statement}
 use Rattle.sheet_writer.proofs.write_sheet.Tie as tie

@@ -1,5 +1,5 @@
-use Rattle.numbers.specs.Choice.{stop, pass}
-use Rattle.signed.specs.Laws.{is-parts}
+use Rattle.numbers.specs.Laws.Choice.{stop, pass}
+use Rattle.signed.specs.Laws.Numbers.{is-parts}
 use Rattle.signed.proofs.Laws.{under, past}
 use borrow.Author.Needs.{needs}
 use Rattle.signed.proofs.is.Statement.{statement}

@@ -2,7 +2,7 @@ use mathlib.Core.Path.{sym, _∙_}
 use Prim.Native.Nat.{_-_, _<_, _^_}
 use mir.Syntax.{w32}
 use mir.Facts.{toZ-ofZ, toZ-pos}
-use Rattle.signed.specs.Laws.{lower, upper}
+use Rattle.signed.specs.Laws.Numbers.{lower, upper}
 use Rattle.signed.proofs.Laws.{less}
 use native.Mathlib.Omega.{arith}
 use borrow.Author.Needs.{needs}

@@ -27,6 +27,12 @@ enum-known-s-4 c = search needs
 put-four-requires : tie.Need-put-four-requires
 put-four-requires c κs = let h = rw (c .before .before .s4 .given .1) at (c .before .before .before .before .before .pre) in omega arith
 
+enum-known-s-5 : tie.Need-enum-known-s-5
+enum-known-s-5 c = search needs
+
+put-vector-requires : tie.Need-put-vector-requires
+put-vector-requires c κs = let h = rw (c .before .before .s5 .given .1) at (c .before .before .before .before .before .pre) in omega arith
+
 same-length : tie.Need-same-length
 same-length c = search needs
 
@@ -51,6 +57,12 @@ same-length-4 c = search needs
 returns-4 : tie.Need-returns-4
 returns-4 c = rw (c .before .before .before .before .before .s4 .given .1) (c .before .before .put-four .ensures)
 
+same-length-5 : tie.Need-same-length-5
+same-length-5 c = search needs
+
+returns-5 : tie.Need-returns-5
+returns-5 c = rw (c .before .before .before .before .before .s5 .given .1) (c .before .before .put-vector .ensures)
+
 pub put-whole-content-spec : {M : Type 1} → statement M
 put-whole-content-spec =
     tie.close
@@ -63,6 +75,8 @@ put-whole-content-spec =
     put-pair-requires
     enum-known-s-4
     put-four-requires
+    enum-known-s-5
+    put-vector-requires
     same-length
     returns
     same-length-2
@@ -70,4 +84,6 @@ put-whole-content-spec =
     same-length-3
     returns-3
     same-length-4
-    returns-4)
+    returns-4
+    same-length-5
+    returns-5)

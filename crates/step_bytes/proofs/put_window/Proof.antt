@@ -1,7 +1,7 @@
 use mathlib.Core.List.{[], _∷_}
 use denote.Ref.{now}
 use borrow.Author.Needs.{needs}
-use Rattle.numbers.specs.Lists.{puts-after}
+use Rattle.numbers.specs.Laws.Lists.{puts-after}
 use Rattle.numbers.specs.Little.{u32Bytes}
 use Rattle.sheet.specs.Codes.{viewingCode}
 use Rattle.step_bytes.proofs.put_window.Statement.{statement}

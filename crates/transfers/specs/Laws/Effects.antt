@@ -11,7 +11,7 @@ use Rattle.memory.specs.Elements.{elementAt}
 use Rattle.memory.specs.Laws.Elements.{with-outside}
 use Rattle.addressing.specs.declared.Located.{Located}
 use Rattle.accesses.specs.Refusals.{placedOne, placedCount}
-use Rattle.transfers.specs.Acts.{State, loaded, stored, Has}
+use Rattle.transfers.specs.Acts.{State, loaded, stored, Occupies}
 use Rattle.transfers.specs.Transfers.{transferred}
 
 -- what no element changes, all of them leave
@@ -52,7 +52,7 @@ module _ (size register : ℕ) where
   stored-counts k Discarded s = sym (add-zero (s .count))
   stored-counts k (Placed byte) s = refl
 
-pub has-placed : (size b : ℕ) (o : Outcome) → Has size b o → (byte : ℕ) × ((o ≡ Placed byte) × ((byte ≤ b) × (b < byte + size)))
+pub has-placed : (size b : ℕ) (o : Outcome) → Occupies size b o → (byte : ℕ) × ((o ≡ Placed byte) × ((byte ≤ b) × (b < byte + size)))
 has-placed size b Skipped h = absurd h
 has-placed size b (Filled bits) h = absurd h
 has-placed size b Discarded h = absurd h
@@ -60,14 +60,14 @@ has-placed size b (Placed byte) h = (byte, (refl, h))
 
 -- a byte that no element has is unchanged by a store
 module _ (size register b : ℕ) where
-  stored-outside : (k : ℕ) (o : Outcome) (s : State) → (Has size b o → ⊥) → getD (stored size register k o s .memory) b 0 ≡ getD (s .memory) b 0
+  stored-outside : (k : ℕ) (o : Outcome) (s : State) → (Occupies size b o → ⊥) → getD (stored size register k o s .memory) b 0 ≡ getD (s .memory) b 0
   stored-outside k Skipped s h = refl
   stored-outside k (Filled bits) s h = refl
   stored-outside k Discarded s h = refl
   stored-outside k (Placed byte) s h =
       with-outside (s .memory) byte size (elementOf (s .elements) register k) b (λ i l e. h (omega arith, omega arith))
 
-  pub stores-outside : (outcome : ℕ → Outcome) (n : ℕ) (s : State) → ((k : ℕ) → k < n → Has size b (outcome k) → ⊥)
+  pub stores-outside : (outcome : ℕ → Outcome) (n : ℕ) (s : State) → ((k : ℕ) → k < n → Occupies size b (outcome k) → ⊥)
       → getD (transferred (stored size register) outcome n s .memory) b 0 ≡ getD (s .memory) b 0
   unfolding transferred
   stores-outside outcome zero s h = refl

@@ -7,8 +7,8 @@ use native.Mathlib.Nat.{le-refl}
 use native.Mathlib.Numerals.{add-one}
 use native.Mathlib.Omega.{arith}
 use lib.ListN.{length}
-use Rattle.numbers.specs.Places.{by-place}
-use Rattle.kinds.specs.Laws.{ElementSize}
+use Rattle.numbers.specs.Laws.Choice.{by-place}
+use Rattle.kinds.specs.Laws.Widths.{ElementSize}
 use Rattle.outcomes.specs.declared.Outcome.{Outcome}
 use Rattle.outcomes.specs.declared.Outcome.the-variants.{Skipped, Filled, Discarded, Placed}
 use Rattle.addressing.specs.declared.Access.{Access}

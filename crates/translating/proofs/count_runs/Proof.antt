@@ -4,8 +4,8 @@ use Prim.Native.Nat.{_-_, _^_, _<_, _≤_}
 use lib.ListN.{length, getD}
 use Rattle.runs.specs.declared.Run.{Run}
 use Rattle.runs.specs.Runs.{held as theHeld, ended, emit}
-use Rattle.runs.specs.Ranges.{held-small}
-use Rattle.runs.specs.Writing.{held-none, held-more, ending-is, count-none, count-more, count-few, count-all, emit-one}
+use Rattle.runs.specs.Laws.Ranges.{held-small}
+use Rattle.runs.specs.Laws.Writing.{held-none, held-more, ending-is, count-none, count-more, count-few, count-all, emit-one}
 use Rattle.translating.specs.Writing.{entriesOutcome}
 use Rattle.translating.proofs.Laws.{entry-near}
 use borrow.Author.Needs.{needs}

@@ -7,7 +7,7 @@ use Rattle.checking.specs.Laws.Readable.{sheet-readable, judged-read}
 use Rattle.sheet.specs.declared.Sheet.{Sheet}
 use Rattle.refusals.specs.Refusals.{notRefused}
 use Rattle.refusals.specs.declared.Refusal.{Refusal}
-use Rattle.numbers.specs.Choice.{went-not, went-past}
+use Rattle.numbers.specs.Laws.Choice.{went-not, went-past}
 use lib.Seq.{sets}
 use lib.ListN.{length}
 use denote.Ref.{now}

@@ -3,8 +3,8 @@ use mathlib.Core.Path.{_≡_, sym, _∙_}
 use Prim.Native.Nat.{_-_, _^_, _<_, _≤_}
 use lib.ListN.{getD}
 use Rattle.runs.specs.Runs.{held as theHeld}
-use Rattle.runs.specs.Ranges.{held-small, ending-within, held-within}
-use Rattle.runs.specs.Writing.{Written, held-none, held-more, ending-is, count-records, written-none, written-more, written-length, written-all, written-place, room-more, room-last}
+use Rattle.runs.specs.Laws.Ranges.{held-small, ending-within, held-within}
+use Rattle.runs.specs.Laws.Writing.{Written, held-none, held-more, ending-is, count-records, written-none, written-more, written-length, written-all, written-place, room-more, room-last}
 use Rattle.translating.specs.Writing.{entriesOutcome}
 use Rattle.translating.proofs.Laws.{entry-near}
 use borrow.Author.Needs.{needs}

@@ -15,8 +15,8 @@ use Rattle.registers.specs.declared.MatrixType.{MatrixType}
 use Rattle.addressing.specs.declared.Access.{Access}
 use Rattle.checking.specs.Steps.{accessOf, objectRegister, checkedStep}
 use Rattle.records.specs.Records.{tapeNumbers}
-use Rattle.records.specs.Laws.{tape-append}
-use Rattle.runs.specs.Unique.{stretches}
+use Rattle.records.specs.Laws.Records.{tape-append}
+use Rattle.runs.specs.Theorems.Unique.{stretches}
 use Rattle.translating.specs.Tapes.{copyRecords, accessRecords, stepRecords, tapeFrom, tapeOf}
 use Rattle.translating.specs.Theorems.Longest.{accessRuns, access-given, access-numbers}
 use Rattle.translating.specs.GivenTape.{AccessNumbers, StepNumbers, NumbersFrom, none, more, GivenTape}

@@ -10,9 +10,10 @@ use Rattle.records.specs.Records.{tapeNumbers}
 use Rattle.runs.specs.declared.Run.{Run}
 use Rattle.runs.specs.Runs.{runs}
 use Rattle.runs.specs.Even.{Stretch}
-use Rattle.runs.specs.Longest.{LongestRun, AllRuns, runs-longest}
-use Rattle.runs.specs.Unique.{runOf, stretches, runs-given}
-use Rattle.runs.specs.RunRecords.{recordsOf, runNumbers, of-runs, given-records, given-numbers}
+use Rattle.runs.specs.Theorems.Longest.{LongestRun, AllRuns, runs-longest}
+use Rattle.runs.specs.Theorems.Unique.{runOf, stretches, runs-given}
+use Rattle.runs.specs.RunRecords.{runNumbers}
+use Rattle.runs.specs.Laws.RunRecords.{recordsOf, of-runs, given-records, given-numbers}
 use Rattle.translating.specs.Tapes.{accessRecords}
 use Rattle.translating.specs.GivenTape.{AccessGiven}
 

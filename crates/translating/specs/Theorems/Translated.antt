@@ -9,11 +9,12 @@ use lib.Dec.{eqb}
 use lib.IntN.{ℤ}
 use lib.ListN.{length}
 use lib.Seq.{sets}
-use Rattle.numbers.specs.Choice.{pick, pick-case}
+use Rattle.numbers.specs.Choice.{pick}
+use Rattle.numbers.specs.Laws.Choice.{pick-case}
 use Rattle.sheet_reader.specs.Reading.{readSheet}
 use Rattle.checking.specs.Checking.{checkedSheet}
 use Rattle.records.specs.Records.{recordLength, tapeNumbers}
-use Rattle.records.specs.Laws.{length-tape}
+use Rattle.records.specs.Laws.Records.{length-tape}
 use Rattle.translating.specs.Tapes.{tapeOf}
 use Rattle.translating.specs.GivenTape.{GivenTape}
 use Rattle.translating.specs.Theorems.GivenTape.{tape-only}

@@ -3,9 +3,9 @@ use mathlib.Core.List.{List}
 use Prim.Native.Nat.{ℕ, _^_, _<_}
 use native.Mathlib.Omega.{arith}
 use lib.IntN.{pos, _+ℤ_}
-use Rattle.numbers.specs.Remainders.{remainder-lt}
+use Rattle.numbers.specs.Laws.Remainders.{remainder-lt}
 use Rattle.kinds.specs.Widths.{width}
-use Rattle.kinds.specs.Laws.{word-width}
+use Rattle.kinds.specs.Laws.Widths.{word-width}
 use Rattle.sheet.specs.declared.VectorStep.{VectorStep}
 use Rattle.vectors.specs.Components.{componentAt}
 use Rattle.vectors.specs.Results.{biasAt, productTo, resultAt, vectorResult}

@@ -5,8 +5,8 @@ use Prim.Native.Nat.{ℕ, _+_, _-_, _*_, _/_, _%_, _<_, _≤_}
 use native.Mathlib.Nat.{mul-le-mul-right}
 use native.Mathlib.Omega.{arith}
 use borrow.Author.Tests.{lt-ltb, le-ltb, leb-true}
-use Rattle.numbers.specs.Choice.{pick, pick-case, both-left, both-right}
-use Rattle.numbers.specs.Places.{by-order, by-test}
+use Rattle.numbers.specs.Choice.{pick}
+use Rattle.numbers.specs.Laws.Choice.{pick-case, both-left, both-right, by-order, by-test}
 use Rattle.sheet.specs.declared.VectorStep.{VectorStep}
 use Rattle.registers.specs.Laws.Grids.{row-end, number-at, number-row, number-column}
 use Rattle.vectors.specs.Places.{sizeOf, rowStep, columnStep, matrixByte, biasSize, biasByte, matrixElements, elementsOf, endOf}

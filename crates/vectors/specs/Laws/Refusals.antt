@@ -7,8 +7,8 @@ use native.Mathlib.Omega.{arith}
 use lib.Dec.{ltb}
 use borrow.Author.Tests.{le-ltb, ltb-true, ltb-false}
 use Rattle.numbers.specs.Choice.{pick}
-use Rattle.numbers.specs.Places.{by-test}
-use Rattle.numbers.specs.First.{first-none, first-before}
+use Rattle.numbers.specs.Laws.Choice.{by-test}
+use Rattle.numbers.specs.Laws.First.{first-none, first-before}
 use Rattle.refusals.specs.Refusals.{emptyRegister, shapesDisagree, outsideMemory, stopAt}
 use Rattle.refusals.specs.declared.Stop.{Stop}
 use Rattle.sheet.specs.declared.VectorStep.{VectorStep}

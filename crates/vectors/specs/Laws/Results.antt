@@ -6,12 +6,13 @@ use native.Mathlib.Nat.{mod-eq-of-lt}
 use native.Mathlib.Omega.{arith}
 use lib.IntN.{ℤ, pos, _*ℤ_}
 use lib.ListN.{getD}
-use Rattle.numbers.specs.Places.{places-given}
-use Rattle.numbers.specs.Remainders.{remainder, remainder-lt}
+use Rattle.numbers.specs.Laws.Places.{places-given}
+use Rattle.numbers.specs.Remainders.{remainder}
+use Rattle.numbers.specs.Laws.Remainders.{remainder-lt}
 use Rattle.kinds.specs.Widths.{bytesOf}
 use Rattle.kinds.specs.Values.{value}
-use Rattle.kinds.specs.ModuloLaws.{remainder-sum, dot-more, sum-more}
-use Rattle.kinds.specs.Sums.{products-same, sum-next}
+use Rattle.kinds.specs.Laws.Modulo.{remainder-sum, dot-more, sum-more}
+use Rattle.kinds.specs.Laws.Sums.{products-same, sum-next}
 use Rattle.sheet.specs.Sizes.{sidePlaces}
 use Rattle.sheet.specs.declared.VectorStep.{VectorStep}
 use Rattle.memory.specs.Elements.{elementAt}

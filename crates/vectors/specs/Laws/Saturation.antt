@@ -8,14 +8,14 @@ use lib.IntN.{ℤ, pos, subℕ}
 use lib.Pow.{pow-pos, pow-mono}
 use lib.Signed.{leZ}
 use borrow.Author.Tests.{le-leb, le-ltb, leb-true, leb-false}
-use Rattle.numbers.specs.Choice.{pick, both, pick-case}
-use Rattle.numbers.specs.Places.{by-test}
+use Rattle.numbers.specs.Choice.{pick, both}
+use Rattle.numbers.specs.Laws.Choice.{pick-case, by-test}
 use Rattle.numbers.specs.Remainders.{remainder}
 use Rattle.kinds.specs.Widths.{width}
 use Rattle.kinds.specs.Values.{signed, negative, taken, value}
-use Rattle.kinds.specs.Laws.{width-le}
-use Rattle.kinds.specs.ModuloLaws.{remainder-sub}
-use Rattle.kinds.specs.Raised.{taken-le, sub-order, raised-order}
+use Rattle.kinds.specs.Laws.Widths.{width-le}
+use Rattle.kinds.specs.Laws.Modulo.{remainder-sub}
+use Rattle.kinds.specs.Laws.Raised.{taken-le, sub-order, raised-order}
 use Rattle.vectors.specs.Saturation.{below, above, lowest, highest, saturated}
 use Rattle.vectors.specs.Residues.{clamped, lowRaised, highRaised}
 

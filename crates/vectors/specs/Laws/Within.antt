@@ -5,8 +5,7 @@ use Prim.Native.Nat.{ℕ, _+_, _<_, _≤_, zero-le}
 use native.Mathlib.Omega.{arith}
 use lib.Dec.{ltb}
 use borrow.Author.Tests.{ltb-true, le-leb}
-use Rattle.numbers.specs.Choice.{pick-case, both-left, both-right, between-low, between-high}
-use Rattle.kinds.specs.Widths.{kindOk}
+use Rattle.numbers.specs.Laws.Choice.{pick-case, both-left, both-right, between-low, between-high}
 use Rattle.refusals.specs.declared.Stop.{Stop}
 use Rattle.sheet.specs.Sizes.{registerCount, sidePlaces, matrixPlaces}
 use Rattle.sheet.specs.Editions.{limits}

@@ -84,6 +84,18 @@ multiply-block-requires c κs =
       rw (ea, eb, ec) (agreed _ _ _ (rw e at (s .pre .2 .1))),
     )
 
+enum-known-step-5 : tie.Need-enum-known-step-5
+enum-known-step-5 c = search needs
+
+the-type-requires-6 : tie.Need-the-type-requires-6
+the-type-requires-6 c κs = subst WholeParts (c .before .step5 .given .1) (c .before .before .before .before .pre .0 .parts) .input
+
+vector-block-requires : tie.Need-vector-block-requires
+vector-block-requires c κs =
+    let s = c .before .before .before .before .before .before in
+    let e = c .before .before .before .step5 .given .1 in
+    (subst WholeParts e (s .pre .0 .parts), rw (c .before .the-type6 .ensures) (rw e at (s .pre .2 .1)))
+
 returns : tie.Need-returns
 returns c = rw (c .before .before .step .given .1) (c .fill-block .ensures)
 
@@ -100,6 +112,9 @@ returns-3 c =
 
 returns-4 : tie.Need-returns-4
 returns-4 c = rw (c .before .before .before .before .before .before .step4 .given .1, ← c .before .before .before .before .the-type3 .ensures, ← c .before .before .before .the-type4 .ensures, ← c .before .before .the-type5 .ensures) (c .multiply-block .ensures)
+
+returns-5 : tie.Need-returns-5
+returns-5 c = rw (c .before .before .before .before .step5 .given .1, ← c .before .before .the-type6 .ensures) (c .vector-block .ensures)
 
 pub whole-block-spec : {M : Type 1} → statement M
 whole-block-spec =
@@ -122,7 +137,11 @@ whole-block-spec =
     the-type-requires-4
     the-type-requires-5
     multiply-block-requires
+    enum-known-step-5
+    the-type-requires-6
+    vector-block-requires
     returns
     returns-2
     returns-3
-    returns-4)
+    returns-4
+    returns-5)

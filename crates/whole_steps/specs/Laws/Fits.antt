@@ -17,6 +17,7 @@ use Rattle.registers.specs.declared.MatrixType.{MatrixType}
 use Rattle.reduces.specs.Laws.Fits.{reduced-fits}
 use Rattle.products.specs.Laws.Shapes.{agreed}
 use Rattle.products.specs.Laws.Fits.{multiplied-fits}
+use Rattle.vectors.specs.Laws.Fits.{vector-fits}
 use Rattle.whole_steps.specs.Refusals.{wholeRefusal}
 use Rattle.whole_steps.specs.Whole.{wholeResult, wholeType, wholeElement, wholeTypes, wholeElements}
 use Rattle.whole_steps.specs.Within.{WholeParts, WholeOk}
@@ -35,9 +36,10 @@ module _ (edition : ℕ) (ts : List MatrixType) (es memory : List ℕ) (s : Size
       f .each source p .inside _ (row-end j (t .rows) (t .columns) i l h)
   element-fits (MultiplyAdd result a b c) p e i j h l =
       multiplied-fits es a (theType ts a) b (theType ts b) c (theType ts c) (agreed (theType ts a) (theType ts b) (theType ts c) e) i j
+  element-fits (Vector v) p e i j h l = vector-fits es (theType ts (v .input) .kind) memory v p i j
 
   pub whole-fits : length ts ≡ registerCount → length es ≡ elementPlaces → (w : WholeStep) → WholeOk w
       → wholeRefusal edition ts (length memory) w .number ≡ 0 → Fit (wholeTypes ts w) (wholeElements ts es memory w)
   whole-fits p q w ok e =
-      fit-made ts es (wholeResult w) (wholeType ts w) (wholeElement ts es memory w) p q (ok .result) s (sized-type ts w s (ok .parts)) f
+      fit-made ts es (wholeResult w) (wholeType ts w) (wholeElement ts es memory w) p q s (sized-type ts w s (ok .parts)) f
       (element-fits w (ok .parts) e)

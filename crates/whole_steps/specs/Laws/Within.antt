@@ -1,14 +1,13 @@
--- What a sheet's whole step keeps to, that its result's type does, and that the element of its refusal is one of a matrix.
+-- What a sheet's whole step keeps to, that its result's type does, and that the element of its refusal is one of a matrix or of a bias.
 use mathlib.Core.Path.{_≡_, ap}
 use mathlib.Core.Bool.{true}
 use mathlib.Core.List.{List}
-use Prim.Native.Nat.{ℕ, _≤_}
+use Prim.Native.Nat.{ℕ, _+_, _≤_}
 use native.Mathlib.Omega.{arith}
 use borrow.Author.Tests.{ltb-true}
-use Rattle.numbers.specs.Choice.{both-left, both-right, between-low, between-high}
-use Rattle.numbers.specs.Places.{by-order}
+use Rattle.numbers.specs.Laws.Choice.{both-left, both-right, between-low, between-high, by-order}
 use Rattle.kinds.specs.Widths.{kindOk}
-use Rattle.sheet.specs.Sizes.{matrixPlaces}
+use Rattle.sheet.specs.Sizes.{sidePlaces, matrixPlaces}
 use Rattle.sheet.specs.Editions.{limits, sideOk}
 use Rattle.sheet.specs.Steps.{fillOk, reduceOk, transposeOk, multiplyOk, wholeOk}
 use Rattle.sheet.specs.Laws.Editions.{limits-side}
@@ -18,6 +17,7 @@ use Rattle.registers.specs.Types.{matrixType, theType}
 use Rattle.registers.specs.Sized.{SizedType, Sized}
 use Rattle.registers.specs.Laws.Sized.{sized-with}
 use Rattle.registers.specs.declared.MatrixType.{MatrixType}
+use Rattle.vectors.specs.Laws.Within.{vector-result, vector-parts, vector-sized, vector-element}
 use Rattle.whole_steps.specs.Refusals.{wholeRefusal}
 use Rattle.whole_steps.specs.Transposing.{transposedType}
 use Rattle.whole_steps.specs.Whole.{wholeResult, wholeType, wholeTypes}
@@ -45,6 +45,7 @@ whole-ok edition (MultiplyAdd result a b c) e =
     let f = both-right _ _ e in
     let g = both-right _ _ f in
     record { result = ltb-true _ _ (both-left _ _ e); parts = (ltb-true _ _ (both-left _ _ f), ltb-true _ _ (both-left _ _ g), ltb-true _ _ (both-right _ _ g)) }
+whole-ok edition (Vector v) e = record { result = vector-result edition v e; parts = vector-parts edition v e }
 
 sized-sides : (kind rows columns : ℕ) → kindOk kind ≡ true → Side rows → Side columns → SizedType (matrixType kind rows columns)
 sized-sides kind rows columns k m n =
@@ -69,14 +70,17 @@ sized-type ts (Fill register rows columns kind value) s p = sized-sides kind row
 sized-type ts (Reduce result source rows columns mode combine) s p = sized-sides _ rows columns (s .each source .kind) (p .1) (p .2)
 sized-type ts (Transpose result source) s p = sized-transposed (theType ts source) (s .each source)
 sized-type ts (MultiplyAdd result a b c) s p = s .each c
+sized-type ts (Vector v) s p = vector-sized v p
 
 -- so the types that it leaves are
 pub sized-whole : (ts : List MatrixType) (w : WholeStep) → Sized ts → WholeOk w → Sized (wholeTypes ts w)
 sized-whole ts w s ok = sized-with ts (wholeResult w) (wholeType ts w) s (sized-type ts w s (ok .parts))
 
--- the element that a refusal names is one of a matrix
-pub refusal-element : (edition : ℕ) (ts : List MatrixType) (len : ℕ) (w : WholeStep) → wholeRefusal edition ts len w .element ≤ matrixPlaces
-refusal-element edition ts len (Fill register rows columns kind value) = omega arith
-refusal-element edition ts len (Reduce result source rows columns mode combine) = omega arith
-refusal-element edition ts len (Transpose result source) = omega arith
-refusal-element edition ts len (MultiplyAdd result a b c) = omega arith
+-- the element that a refusal names is one of a matrix or, after these, of a bias
+pub refusal-element : (edition : ℕ) (ts : List MatrixType) (len : ℕ) (w : WholeStep) → WholeParts w
+    → wholeRefusal edition ts len w .element ≤ matrixPlaces + sidePlaces
+refusal-element edition ts len (Fill register rows columns kind value) p = omega arith
+refusal-element edition ts len (Reduce result source rows columns mode combine) p = omega arith
+refusal-element edition ts len (Transpose result source) p = omega arith
+refusal-element edition ts len (MultiplyAdd result a b c) p = omega arith
+refusal-element edition ts len (Vector v) p = vector-element (theType ts (v .input)) len v p

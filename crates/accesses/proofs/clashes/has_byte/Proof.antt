@@ -1,5 +1,5 @@
 use mathlib.Core.Path.{refl}
-use Rattle.numbers.specs.Choice.{stop, pass, tests}
+use Rattle.numbers.specs.Laws.Choice.{stop, pass, tests}
 use Rattle.accesses.specs.Entries.{hasByte}
 use Rattle.accesses.proofs.clashes.has_byte.Statement.{statement}
 use Rattle.accesses.proofs.clashes.has_byte.Tie as tie

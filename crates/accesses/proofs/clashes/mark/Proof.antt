@@ -4,8 +4,8 @@ use native.Mathlib.Nat.{mod-lt}
 use lib.Bits.{bitOr}
 use lib.ListN.{getD, set}
 use native.Mathlib.Omega.{arith}
-use Rattle.numbers.specs.Choice.{taken, left, went-not, went-past}
-use Rattle.accesses.specs.Marks.{wordOf, bitOf, fresh, withMark}
+use Rattle.numbers.specs.Laws.Choice.{taken, left, went-not, went-past}
+use Rattle.accesses.specs.Marks.{wordOf, bitOf, unmarked, withMark}
 use Rattle.accesses.proofs.Marks.{byte-some, word-inside, one-shifted}
 use borrow.Author.Needs.{needs}
 use Rattle.accesses.proofs.clashes.mark.Statement.{statement}
@@ -15,7 +15,7 @@ has-byte-requires : tie.Need-has-byte-requires
 has-byte-requires c κs = search needs
 
 returns : tie.Need-returns
-unfolding fresh withMark
+unfolding unmarked withMark
 returns c = let h = went-not (c .before .has-byte .ensures) (c .if1 .taken) in (left _ h refl, left _ h refl)
 
 sub-byte : tie.Need-sub-byte
@@ -43,7 +43,7 @@ shr-result : tie.Need-shr-result
 shr-result c = search needs
 
 returns-2 : tie.Need-returns-2
-unfolding fresh withMark
+unfolding unmarked withMark
 returns-2 c = let a = c .before .before .before .args in
     let h = went-past (c .before .before .has-byte .ensures) (c .before .if1 .left) in
     let e = one-shifted (bitOf (a .x)) (mod-lt (a .x - 1) (omega arith)) in

@@ -1,6 +1,6 @@
 use Prim.Native.Nat.{_-_, zero-le}
 use mathlib.Core.Path.{sym}
-use Rattle.numbers.specs.Choice.{went-not, went-past}
+use Rattle.numbers.specs.Laws.Choice.{went-not, went-past}
 use Rattle.accesses.proofs.Marks.{Marking, clear-mark, marking-start, marking-more, marking-stop, marking-end}
 use borrow.Author.Needs.{needs}
 use Rattle.accesses.proofs.clashes.mark_all.Statement.{statement}

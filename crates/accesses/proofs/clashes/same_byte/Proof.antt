@@ -1,5 +1,5 @@
 use mathlib.Core.Path.{refl}
-use Rattle.numbers.specs.Choice.{stop, pass, tests}
+use Rattle.numbers.specs.Laws.Choice.{stop, pass, tests}
 use Rattle.accesses.specs.Entries.{hits}
 use borrow.Author.Needs.{needs}
 use Rattle.accesses.proofs.clashes.same_byte.Statement.{statement}

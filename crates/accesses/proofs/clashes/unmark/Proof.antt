@@ -1,6 +1,6 @@
 use mathlib.Core.Path.{refl}
 use native.Mathlib.Omega.{arith}
-use Rattle.numbers.specs.Choice.{taken, left, went-not, went-past}
+use Rattle.numbers.specs.Laws.Choice.{taken, left, went-not, went-past}
 use Rattle.accesses.specs.Marks.{withoutMarks}
 use Rattle.accesses.proofs.Marks.{byte-some, word-inside}
 use borrow.Author.Needs.{needs}

@@ -1,7 +1,8 @@
 use mathlib.Core.Path.{_∙_}
 use borrow.Author.Tests.{le-leb, lt-leb}
 use borrow.Author.Needs.{needs}
-use Rattle.numbers.specs.Choice.{pick, taken, left}
+use Rattle.numbers.specs.Choice.{pick}
+use Rattle.numbers.specs.Laws.Choice.{taken, left}
 use Rattle.addressing.specs.Rules.{clamped}
 use Rattle.addressing.proofs.clamps.clamp.Statement.{statement}
 use Rattle.addressing.proofs.clamps.clamp.Tie as tie

@@ -2,9 +2,9 @@ use Prim.Native.Nat.{_*_, _-_}
 use mathlib.Core.Path.{refl}
 use native.Mathlib.Omega.{arith}
 use borrow.Author.Needs.{needs}
-use Rattle.numbers.specs.Choice.{taken, left, tests}
-use Rattle.numbers.specs.Remainders.{remainder-lt}
-use Rattle.addressing.specs.Rules.{mirrored, folded}
+use Rattle.numbers.specs.Laws.Choice.{taken, left, tests}
+use Rattle.numbers.specs.Laws.Remainders.{remainder-lt}
+use Rattle.addressing.specs.Rules.{mirrored, turnedBack}
 use Rattle.addressing.specs.Plans.{integer}
 use Rattle.addressing.proofs.clamps.mirror.Statement.{statement}
 use Rattle.addressing.proofs.clamps.mirror.Tie as tie
@@ -28,11 +28,11 @@ sub-result c =
     rw (c .before .rest .ensures) (omega (arith, remainder-lt (integer (a .c)) {n = 2 * a .n - 2} (search needs)))
 
 returns-2 : tie.Need-returns-2
-unfolding mirrored folded
+unfolding mirrored turnedBack
 returns-2 c = left _ (search tests) (rw (← c .before .rest .ensures) (taken _ (search tests) refl))
 
 returns-3 : tie.Need-returns-3
-unfolding mirrored folded
+unfolding mirrored turnedBack
 returns-3 c = left _ (search tests) (rw (← c .before .rest .ensures) (left _ (search tests) refl))
 
 pub mirror-spec : {M : Type 1} → statement M

@@ -1,5 +1,5 @@
 use borrow.Author.Needs.{needs}
-use Rattle.numbers.specs.Choice.{taken, left}
+use Rattle.numbers.specs.Laws.Choice.{taken, left}
 use Rattle.addressing.specs.Rules.{outside}
 use Rattle.addressing.proofs.clamps.outside.Statement.{statement}
 use Rattle.addressing.proofs.clamps.outside.Tie as tie

@@ -2,7 +2,7 @@ use mathlib.Core.Path.{refl}
 use native.Mathlib.Omega.{arith}
 use borrow.Author.Tests.{lt-ltb, le-ltb}
 use borrow.Author.Needs.{needs}
-use Rattle.numbers.specs.Choice.{taken, left}
+use Rattle.numbers.specs.Laws.Choice.{taken, left}
 use Rattle.addressing.specs.Rules.{outsideClip}
 use Rattle.addressing.proofs.clips.outside_clip.Statement.{statement}
 use Rattle.addressing.proofs.clips.outside_clip.Tie as tie

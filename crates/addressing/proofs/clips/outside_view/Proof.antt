@@ -1,5 +1,5 @@
 use Rattle.addressing.specs.Rules.{outsideView}
-use Rattle.numbers.specs.Choice.{taken, left, tests}
+use Rattle.numbers.specs.Laws.Choice.{taken, left, tests}
 use mathlib.Core.Path.{refl}
 use borrow.Author.Needs.{needs}
 use Rattle.addressing.proofs.clips.outside_view.Statement.{statement}

@@ -1,6 +1,6 @@
 use mathlib.Core.Path.{refl}
 use borrow.Author.Needs.{needs}
-use Rattle.numbers.specs.Choice.{taken, left}
+use Rattle.numbers.specs.Laws.Choice.{taken, left}
 use Rattle.addressing.specs.Plans.{sizesOf}
 use Rattle.addressing.proofs.views.sizes_of.Statement.{statement}
 use Rattle.addressing.proofs.views.sizes_of.Tie as tie

@@ -1,9 +1,9 @@
 use Prim.Native.Nat.{ℕ, _^_, _≤_, zero-le}
 use mathlib.Core.Path.{refl}
 use borrow.Author.Needs.{needs}
-use Rattle.numbers.specs.Choice.{taken, left}
-use Rattle.numbers.specs.Places.{none-all}
-use Rattle.sheet.specs.Sizes.{rankPlaces}
+use Rattle.numbers.specs.Laws.Choice.{taken, left}
+use Rattle.numbers.specs.Laws.Places.{none-all}
+use Rattle.sheet.specs.Sizes.{rankPlaces, sizeLimit}
 use Rattle.addressing.specs.Plans.{stridesOf}
 use Rattle.addressing.proofs.views.strides_of.Statement.{statement}
 use Rattle.addressing.proofs.views.strides_of.Tie as tie
@@ -17,7 +17,7 @@ returns c = (taken _ (c .before .if1 .taken) (c .view-strides .ensures .0), c .v
 
 returns-2 : tie.Need-returns-2
 unfolding stridesOf
-returns-2 c = (left _ (c .if1 .left) refl, none-all (λ (x : ℕ). x ≤ 4096 ^ 4) rankPlaces 0 0 zero-le zero-le)
+returns-2 c = (left _ (c .if1 .left) refl, none-all (λ (x : ℕ). x ≤ sizeLimit ^ 4) rankPlaces 0 0 zero-le zero-le)
 
 pub strides-of-spec : {M : Type 1} → statement M
 strides-of-spec = tie.close (tie.spec view-strides-requires returns returns-2)

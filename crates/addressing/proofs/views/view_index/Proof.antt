@@ -1,3 +1,4 @@
+use Rattle.sheet.specs.Sizes.{sizeLimit}
 use Rattle.addressing.proofs.Loops.{Weighing, weighing-start, weighing-more, weighing-end, product-most}
 use Rattle.addressing.specs.Rules.{viewIndex, viewCoordinates}
 use Rattle.sheet.specs.Laws.Facts.{view-most, view-entry, view-apart}
@@ -77,7 +78,7 @@ mul-sum-2 c = let s = c .before .before .before .before .before .before .before 
     let i = c .before .before .before .before .before .before .loop in
     let e = view-entry (s .args .v) (s .pre .0 .0) (i .k - 1) (omega (arith, i .inv .few)) in
     let five = view-most (s .args .v) (s .pre .0 .0) in
-    let h : c .before .long .result * getD (s .args .strides .now) (getD (s .args .permutation .now) (i .k - 1) 0) 0 ≤ 4096 ^ 5 =
+    let h : c .before .long .result * getD (s .args .strides .now) (getD (s .args .permutation .now) (i .k - 1) 0) 0 ≤ sizeLimit ^ 5 =
     rw (c .before .long .ensures, c .before .before .divide .ensures .0, s .pre .1) (product-most (i .left) (s .pre .0 .1 _ e) (s .pre .0 .2 (getD (s .args .v .permutation) (i .k - 1) 0))) in
     omega (arith, h, i .inv .small, i .inv .few, five)
 
@@ -86,7 +87,7 @@ add-sum c = let s = c .before .before .before .before .before .before .before .b
     let i = c .before .before .before .before .before .before .loop in
     let e = view-entry (s .args .v) (s .pre .0 .0) (i .k - 1) (omega (arith, i .inv .few)) in
     let five = view-most (s .args .v) (s .pre .0 .0) in
-    let h : c .before .long .result * getD (s .args .strides .now) (getD (s .args .permutation .now) (i .k - 1) 0) 0 ≤ 4096 ^ 5 =
+    let h : c .before .long .result * getD (s .args .strides .now) (getD (s .args .permutation .now) (i .k - 1) 0) 0 ≤ sizeLimit ^ 5 =
     rw (c .before .long .ensures, c .before .before .divide .ensures .0, s .pre .1) (product-most (i .left) (s .pre .0 .1 _ e) (s .pre .0 .2 (getD (s .args .v .permutation) (i .k - 1) 0))) in
     omega (arith, h, i .inv .small, i .inv .few, five)
 

@@ -1,5 +1,5 @@
 use borrow.Author.Needs.{needs}
-use Rattle.numbers.specs.Choice.{taken, left}
+use Rattle.numbers.specs.Laws.Choice.{taken, left}
 use Rattle.addressing.specs.Rules.{viewSizes}
 use Rattle.addressing.proofs.views.view_sizes.Statement.{statement}
 use Rattle.addressing.proofs.views.view_sizes.Tie as tie

@@ -1,6 +1,7 @@
 use Prim.Native.Nat.{_^_}
 use borrow.Author.Needs.{needs}
-use Rattle.numbers.specs.Choice.{taken, left}
+use Rattle.numbers.specs.Laws.Choice.{taken, left}
+use Rattle.sheet.specs.Sizes.{sizeLimit}
 use Rattle.addressing.proofs.Laws.{five-most}
 use Rattle.addressing.specs.Rules.{viewStrides}
 use Rattle.addressing.proofs.views.view_strides.Statement.{statement}
@@ -40,14 +41,14 @@ returns : tie.Need-returns
 unfolding viewStrides
 returns c = let s = c .before .before .before .before in (
   taken _ (s .before .if1 .taken) (cc),
-  five-most (4096 ^ 4) (s .stride-at .ensures .1) (c .before .before .before .stride-at2 .ensures .1) (c .before .before .stride-at3 .ensures .1) (c .before .stride-at4 .ensures .1) (c .stride-at5 .ensures .1),
+  five-most (sizeLimit ^ 4) (s .stride-at .ensures .1) (c .before .before .before .stride-at2 .ensures .1) (c .before .before .stride-at3 .ensures .1) (c .before .stride-at4 .ensures .1) (c .stride-at5 .ensures .1),
 )
 
 returns-2 : tie.Need-returns-2
 unfolding viewStrides
 returns-2 c = let s = c .before .before .before .before in (
   left _ (s .before .if1 .left) (cc),
-  five-most (4096 ^ 4) (s .row-major .ensures .1) (c .before .before .before .row-major2 .ensures .1) (c .before .before .row-major3 .ensures .1) (c .before .row-major4 .ensures .1) (c .row-major5 .ensures .1),
+  five-most (sizeLimit ^ 4) (s .row-major .ensures .1) (c .before .before .before .row-major2 .ensures .1) (c .before .before .row-major3 .ensures .1) (c .before .row-major4 .ensures .1) (c .row-major5 .ensures .1),
 )
 
 pub view-strides-spec : {M : Type 1} → statement M

@@ -1,5 +1,5 @@
 use mathlib.Core.Path.{sym, ap, _∙_}
-use Rattle.numbers.specs.Choice.{tests, taken, left}
+use Rattle.numbers.specs.Laws.Choice.{tests, taken, left}
 use Rattle.checking.specs.Steps.{accessCheck, movedCheck}
 use Rattle.accesses.specs.Refusals.{checkedAccess}
 use borrow.Author.Needs.{needs}

@@ -1,5 +1,5 @@
 use mathlib.Core.Path.{refl}
-use Rattle.numbers.specs.Choice.{ways, taken, left}
+use Rattle.numbers.specs.Laws.Choice.{ways, taken, left}
 use Rattle.fields.specs.Fields.{fieldAt}
 use borrow.Author.Needs.{needs}
 use Rattle.fields.proofs.Cursor.field.Statement.{statement}

@@ -1,6 +1,5 @@
-use Rattle.numbers.specs.Choice.{calls}
+use Rattle.numbers.specs.Laws.Choice.{calls}
 use Rattle.kinds.specs.Interpretations.{interpretationOk}
-use native.Mathlib.Omega.{arith}
 use borrow.Author.Needs.{needs}
 use Rattle.kinds.proofs.interpretations.interpretation_ok.Statement.{statement}
 use Rattle.kinds.proofs.interpretations.interpretation_ok.Tie as tie

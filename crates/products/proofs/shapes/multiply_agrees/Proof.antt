@@ -1,5 +1,5 @@
 use borrow.Author.Needs.{needs}
-use Rattle.numbers.specs.Choice.{tests, stop, pass}
+use Rattle.numbers.specs.Laws.Choice.{tests, stop, pass}
 use Rattle.products.specs.Shapes.{multiplyAgrees}
 use Rattle.products.proofs.shapes.multiply_agrees.Statement.{statement}
 use Rattle.products.proofs.shapes.multiply_agrees.Tie as tie

@@ -1,6 +1,6 @@
 use mathlib.Core.Path.{refl}
 use borrow.Author.Needs.{needs}
-use Rattle.numbers.specs.Choice.{taken, left, tests}
+use Rattle.numbers.specs.Laws.Choice.{taken, left, tests}
 use Rattle.products.specs.Shapes.{multiplyRefusal}
 use Rattle.products.proofs.shapes.multiply_refusal.Statement.{statement}
 use Rattle.products.proofs.shapes.multiply_refusal.Tie as tie

@@ -2,7 +2,8 @@ use mathlib.Core.Path.{_≡_, sym}
 use Prim.Native.Nat.{ℕ, _≤_, _-_, _+_, _*_}
 use native.Mathlib.Omega.{arith}
 use borrow.Author.Needs.{needs}
-use Rattle.numbers.specs.Lists.{line, line-none, line-step}
+use Rattle.numbers.specs.Lists.{line}
+use Rattle.numbers.specs.Laws.Lists.{line-none, line-step}
 use Rattle.registers.specs.Laws.Sized.{sides}
 use Rattle.reduces.specs.Parts.{foldAt, noFolds, folds}
 use Rattle.reduces.proofs.parts.fold_parts.Statement.{statement}

@@ -2,8 +2,9 @@ use mathlib.Core.Path.{_≡_, sym}
 use Prim.Native.Nat.{ℕ, _≤_, _-_, _+_, _*_}
 use native.Mathlib.Omega.{arith}
 use borrow.Author.Needs.{needs}
-use Rattle.numbers.specs.Lines.{line-next}
-use Rattle.numbers.specs.Lists.{line, line-none}
+use Rattle.numbers.specs.Laws.Lines.{line-next}
+use Rattle.numbers.specs.Lists.{line}
+use Rattle.numbers.specs.Laws.Lists.{line-none}
 use Rattle.reduces.specs.Parts.{quad}
 use Rattle.reduces.proofs.parts.quad_row.Statement.{statement}
 use Rattle.reduces.proofs.parts.quad_row.Tie as tie

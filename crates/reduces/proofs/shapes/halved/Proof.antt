@@ -1,5 +1,5 @@
 use borrow.Author.Needs.{needs}
-use Rattle.numbers.specs.Choice.{tests, stop, pass}
+use Rattle.numbers.specs.Laws.Choice.{tests, stop, pass}
 use Rattle.reduces.proofs.shapes.halved.Statement.{statement}
 use Rattle.reduces.proofs.shapes.halved.Tie as tie
 

@@ -1,6 +1,6 @@
 use mathlib.Core.Path.{refl}
 use borrow.Author.Needs.{needs}
-use Rattle.numbers.specs.Choice.{taken, left, tests}
+use Rattle.numbers.specs.Laws.Choice.{taken, left, tests}
 use Rattle.reduces.specs.Shapes.{reduceRefusal}
 use Rattle.reduces.proofs.shapes.reduce_refusal.Statement.{statement}
 use Rattle.reduces.proofs.shapes.reduce_refusal.Tie as tie

@@ -2,8 +2,8 @@ use denote.Ref.{now}
 use mathlib.Core.Path.{_≡_, sym}
 use mathlib.Core.List.{List}
 use Prim.Native.Nat.{ℕ, _-_, _≤_}
+use Rattle.numbers.specs.Orders.{inOrder}
 use Rattle.transfers.specs.Acts.{state}
-use Rattle.running.specs.Records.{inOrder}
 use Rattle.running.specs.Elements.{filling}
 use Rattle.running.specs.Laws.Elements.{order-none, fill-turn}
 use borrow.Author.Needs.{needs}

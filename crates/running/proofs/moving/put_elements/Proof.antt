@@ -2,9 +2,9 @@ use denote.Ref.{now}
 use lib.ListN.{length}
 use mathlib.Core.Path.{_≡_, refl, ap, _∙_}
 use Prim.Native.Nat.{ℕ, _+_, _-_, _≤_}
+use Rattle.numbers.specs.Orders.{inOrder}
 use Rattle.memory.specs.Laws.Elements.{length-with}
 use Rattle.transfers.specs.Acts.{state}
-use Rattle.running.specs.Records.{inOrder}
 use Rattle.running.specs.Elements.{putting}
 use Rattle.running.specs.Laws.Elements.{order-start, put-turn}
 use Rattle.judging.specs.Laws.Elements.{inside-lies}

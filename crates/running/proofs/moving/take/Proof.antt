@@ -1,13 +1,13 @@
 use denote.Ref.{now}
 use Prim.Native.Nat.{ℕ}
 use mathlib.Core.Path.{ap, _∙_}
+use Rattle.numbers.specs.Orders.{inOrder}
 use Rattle.kinds.specs.Widths.{bytesOf}
-use Rattle.kinds.specs.Laws.{bytes-size}
+use Rattle.kinds.specs.Laws.Widths.{bytes-size}
 use Rattle.registers.specs.Types.{theType}
 use Rattle.registers.specs.declared.MatrixType.{MatrixType}
 use Rattle.transfers.specs.Acts.{state}
 use Rattle.carrying.specs.Steps.{machineOf}
-use Rattle.running.specs.Records.{inOrder}
 use Rattle.running.specs.Elements.{taking}
 use Rattle.judging.specs.Laws.Elements.{elements-fit, bytes-elements, bytes-inside}
 use borrow.Author.Needs.{needs}

@@ -1,8 +1,8 @@
 use denote.Ref.{now}
 use mathlib.Core.Path.{_≡_}
 use Prim.Native.Nat.{ℕ, _+_, _-_, _≤_}
+use Rattle.numbers.specs.Orders.{inOrder}
 use Rattle.transfers.specs.Acts.{state}
-use Rattle.running.specs.Records.{inOrder}
 use Rattle.running.specs.Elements.{taking}
 use Rattle.running.specs.Laws.Elements.{order-start, take-turn}
 use Rattle.judging.specs.Laws.Elements.{inside-lies}

@@ -1,4 +1,4 @@
-use Rattle.numbers.specs.Choice.{calls}
+use Rattle.numbers.specs.Laws.Choice.{calls}
 use Rattle.sheet.specs.Codes.{flagCode}
 use Rattle.sheet.proofs.codes.flag_code.Statement.{statement}
 use Rattle.sheet.proofs.codes.flag_code.Tie as tie

@@ -1,4 +1,4 @@
-use Rattle.numbers.specs.Choice.{calls}
+use Rattle.numbers.specs.Laws.Choice.{calls}
 use Rattle.sheet.specs.Codes.{objectOf}
 use Rattle.sheet.proofs.codes.object_of.Statement.{statement}
 use Rattle.sheet.proofs.codes.object_of.Tie as tie

@@ -1,4 +1,4 @@
-use Rattle.numbers.specs.Choice.{calls}
+use Rattle.numbers.specs.Laws.Choice.{calls}
 use Rattle.sheet.specs.Editions.{tagKnown}
 use borrow.Author.Needs.{needs}
 use Rattle.sheet.proofs.editions.tag_known.Statement.{statement}

@@ -1,4 +1,4 @@
-use Rattle.numbers.specs.Choice.{tests, stop, pass}
+use Rattle.numbers.specs.Laws.Choice.{tests, stop, pass}
 use Rattle.sheet.specs.Layouts.{dimensionUnused}
 use Rattle.sheet.proofs.layouts.dimension_unused.Statement.{statement}
 use Rattle.sheet.proofs.layouts.dimension_unused.Tie as tie

@@ -1,4 +1,4 @@
-use Rattle.numbers.specs.Choice.{calls}
+use Rattle.numbers.specs.Laws.Choice.{calls}
 use Rattle.sheet.specs.Sizes.{offsetOk}
 use Rattle.sheet.proofs.sizes.offset_ok.Statement.{statement}
 use Rattle.sheet.proofs.sizes.offset_ok.Tie as tie

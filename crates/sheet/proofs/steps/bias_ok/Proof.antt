@@ -1,4 +1,4 @@
-use Rattle.numbers.specs.Choice.{calls}
+use Rattle.numbers.specs.Laws.Choice.{calls}
 use Rattle.sheet.specs.Steps.{biasOk}
 use Rattle.sheet.proofs.steps.bias_ok.Statement.{statement}
 use Rattle.sheet.proofs.steps.bias_ok.Tie as tie

@@ -1,4 +1,5 @@
-use Rattle.numbers.specs.Choice.{both, calls}
+use Rattle.numbers.specs.Choice.{both}
+use Rattle.numbers.specs.Laws.Choice.{calls}
 use Rattle.sheet.specs.Views.{entryOk}
 use borrow.Author.Needs.{needs}
 use Rattle.sheet.proofs.views.entry_ok.Statement.{statement}

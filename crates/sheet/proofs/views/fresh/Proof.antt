@@ -3,8 +3,9 @@ use mathlib.Core.Bool.{true, not}
 use Prim.Native.Nat.{ℕ, _-_, _≤_}
 use lib.Dec.{eqb}
 use lib.ListN.{getD}
-use Rattle.numbers.specs.Choice.{eq-not, ne-not}
-use Rattle.numbers.specs.All.{all, all-none, all-more, all-false}
+use Rattle.numbers.specs.Laws.Choice.{eq-not, ne-not}
+use Rattle.numbers.specs.All.{all}
+use Rattle.numbers.specs.Laws.All.{all-none, all-more, all-false}
 use Rattle.sheet.specs.Views.{fresh}
 use borrow.Author.Needs.{needs}
 use native.Mathlib.Omega.{arith}

@@ -1,4 +1,4 @@
-use Rattle.numbers.specs.Choice.{calls}
+use Rattle.numbers.specs.Laws.Choice.{calls}
 use Rattle.sheet.specs.Views.{sizedRank}
 use Rattle.sheet.proofs.views.sized_rank.Statement.{statement}
 use Rattle.sheet.proofs.views.sized_rank.Tie as tie

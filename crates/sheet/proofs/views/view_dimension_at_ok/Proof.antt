@@ -1,4 +1,4 @@
-use Rattle.numbers.specs.Choice.{calls}
+use Rattle.numbers.specs.Laws.Choice.{calls}
 use Rattle.sheet.specs.Views.{viewDimensionAtOk}
 use borrow.Author.Needs.{needs}
 use Rattle.sheet.proofs.views.view_dimension_at_ok.Statement.{statement}

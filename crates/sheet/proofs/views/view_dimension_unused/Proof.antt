@@ -1,4 +1,4 @@
-use Rattle.numbers.specs.Choice.{tests, stop, pass}
+use Rattle.numbers.specs.Laws.Choice.{tests, stop, pass}
 use Rattle.sheet.specs.Views.{viewDimensionUnused}
 use Rattle.sheet.proofs.views.view_dimension_unused.Statement.{statement}
 use Rattle.sheet.proofs.views.view_dimension_unused.Tie as tie

@@ -1,6 +1,6 @@
 use denote.Ref.{now}
 use borrow.Author.Needs.{needs}
-use Rattle.numbers.specs.Lists.{puts-after}
+use Rattle.numbers.specs.Laws.Lists.{puts-after}
 use Rattle.numbers.specs.Little.{u16Bytes}
 use Rattle.sheet_bytes.proofs.fields.put_u16s.Statement.{statement}
 use Rattle.sheet_bytes.proofs.fields.put_u16s.Tie as tie

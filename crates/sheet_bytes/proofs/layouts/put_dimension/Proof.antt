@@ -1,7 +1,7 @@
 use mathlib.Core.List.{_++_}
 use denote.Ref.{now}
 use borrow.Author.Needs.{needs}
-use Rattle.numbers.specs.Lists.{puts-after}
+use Rattle.numbers.specs.Laws.Lists.{puts-after}
 use Rattle.numbers.specs.Little.{u16Bytes}
 use Rattle.sheet_bytes.specs.Bytes.{dimensionBytes}
 use Rattle.sheet_bytes.proofs.layouts.put_dimension.Statement.{statement}

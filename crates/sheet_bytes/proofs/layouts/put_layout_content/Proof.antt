@@ -3,7 +3,8 @@ use mathlib.Core.List.{[], _∷_, _++_}
 use native.Mathlib.Omega.{arith}
 use denote.Ref.{now}
 use borrow.Author.Needs.{needs}
-use Rattle.numbers.specs.Lists.{each, puts-after}
+use Rattle.numbers.specs.Lists.{each}
+use Rattle.numbers.specs.Laws.Lists.{puts-after}
 use Rattle.numbers.specs.Little.{u32Bytes}
 use Rattle.sheet.specs.Codes.{clampCode}
 use Rattle.sheet.specs.Layouts.{theDimension}

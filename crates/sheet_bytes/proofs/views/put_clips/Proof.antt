@@ -1,6 +1,6 @@
 use denote.Ref.{now}
 use borrow.Author.Needs.{needs}
-use Rattle.numbers.specs.Lists.{puts-after}
+use Rattle.numbers.specs.Laws.Lists.{puts-after}
 use Rattle.sheet_bytes.specs.Bytes.{clipBytes}
 use Rattle.sheet_bytes.proofs.views.put_clips.Statement.{statement}
 use Rattle.sheet_bytes.proofs.views.put_clips.Tie as tie

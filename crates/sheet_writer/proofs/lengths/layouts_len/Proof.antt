@@ -3,7 +3,8 @@ use mathlib.Core.Path.{_≡_, refl}
 use native.Mathlib.Omega.{arith}
 use borrow.Author.Needs.{needs}
 use lib.ListN.{length}
-use Rattle.numbers.specs.Lists.{each, length-each-more}
+use Rattle.numbers.specs.Lists.{each}
+use Rattle.numbers.specs.Laws.Lists.{length-each-more}
 use Rattle.sheet.specs.Layouts.{theLayout}
 use Rattle.sheet.specs.Codes.{layoutTag}
 use Rattle.sheet_bytes.specs.Bytes.{layoutBytes, layoutField}

@@ -1,4 +1,4 @@
-use Rattle.numbers.specs.Choice.{ways}
+use Rattle.numbers.specs.Laws.Choice.{ways}
 use Rattle.vectors.specs.Residues.{clamped}
 use Rattle.vectors.proofs.components.clamped.Statement.{statement}
 use Rattle.vectors.proofs.components.clamped.Tie as tie

@@ -3,7 +3,7 @@ use Prim.Native.Nat.{ℕ, _%_, _^_}
 use lib.IntN.{ℤ}
 use lib.ListN.{getD}
 use borrow.Author.Needs.{needs}
-use Rattle.numbers.specs.Choice.{taken, tests, left}
+use Rattle.numbers.specs.Laws.Choice.{taken, tests, left}
 use Rattle.numbers.specs.Remainders.{remainder}
 use Rattle.kinds.specs.Values.{value}
 use Rattle.memory.specs.Elements.{byteOf}

@@ -3,7 +3,8 @@ use Prim.Native.Nat.{_-_, _≤_}
 use native.Mathlib.Omega.{arith}
 use lib.ListN.{replicate}
 use borrow.Author.Needs.{needs}
-use Rattle.numbers.specs.Lists.{line, line-start, line-step}
+use Rattle.numbers.specs.Lists.{line}
+use Rattle.numbers.specs.Laws.Lists.{line-start, line-step}
 use Rattle.sheet.specs.Sizes.{sidePlaces}
 use Rattle.vectors.specs.Residues.{residueAt, componentsOf}
 use Rattle.vectors.proofs.components.components_of.Statement.{statement}

@@ -3,8 +3,8 @@ use Prim.Native.Nat.{_+_}
 use native.Mathlib.Omega.{arith}
 use borrow.Author.Needs.{needs}
 use borrow.Author.Tests.{lt-ltb, le-ltb}
-use Rattle.numbers.specs.Choice.{taken, left}
-use Rattle.kinds.specs.Laws.{bytes-high}
+use Rattle.numbers.specs.Laws.Choice.{taken, left}
+use Rattle.kinds.specs.Laws.Widths.{bytes-high}
 use Rattle.registers.specs.Laws.Grids.{number-column}
 use Rattle.vectors.specs.Places.{endOf, matrixElements}
 use Rattle.vectors.proofs.places.end_of.Statement.{statement}

@@ -1,6 +1,6 @@
 use native.Mathlib.Omega.{arith}
 use borrow.Author.Needs.{needs}
-use Rattle.kinds.specs.Laws.{bytes-high}
+use Rattle.kinds.specs.Laws.Widths.{bytes-high}
 use Rattle.vectors.specs.Places.{rowStep}
 use Rattle.vectors.proofs.places.row_step.Statement.{statement}
 use Rattle.vectors.proofs.places.row_step.Tie as tie

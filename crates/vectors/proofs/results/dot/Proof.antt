@@ -5,8 +5,9 @@ use native.Mathlib.Omega.{arith}
 use borrow.Author.Needs.{needs}
 use Rattle.numbers.specs.Remainders.{remainder}
 use Rattle.kinds.specs.Values.{value}
-use Rattle.kinds.specs.Laws.{bytes-size, bytes-high}
-use Rattle.kinds.specs.Sums.{sumZ, sum-fits, product-fits}
+use Rattle.kinds.specs.Laws.Widths.{bytes-size}
+use Rattle.kinds.specs.Sums.{sumZ}
+use Rattle.kinds.specs.Laws.Sums.{sum-fits, product-fits}
 use Rattle.memory.specs.Elements.{elementAt}
 use Rattle.vectors.specs.Residues.{listed, lineTo}
 use Rattle.vectors.specs.Laws.Results.{line-next}

@@ -1,8 +1,9 @@
 use mathlib.Core.Path.{_≡_, sym, _∙_}
-use Prim.Native.Nat.{ℕ, _-_, _≤_}
+use Prim.Native.Nat.{_-_, _≤_}
 use native.Mathlib.Omega.{arith}
 use borrow.Author.Needs.{needs}
-use Rattle.numbers.specs.Lists.{line, line-none, line-step}
+use Rattle.numbers.specs.Lists.{line}
+use Rattle.numbers.specs.Laws.Lists.{line-none, line-step}
 use Rattle.registers.specs.Grids.{blank}
 use Rattle.registers.specs.Laws.Grids.{column-block}
 use Rattle.vectors.specs.Results.{resultAt}

@@ -3,7 +3,8 @@ use Prim.Native.Nat.{ℕ, _-_, _≤_}
 use native.Mathlib.Omega.{arith}
 use borrow.Author.Needs.{needs}
 use borrow.Author.Tests.{lt-ltb, le-ltb}
-use Rattle.numbers.specs.First.{firstFrom, first-found, first-next, first-end}
+use Rattle.numbers.specs.First.{firstFrom}
+use Rattle.numbers.specs.Laws.First.{first-found, first-next, first-end}
 use Rattle.vectors.specs.Places.{endOf}
 use Rattle.vectors.specs.Refusals.{outside}
 use Rattle.vectors.proofs.stops.first_outside.Statement.{statement}

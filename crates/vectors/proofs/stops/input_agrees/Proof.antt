@@ -1,6 +1,6 @@
 use mathlib.Core.Path.{refl}
 use borrow.Author.Needs.{needs}
-use Rattle.numbers.specs.Choice.{taken, left, tests, stop, pass}
+use Rattle.numbers.specs.Laws.Choice.{taken, left, tests, stop, pass}
 use Rattle.vectors.specs.Refusals.{inputAgrees}
 use Rattle.vectors.proofs.stops.input_agrees.Statement.{statement}
 use Rattle.vectors.proofs.stops.input_agrees.Tie as tie

@@ -2,7 +2,7 @@ use mathlib.Core.Path.{refl}
 use native.Mathlib.Omega.{arith}
 use borrow.Author.Needs.{needs}
 use borrow.Author.Tests.{lt-leb, le-leb}
-use Rattle.numbers.specs.Choice.{taken, left, tests, stop, pass}
+use Rattle.numbers.specs.Laws.Choice.{taken, left, tests, stop, pass}
 use Rattle.vectors.specs.Within.{lastEnd, lastInside}
 use Rattle.vectors.proofs.stops.last_inside.Statement.{statement}
 use Rattle.vectors.proofs.stops.last_inside.Tie as tie

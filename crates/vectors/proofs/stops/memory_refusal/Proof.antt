@@ -2,7 +2,7 @@ use mathlib.Core.Path.{sym, _∙_, ap}
 use native.Mathlib.Omega.{arith}
 use borrow.Author.Needs.{needs}
 use borrow.Author.Tests.{lt-ltb, le-ltb}
-use Rattle.numbers.specs.Choice.{tests, taken, left}
+use Rattle.numbers.specs.Laws.Choice.{tests, taken, left}
 use Rattle.refusals.specs.Refusals.{outsideMemory, stopAt}
 use Rattle.vectors.specs.Places.{elementsOf}
 use Rattle.vectors.specs.Refusals.{memoryRefusal, firstOutside}

@@ -52,6 +52,15 @@ multiply-refusal-requires c κs = search needs
 stop-at-requires-4 : tie.Need-stop-at-requires-4
 stop-at-requires-4 c κs = search needs
 
+enum-known-step-4 : tie.Need-enum-known-step-4
+enum-known-step-4 c = search needs
+
+the-type-requires-6 : tie.Need-the-type-requires-6
+the-type-requires-6 c κs = subst WholeParts (c .before .step4 .given .1) (c .before .before .before .pre .parts) .input
+
+vector-refusal-requires : tie.Need-vector-refusal-requires
+vector-refusal-requires c κs = search needs
+
 returns : tie.Need-returns
 returns c = rw (c .before .enum-told .given .1) (c .stop-at .ensures)
 
@@ -63,6 +72,9 @@ returns-3 c = rw (c .before .before .before .before .step2 .given .1) (cc)
 
 returns-4 : tie.Need-returns-4
 returns-4 c = rw (c .before .before .before .before .before .before .step3 .given .1) (cc)
+
+returns-5 : tie.Need-returns-5
+returns-5 c = rw (c .before .before .before .step4 .given .1) (cc)
 
 pub whole-refusal-spec : {M : Type 1} → statement M
 whole-refusal-spec =
@@ -84,7 +96,11 @@ whole-refusal-spec =
     the-type-requires-5
     multiply-refusal-requires
     stop-at-requires-4
+    enum-known-step-4
+    the-type-requires-6
+    vector-refusal-requires
     returns
     returns-2
     returns-3
-    returns-4)
+    returns-4
+    returns-5)

@@ -1,6 +1,6 @@
 use mathlib.Core.Path.{refl}
 use borrow.Author.Needs.{needs}
-use Rattle.numbers.specs.Choice.{taken, left, tests}
+use Rattle.numbers.specs.Laws.Choice.{taken, left, tests}
 use Rattle.whole_steps.specs.Transposing.{transposeRefusal}
 use Rattle.whole_steps.proofs.transposes.transpose_refusal.Statement.{statement}
 use Rattle.whole_steps.proofs.transposes.transpose_refusal.Tie as tie

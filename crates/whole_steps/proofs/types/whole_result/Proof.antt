@@ -14,6 +14,9 @@ enum-known-step-3 c = search needs
 enum-known-step-4 : tie.Need-enum-known-step-4
 enum-known-step-4 c = search needs
 
+enum-known-step-5 : tie.Need-enum-known-step-5
+enum-known-step-5 c = search needs
+
 returns : tie.Need-returns
 returns c = rw (c .before .step .given .1)
 
@@ -26,6 +29,9 @@ returns-3 c = search needs
 returns-4 : tie.Need-returns-4
 returns-4 c = search needs
 
+returns-5 : tie.Need-returns-5
+returns-5 c = rw (c .before .step5 .given .1)
+
 pub whole-result-spec : {M : Type 1} → statement M
 whole-result-spec =
     tie.close
@@ -34,7 +40,9 @@ whole-result-spec =
     enum-known-step-2
     enum-known-step-3
     enum-known-step-4
+    enum-known-step-5
     returns
     returns-2
     returns-3
-    returns-4)
+    returns-4
+    returns-5)

@@ -31,6 +31,12 @@ enum-known-step-4 c = search needs
 the-type-requires-3 : tie.Need-the-type-requires-3
 the-type-requires-3 c κs = subst WholeParts (c .before .step4 .given .1) (c .before .before .before .pre .parts) .2
 
+enum-known-step-5 : tie.Need-enum-known-step-5
+enum-known-step-5 c = search needs
+
+vector-type-requires : tie.Need-vector-type-requires
+vector-type-requires c κs = search needs
+
 returns : tie.Need-returns
 returns c = rw (c .before .step .given .1)
 
@@ -42,6 +48,9 @@ returns-3 c = rw (c .before .before .before .step3 .given .1, ← c .before .the
 
 returns-4 : tie.Need-returns-4
 returns-4 c = rw (c .before .before .step4 .given .1) (c .the-type3 .ensures)
+
+returns-5 : tie.Need-returns-5
+returns-5 c = rw (c .before .before .step5 .given .1) (c .vector-type .ensures)
 
 pub whole-type-spec : {M : Type 1} → statement M
 whole-type-spec =
@@ -56,7 +65,10 @@ whole-type-spec =
     transposed-type-requires
     enum-known-step-4
     the-type-requires-3
+    enum-known-step-5
+    vector-type-requires
     returns
     returns-2
     returns-3
-    returns-4)
+    returns-4
+    returns-5)

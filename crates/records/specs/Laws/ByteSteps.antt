@@ -5,7 +5,7 @@ use native.Mathlib.Nat.{mul-sub}
 use native.Mathlib.Omega.{arith}
 use lib.IntN.{ℤ, pos, negsuc, +ℤ-idl, +ℤ-idr}
 use Rattle.signed.specs.Numbers.{rise, fall, difference}
-use Rattle.signed.specs.Laws.{rise-difference, fall-difference}
+use Rattle.signed.specs.Laws.Numbers.{rise-difference, fall-difference}
 use Rattle.records.specs.Records.{evenByte}
 
 pub difference-parts : (s : ℤ) → difference (rise s) (fall s) ≡ s

@@ -4,21 +4,21 @@ use mathlib.Core.Path.{_≡_, refl, sym, ap, subst, _∙_}
 use mathlib.Core.Bool.{Bool, true, false, true≢false}
 use mathlib.Core.List.{List, [], _∷_, _++_}
 use native.Mathlib.Omega.{arith}
-use borrow.Author.Tests.{eqb-true, eqb-false, leb-true, leb-false}
-use lib.Dec.{eqb, leb}
+use borrow.Author.Tests.{eqb-true, eqb-false}
+use lib.Dec.{eqb}
 use lib.IntN.{ℤ}
-use Rattle.numbers.specs.Choice.{pick-case}
+use Rattle.numbers.specs.Laws.Choice.{pick-case, by-order}
 use Rattle.numbers.specs.Lists.{each}
 use Rattle.outcomes.specs.declared.Outcome.{Outcome}
 use Rattle.outcomes.specs.declared.Outcome.the-variants.{Skipped, Filled, Discarded, Placed}
 use Rattle.signed.specs.Numbers.{difference}
-use Rattle.records.specs.ByteSteps.{at-step, step-at}
+use Rattle.records.specs.Laws.ByteSteps.{at-step, step-at}
 use Rattle.runs.specs.declared.Run.{Run}
 use Rattle.runs.specs.declared.Run.the-variants.{Idle, Bytes, Fills}
-use Rattle.runs.specs.declared.Turn.{Turn}
+use Rattle.runs.specs.declared.Progress.{Progress}
 use Rattle.runs.specs.Runs.{lone, meetByte, meetFill, next, emit, held, ending, ended, runs}
 use Rattle.runs.specs.Even.{Stretch, bytes, fills, firstOf, countOf, EvenBytes, EvenFills, Even, Longest}
-use Rattle.runs.specs.Alike.{same-byte, same-value, alike-byte, alike-step, alike-value, one-sort}
+use Rattle.runs.specs.Laws.Alike.{same-byte, same-value, alike-byte, alike-step, alike-value, one-sort}
 
 -- a run of bytes that is taken, its step as an integer; up - down goes one way
 pub record LongestBytes (f : ℕ → Outcome) (n e m b u d : ℕ) : Type 0 where
@@ -54,13 +54,6 @@ Open f k Idle = Unit {0}
 Open f k (Bytes e m b u d) = Going f k e m b u d
 Open f k (Fills e m v) = Pouring f k e m v
 
-pub by-order : {P : Type 0} (a b : ℕ) → (a ≤ b → P) → (b < a → P) → P
-by-order {P = P} a b p q = by (leb a b) refl
-  where
-    by : (t : Bool) → leb a b ≡ t → P
-    by true e = p (leb-true a b e)
-    by false e = q (leb-false a b e)
-
 module _ (f : ℕ → Outcome) where
   even-bytes : {k e m b u d : ℕ} (n : ℕ) → k ≤ n → Going f k e m b u d → EvenBytes f n e m b (difference u d)
   unfolding difference
@@ -89,7 +82,7 @@ module _ (f : ℕ → Outcome) where
           no .1 (step-at b u d m (here .byte) z)
 
       most : (q : Stretch) → Even f n q → firstOf q ≡ e → countOf q ≤ m
-      most (bytes e₁ l c t) q z = by-order l m (λ w. w) (λ w. absurd (too-long l c t (rw z at q) w))
+      most (bytes e₁ l c t) q z = by-order m l (λ w. absurd (too-long l c t (rw z at q) w)) (λ w. w)
       most (fills e₁ l v) q z = absurd (one-sort f even (rw z at q))
 
   longest-fills : {k e m v : ℕ} (n : ℕ) → k ≤ n → Pouring f k e m v → (k < n → f k ≡ Filled v → ⊥) → Longest f n (fills e m v)
@@ -104,7 +97,7 @@ module _ (f : ℕ → Outcome) where
 
       most : (q : Stretch) → Even f n q → firstOf q ≡ e → countOf q ≤ m
       most (bytes e₁ l c t) q z = absurd (one-sort f (rw z at q) even)
-      most (fills e₁ l w) q z = by-order l m (λ y. y) (λ y. absurd (too-long l w (rw z at q) y))
+      most (fills e₁ l w) q z = by-order m l (λ y. absurd (too-long l w (rw z at q) y)) (λ y. y)
 
   -- ---- one element more
 
@@ -113,7 +106,7 @@ module _ (f : ℕ → Outcome) where
   Done n (Bytes e m b u d) = LongestBytes f n e m b u d
   Done n (Fills e m v) = Longest f n (fills e m v)
 
-  record Turned (n k : ℕ) (t : Turn) : Type 0 where
+  record Turned (n k : ℕ) (t : Progress) : Type 0 where
     was : Open f k (t .done)
     done : Done n (t .done)
     held : Open f (suc k) (t .held)
@@ -138,7 +131,7 @@ module _ (f : ℕ → Outcome) where
   -- what holds of each of m elements, and of the next
   one-more : (P : ℕ → Type 0) (m : ℕ) → ((i : ℕ) → i < m → P i) → P m → (i : ℕ) → i < m + 1 → P i
   one-more P m p q i l =
-      by-order m i (λ h. subst P (omega arith) q) (λ h. p i h)
+      by-order i m (λ h. p i h) (λ h. subst P (omega arith) q)
 
   second-going : {k e m b u d : ℕ} (x : ℕ) → Going f k e m b u d → m ≡ 1 → f k ≡ Placed x → Going f (suc k) e 2 b (x - b) (b - x)
   second-going {k} {e} {m} {b} {u} {d} x g h q =

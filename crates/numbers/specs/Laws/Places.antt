@@ -1,29 +1,21 @@
 -- What stands at each place of a list: one that a loop wrote, and one whose first places are given and whose others are unused.
 use Prim.Native.Nat.{ℕ, _+_, _<_, _≤_}
-use mathlib.Core.Path.{_≡_, refl, sym, _∙_}
+use mathlib.Core.Path.{_≡_, sym, _∙_}
 use mathlib.Core.List.{List}
-use mathlib.Core.Bool.{Bool, true, false}
+use mathlib.Core.Bool.{Bool, true}
 use native.Mathlib.Nat.{zero-add, not-suc-le-zero}
 use native.Mathlib.Omega.{arith}
-use borrow.Author.Tests.{eqb-true, eqb-false, ltb-true, ltb-false, lt-ltb, le-ltb}
-use lib.Dec.{eqb, ltb}
+use borrow.Author.Tests.{ltb-true, ltb-false, lt-ltb, le-ltb}
+use lib.Dec.{ltb}
 use lib.ListN.{length, getD, set, replicate, length-replicate, getD-replicate, List·getD-eq-default}
 use lib.Seq.{ext-getD, getD-set-same, getD-set-other}
-use Rattle.numbers.specs.Choice.{pick, pick-case}
-use Rattle.numbers.specs.All.{all, all-at, all-true}
-use Rattle.numbers.specs.Lists.{line, length-line}
-use Rattle.numbers.specs.Lines.{line-inside, line-outside}
-
-pub by-test : {P : Type 0} (b : Bool) → (b ≡ true → P) → (b ≡ false → P) → P
-by-test true f g = f refl
-by-test false f g = g refl
-
--- a place is the one in question, or another
-pub by-place : {P : Type 0} (k n : ℕ) → (k ≡ n → P) → ((k ≡ n → ⊥) → P) → P
-by-place k n f g = by-test (eqb k n) (λ q. f (eqb-true k n q)) (λ q. g (eqb-false k n q))
-
-pub by-order : {P : Type 0} (k n : ℕ) → (k < n → P) → (n ≤ k → P) → P
-by-order k n f g = by-test (ltb k n) (λ q. f (ltb-true k n q)) (λ q. g (ltb-false k n q))
+use Rattle.numbers.specs.Choice.{pick}
+use Rattle.numbers.specs.Laws.Choice.{pick-case, by-place, by-order}
+use Rattle.numbers.specs.All.{all}
+use Rattle.numbers.specs.Laws.All.{all-at, all-true}
+use Rattle.numbers.specs.Lists.{line}
+use Rattle.numbers.specs.Laws.Lists.{length-line}
+use Rattle.numbers.specs.Laws.Lines.{line-inside, line-outside}
 
 -- a place past those written from the first on
 past-line : {A : Type 0} (d : List A) (g : ℕ → A) (n k : ℕ) (z : A) → n ≤ k → getD (line d 0 g n) k z ≡ getD d k z

@@ -6,7 +6,8 @@ use native.Mathlib.Nat.{suc-mul}
 use native.Mathlib.Omega.{arith}
 use lib.ListN.{length, getD, set, length-append}
 use lib.Seq.{getD-set-same, getD-set-other}
-use Rattle.numbers.specs.Lists.{each, each-more}
+use Rattle.numbers.specs.Lists.{each}
+use Rattle.numbers.specs.Laws.Lists.{each-more}
 
 module _ {B : Type 0} where
   pub each-same : (n : ℕ) (f g : ℕ → List B) → ((k : ℕ) → k < n → f k ≡ g k) → each n f ≡ each n g

@@ -5,8 +5,8 @@ use native.Mathlib.Omega.{arith}
 use lib.IntN.{ℤ}
 use Rattle.outcomes.specs.declared.Outcome.{Outcome}
 use Rattle.outcomes.specs.declared.Outcome.the-variants.{Filled, Placed}
-use Rattle.signed.specs.Laws.{one-way}
-use Rattle.records.specs.ByteSteps.{at-parts, same-parts}
+use Rattle.signed.specs.Laws.Numbers.{one-way}
+use Rattle.records.specs.Laws.ByteSteps.{at-parts, same-parts}
 use Rattle.runs.specs.Even.{EvenBytes, EvenFills}
 
 pub same-byte : {x y : ℕ} {o : Outcome} → o ≡ Placed x → o ≡ Placed y → x ≡ y

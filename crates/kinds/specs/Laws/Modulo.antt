@@ -9,7 +9,8 @@ use native.Mathlib.Decide.{decLt}
 use lib.Dec.{ltb}
 use lib.IntN.{ℤ, pos, negsuc, sucℤ, subℕ, _+ℤ_, _*ℤ_, +ℤ-sucℤ, +ℤ-idr, -ℤ-+ℤ-cancel, sucℤ-*ℤ, zero-*ℤ}
 use borrow.Author.Tests.{ltb-true, ltb-false}
-use Rattle.numbers.specs.Remainders.{remainder, remainder-lt}
+use Rattle.numbers.specs.Remainders.{remainder}
+use Rattle.numbers.specs.Laws.Remainders.{remainder-lt}
 
 module _ (m : ℕ) (some : 0 < m) where
   remainder-mod : (z : ℤ) → remainder z m % m ≡ remainder z m

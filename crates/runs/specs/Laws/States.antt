@@ -5,6 +5,7 @@ use mathlib.Core.Bool.{Bool}
 use mathlib.Core.List.{List, [], _∷_, _++_}
 use native.Mathlib.Numerals.{add-one}
 use native.Mathlib.Omega.{arith}
+use Rattle.numbers.specs.Orders.{inOrder}
 use Rattle.numbers.specs.Lists.{each}
 use Rattle.outcomes.specs.declared.Outcome.{Outcome}
 use Rattle.outcomes.specs.declared.Outcome.the-variants.{Skipped, Filled, Discarded, Placed}
@@ -14,8 +15,9 @@ use Rattle.records.specs.Records.{moved}
 use Rattle.runs.specs.declared.Run.{Run}
 use Rattle.runs.specs.declared.Run.the-variants.{Idle, Bytes, Fills}
 use Rattle.runs.specs.Runs.{next, held, runs, runRecords, endedRecords, runsRecords}
-use Rattle.runs.specs.Longest.{Open, held-open, ending-open}
-use Rattle.runs.specs.Acts.{Act, meet, give, one, spread, pour, acts, actsAll, kept, held-ends, runs-acts}
+use Rattle.runs.specs.Theorems.Longest.{Open, held-open, ending-open}
+use Rattle.runs.specs.Acts.{Act, one, spread, pour, acts, actsAll, meet, give}
+use Rattle.runs.specs.Theorems.Acts.{kept, held-ends, runs-acts}
 
 -- records on a state, one after the other
 unfoldable pub performAll : {S : Type 0} → (Record → S → S) → List Record → S → S
@@ -124,11 +126,6 @@ module _ {S : Type 0} (act : S → Act → S) (perform : Record → S → S) (lo
       ∙ performed-upto n (omega arith) s
 
 -- ---- the same where an element acts by its outcome
-
--- acts 0 to n - 1, each on what the one before left
-unfoldable pub inOrder : {S : Type 0} → (ℕ → S → S) → ℕ → S → S
-inOrder act zero s = s
-inOrder act (suc n) s = act n (inOrder act n s)
 
 module _ {S : Type 0} (act : ℕ → Outcome → S → S) where
   abbrev byOutcome : S → Act → S

@@ -8,9 +8,9 @@ use lib.IntN.{pos, negsuc, subℕ}
 use lib.Pow.{pow-mono}
 use lib.Signed.{leZ}
 use borrow.Author.Tests.{le-leb, lt-leb, leb-true, leb-false, ltb-true, ltb-false}
-use Rattle.numbers.specs.Choice.{pick-case}
+use Rattle.numbers.specs.Laws.Choice.{pick-case}
 use Rattle.kinds.specs.Values.{negative, taken}
-use Rattle.kinds.specs.Laws.{width-le}
+use Rattle.kinds.specs.Laws.Widths.{width-le}
 
 pub taken-le : (kind x : ℕ) → taken kind x ≤ 2 ^ 32
 unfolding taken

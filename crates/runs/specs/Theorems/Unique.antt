@@ -3,19 +3,19 @@ use Prim.Native.Nat.{ℕ, zero, suc, _+_, _≤_, _<_}
 use mathlib.Core.Path.{_≡_, refl, sym, ap, ap₂, subst, _∙_}
 use mathlib.Core.List.{List, [], _∷_, _++_, map, append-assoc, append-nil}
 use native.Mathlib.Omega.{arith}
-use Rattle.numbers.specs.Choice.{pick-case}
+use Rattle.numbers.specs.Laws.Choice.{pick-case, by-order}
 use Rattle.numbers.specs.Lists.{each}
 use Rattle.outcomes.specs.declared.Outcome.{Outcome}
 use Rattle.outcomes.specs.declared.Outcome.the-variants.{Skipped, Filled, Discarded, Placed}
 use Rattle.signed.specs.Numbers.{rise, fall, difference}
-use Rattle.records.specs.ByteSteps.{rise-back, fall-back}
+use Rattle.records.specs.Laws.ByteSteps.{rise-back, fall-back}
 use Rattle.runs.specs.declared.Run.{Run}
 use Rattle.runs.specs.declared.Run.the-variants.{Idle, Bytes, Fills}
-use Rattle.runs.specs.declared.Turn.{Turn}
+use Rattle.runs.specs.declared.Progress.{Progress}
 use Rattle.runs.specs.Runs.{meetByte, meetFill, next, emit, held, ending, ended, runs}
 use Rattle.runs.specs.Even.{Stretch, bytes, fills, firstOf, countOf, endOf, Silent, Each, EvenBytes, Even, Longest, Gap, Covers, Given}
-use Rattle.runs.specs.Alike.{alike-byte, alike-step, alike-value, one-sort}
-use Rattle.runs.specs.Longest.{Open, LongestRun, AllRuns, none, more, by-order, held-open, runs-longest}
+use Rattle.runs.specs.Laws.Alike.{alike-byte, alike-step, alike-value, one-sort}
+use Rattle.runs.specs.Theorems.Longest.{Open, LongestRun, AllRuns, none, more, held-open, runs-longest}
 
 -- a stretch as a run: its step, how far up and how far down
 abbrev pub runOf : Stretch → Run
@@ -58,7 +58,7 @@ module _ (f : ℕ → Outcome) where
 
   joined-gap : {a b c : ℕ} → Gap f a b → Gap f b c → Gap f a c
   joined-gap {b = b} p q =
-      record { order = omega (arith, p .order, q .order); silent = λ i g h. by-order b i (λ w. q .silent i w h) (λ w. p .silent i g w) }
+      record { order = omega (arith, p .order, q .order); silent = λ i g h. by-order i b (λ w. p .silent i g w) (λ w. q .silent i w h) }
 
   covers-gap : {b c : ℕ} (a : ℕ) (rs : List Stretch) → Covers f a b rs → Gap f b c → Covers f a c rs
   covers-gap a [] p q = joined-gap p q
@@ -81,7 +81,7 @@ module _ (f : ℕ → Outcome) where
       subst (λ (x : ℕ). Covers f 0 x (rs ++ stretchOf (Fills e m v))) (g .ends) (covers-run 0 rs (fills e m v) p)
 
   -- what is done is covered up to where the open run begins
-  abbrev Covered : ℕ → List Stretch → Turn → Type 0
+  abbrev Covered : ℕ → List Stretch → Progress → Type 0
   Covered k rs t = Covers f 0 (start (t .held) (suc k)) (rs ++ stretchOf (t .done))
 
   covered : (k : ℕ) (r : Run) (o : Outcome) (rs : List Stretch) → Open f k r → f k ≡ o → Covers f 0 (start r k) rs → Covered k rs (next r k o)
@@ -138,7 +138,7 @@ module _ (f : ℕ → Outcome) (n : ℕ) where
 
   -- so no gap reaches past it
   gap-before : {a b : ℕ} (r : Stretch) → Even f n r → a ≤ firstOf r → Gap f a b → b ≤ firstOf r
-  gap-before {a} {b} r p h g = by-order b (firstOf r) (λ w. w) (λ w. absurd (not-silent r p (g .silent (firstOf r) h w)))
+  gap-before {a} {b} r p h g = by-order (firstOf r) b (λ w. absurd (not-silent r p (g .silent (firstOf r) h w))) (λ w. w)
 
   some-within : (r : Stretch) → Even f n r → firstOf r < n
   some-within (bytes e m b s) p = omega (arith, p .some, p .within)
@@ -148,7 +148,7 @@ module _ (f : ℕ → Outcome) (n : ℕ) where
   even-once : (r q : Stretch) → Even f n r → Even f n q → firstOf r ≡ firstOf q → countOf r ≡ countOf q → r ≡ q
   even-once (bytes e m b s) (bytes e₁ l c t) p q z w =
       let r : EvenBytes f n e₁ m b s = rw z at p in
-      let step = by-order l 1 (λ h. p .lone (omega (arith, q .some)) ∙ sym (q .lone (omega (arith, q .some)))) (λ h. alike-step f r q (omega arith) h) in
+      let step = by-order 1 l (λ h. alike-step f r q (omega arith) h) (λ h. p .lone (omega (arith, q .some)) ∙ sym (q .lone (omega (arith, q .some)))) in
       rw (z, w, alike-byte f r q, step)
   even-once (bytes e m b s) (fills e₁ l v) p q z w = absurd (one-sort f (rw z at p) q)
   even-once (fills e m v) (bytes e₁ l c t) p q z w = absurd (one-sort f q (rw z at p))

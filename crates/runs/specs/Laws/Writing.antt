@@ -8,13 +8,14 @@ use native.Mathlib.Omega.{arith}
 use lib.IntN.{ℤ}
 use lib.ListN.{length, length-append}
 use lib.Seq.{sets, length-sets}
-use Rattle.numbers.specs.Lists.{each, each-more, each-fits, length-each-more, puts-after}
+use Rattle.numbers.specs.Lists.{each}
+use Rattle.numbers.specs.Laws.Lists.{each-more, each-fits, length-each-more, puts-after}
 use Rattle.outcomes.specs.declared.Outcome.{Outcome}
 use Rattle.records.specs.Records.{recordLength, tapeNumbers}
-use Rattle.records.specs.Laws.{length-tape, tape-append}
+use Rattle.records.specs.Laws.Records.{length-tape, tape-append}
 use Rattle.runs.specs.declared.Run.{Run}
 use Rattle.runs.specs.declared.Run.the-variants.{Idle, Bytes, Fills}
-use Rattle.runs.specs.declared.Turn.{Turn}
+use Rattle.runs.specs.declared.Progress.{Progress}
 use Rattle.runs.specs.Runs.{next, emit, held, ending, ended, runs, runRecords, endedRecords, runsRecords}
 
 -- ---- the open run
@@ -23,16 +24,16 @@ pub held-none : (f : ℕ → Outcome) → held f 0 ≡ Idle
 unfolding held
 held-none f = refl
 
-module _ (f : ℕ → Outcome) (k : ℕ) {r : Run} {o : Outcome} {t : Turn} (is : r ≡ held f k) (at : o ≡ f k) (so : t ≡ next r k o) where
+module _ (f : ℕ → Outcome) (k : ℕ) {r : Run} {o : Outcome} {t : Progress} (is : r ≡ held f k) (at : o ≡ f k) (so : t ≡ next r k o) where
   turn-is : t ≡ next (held f k) k (f k)
   turn-is = so ∙ rw (is, at)
 
   pub ending-is : t .done ≡ ending f k
-  ending-is = ap (λ (x : Turn). x .done) turn-is
+  ending-is = ap (λ (x : Progress). x .done) turn-is
 
   pub held-more : t .held ≡ held f (k + 1)
   unfolding held
-  held-more = rw add-one (ap (λ (x : Turn). x .held) turn-is)
+  held-more = rw add-one (ap (λ (x : Progress). x .held) turn-is)
 
 -- ---- the number of records
 

@@ -1,0 +1,245 @@
+-- Every place, second place and count of an answer is small.
+use Prim.Native.Nat.{ℕ, zero, suc, _+_, _-_, _*_, _^_, _<_, _≤_}
+use mathlib.Core.Path.{_≡_, refl, ap}
+use mathlib.Core.Bool.{true, false}
+use mathlib.Core.List.{List}
+use native.Mathlib.Nat.{sub-zero}
+use native.Mathlib.Omega.{arith}
+use borrow.Author.Tests.{eqb-true, eqb-false, ltb-true}
+use lib.Dec.{eqb, ltb, leb}
+use lib.IntN.{ℤ}
+use lib.ListN.{length}
+use Rattle.numbers.specs.Choice.{pick}
+use Rattle.numbers.specs.Laws.Choice.{pick-case}
+use Rattle.sheet.specs.Sheets.{emptySheet, noTensors, writable}
+use Rattle.sheet.specs.Steps.{theStep, stepOk}
+use Rattle.refusals.specs.declared.Refusal.{Refusal}
+use Rattle.sheet.specs.declared.Tensors.{Tensors}
+use Rattle.sheet.specs.declared.Sheet.{Sheet}
+use Rattle.sheet.specs.declared.Step.{Step}
+use Rattle.sheet.specs.declared.Step.the-variants.{Nothing, Load, Store, Whole}
+use Rattle.sheet_reader.specs.Reading.{refusedRead, acceptedRead, readSheet}
+use Rattle.sheet_reader.specs.declared.ReadAnswer.{ReadAnswer}
+use Rattle.sheet_writer.specs.Bytes.{sheetBytes}
+use Rattle.sheet_writer.specs.Writing.{written}
+use Rattle.sheet_writer.specs.declared.WriteAnswer.{WriteAnswer}
+use Rattle.sheet.specs.Sizes.{sidePlaces, matrixPlaces, recordPlaces, memoryLimit}
+use Rattle.sheet.specs.Laws.Within.{Within, within, within-places}
+use Rattle.round_trip.specs.Laws.Sheets.{sheet-short}
+use Rattle.round_trip.specs.Laws.Growing.{reading}
+use Rattle.sheet_reader.specs.Laws.Growing.{read-within}
+use Rattle.registers.specs.Types.{theType, isEmpty, withType}
+use Rattle.registers.specs.Sized.{Sized}
+use Rattle.registers.specs.Laws.Sized.{sized-empty, sized-places}
+use Rattle.registers.specs.Registers.{emptyRegisters}
+use Rattle.registers.specs.declared.MatrixType.{MatrixType}
+use Rattle.addressing.specs.Rules.{elementsOf}
+use Rattle.addressing.specs.declared.Access.{Access}
+use Rattle.addressing.specs.declared.Located.{Located}
+use Rattle.accesses.specs.Refusals as accesses
+use Rattle.accesses.specs.Refusals.{elementOutcome, misplaced, otherRank, storeBlocked, firstRefused, sameAt, clashFrom, clashRefusal, elementsRefusal, accessRefusal}
+use Rattle.refusals.specs.declared.Stop.{Stop}
+use Rattle.whole_steps.specs.Laws.Within.{whole-ok, refusal-element}
+use Rattle.checking.specs.Steps.{accessOf, objectRegister, accessCheck, checkedStep}
+use Rattle.carrying.specs.Steps.{Machine}
+use Rattle.checking.specs.Checking.{checkedFrom, checked, checkedSheet}
+use Rattle.carrying.specs.Carrying.{performed, started, carried}
+use Rattle.checking.specs.Laws.Steps.{check-sized, step-placed}
+use Rattle.checking.specs.Laws.Turns.{within-step}
+use Rattle.carrying.specs.Theorems.Counts.{sheet-count}
+use Rattle.checking.specs.declared.StepCheck.{StepCheck}
+use Rattle.checking.specs.declared.CheckAnswer.{CheckAnswer}
+use Rattle.carrying.specs.declared.CarryAnswer.{CarryAnswer}
+use Rattle.records.specs.declared.Decoded.{Decoded}
+use Rattle.translating.specs.Translating.{fitsRoom, translated}
+use Rattle.judging.specs.Judging.{tapeRecord, decodedOk, decodedTypes, rangeFrom, tapeRefusal}
+use Rattle.running.specs.Running.{ran, ranDecoded, runRefusal, runTape}
+use Rattle.running.specs.Laws.Turns.{RunReady, ready-start, turn-next, turns-end}
+use Rattle.records.specs.Laws.Records.{fit-few}
+use Rattle.judging.specs.Laws.Turns.{tape-fit, tape-clear}
+use Rattle.translating.specs.declared.TranslateAnswer.{TranslateAnswer}
+use Rattle.moonbleat.specs.Small.{Small}
+
+-- a limit's refusal, then reading's, then what the sheet gives
+by-reading : {A : Type 0} (P : A → Type 0) (s : List ℕ) (len : ℕ) {x y z : A} → (Within (readSheet s .sheet) → P x) → (0 < readSheet s .refusal .number → P y) → P z
+    → P (pick (leb len memoryLimit) (pick (eqb (readSheet s .refusal .number) 0) x y) z)
+by-reading P s len {x} {y} {z} f g h =
+    pick-case P (leb len memoryLimit) _ z
+    (λ l. pick-case P (eqb (readSheet s .refusal .number) 0) x y
+    (λ e. f (read-within s (eqb-true _ 0 e)))
+    (λ e. let d = eqb-false (readSheet s .refusal .number) 0 e in g (omega arith)))
+    (λ l. h)
+
+-- ---- reading and writing
+
+pub read-small : (s : List ℕ) → Small (readSheet s .refusal) 0
+unfolding refusedRead acceptedRead
+read-small s =
+    reading s (λ (r : ReadAnswer). Small (r .refusal) 0) (λ n at h m l. (omega arith, omega arith, omega arith))
+    (λ sh g. (omega arith, omega arith, omega arith))
+
+-- the counts of a sheet
+abbrev pub SmallSheet : Sheet → Type 0
+SmallSheet sh = (sh .tensors .layouts < 2 ^ 32) × (sh .tensors .views < 2 ^ 32) × (sh .steps < 2 ^ 32)
+
+pub counts-small : (s : List ℕ) → SmallSheet (readSheet s .sheet)
+unfolding refusedRead acceptedRead emptySheet noTensors
+counts-small s =
+    reading s (λ (r : ReadAnswer). SmallSheet (r .sheet)) (λ n at h m l. (omega arith, omega arith, omega arith))
+    (λ sh g. let w = g .grown .within in (omega (arith, w .tensors .layouts), omega (arith, w .tensors .views), omega (arith, within-places w)))
+
+pub written-small : (sh : Sheet) (room : ℕ) → Small (written sh room .refusal) (written sh room .bytes)
+unfolding written
+written-small sh room =
+    pick-case P (writable sh) _ _
+    (λ e. pick-case P (leb (length (sheetBytes sh)) room) _ _ (λ l. (omega arith, omega arith, omega (arith, sheet-short sh (within sh e))))
+    (λ l. (omega arith, omega arith, omega arith)))
+    (λ e. (omega arith, omega arith, omega arith))
+  where
+    P : WriteAnswer → Type 0
+    P r = Small (r .refusal) (r .bytes)
+
+-- ---- checking and carrying out
+
+-- a refusal of elements is at one of them
+first-among : (f : ℕ → Located) (k m : ℕ) → firstRefused f k m .element ≤ k + m
+unfolding firstRefused
+first-among f k zero = omega arith
+first-among f k (suc m) =
+    pick-case (λ (t : Stop). t .element ≤ k + suc m) (eqb (f k .refusal) 0) _ _ (λ e. omega (arith, first-among f (suc k) m)) (λ e. omega arith)
+
+clash-among : (m i : ℕ) → clashRefusal m i .element ≤ m
+unfolding clashRefusal
+clash-among m i = pick-case (λ (t : Stop). t .element ≤ m) (ltb i m) _ _ (λ e. omega (arith, ltb-true i m e)) (λ e. omega arith)
+
+access-among : (a : Access) → accessRefusal a .element ≤ elementsOf a
+unfolding accessRefusal elementsRefusal
+access-among a =
+    let f = elementOutcome a in
+    let m = elementsOf a in
+    pick-case P (misplaced a) _ _ (λ e. omega arith)
+    (λ e. pick-case P (otherRank a) _ _ (λ e. omega arith)
+    (λ e. pick-case P (storeBlocked a) _ _ (λ e. omega arith)
+    (λ e. pick-case P (eqb (firstRefused f 0 m .number) 0) _ _
+    (λ e. pick-case P (a .load) _ _ (λ e. omega arith) (λ e. clash-among m (clashFrom (sameAt f) 0 m)))
+    (λ e. omega (arith, first-among f 0 m)))))
+  where
+    P : Stop → Type 0
+    P t = t .element ≤ elementsOf a
+
+-- of at most a register's
+moved-among : (before after : List MatrixType) (t : MatrixType) (a : Access) → elementsOf a ≤ matrixPlaces → accessCheck before after t a .stop .element ≤ matrixPlaces
+unfolding accessCheck accesses.checkedElements
+moved-among before after t a s =
+    pick-case (λ (c : StepCheck). c .stop .element ≤ matrixPlaces) (isEmpty t) _ _ (λ e. omega arith) (λ e. omega (arith, s, access-among a))
+
+step-element : (edition : ℕ) (tensors : Tensors) (ts : List MatrixType) (len : ℕ) (step : Step) (layouts views : ℕ)
+    → stepOk edition layouts views step ≡ true → Sized ts → checkedStep edition tensors ts len step .stop .element ≤ matrixPlaces + sidePlaces
+unfolding checkedStep
+step-element edition tensors ts len Nothing layouts views ok s = omega arith
+step-element edition tensors ts len (Load register object window) layouts views ok s =
+    let t = theType ts (objectRegister register object) in
+    omega (arith, moved-among ts (withType ts register t) t (accessOf tensors true window t len) (sized-places t (s .each (objectRegister register object))))
+step-element edition tensors ts len (Store register window) layouts views ok s =
+    let t = theType ts register in
+    omega (arith, moved-among ts ts t (accessOf tensors false window t len) (sized-places t (s .each register)))
+step-element edition tensors ts len (Whole whole) layouts views ok s = refusal-element edition ts len whole (whole-ok edition whole ok .parts)
+
+abbrev SmallCheck : CheckAnswer → Type 0
+SmallCheck c = Small (c .refusal) (c .count)
+
+-- steps of at most a register's elements each
+module _ (sh : Sheet) (w : Within sh) (len : ℕ) where
+  from-small : (n k : ℕ) (ts : List MatrixType) (count : ℕ) → k + n ≤ sh .steps → count ≤ k * matrixPlaces → Sized ts → SmallCheck (checkedFrom n sh len k ts count)
+  unfolding checkedFrom
+  from-small zero k ts count l few s = (omega arith, omega arith, omega (arith, within-places w))
+  from-small (suc n) k ts count l few s =
+      let step = theStep (sh .step) k in
+      let c = checkedStep (sh .edition) (sh .tensors) ts len step in
+      let ok = within-step sh w k (omega arith) in
+      pick-case SmallCheck (eqb (c .stop .number) 0) _ _
+      (λ e. from-small n (k + 1) (c .types) (count + c .placed) (omega arith) (omega (arith, step-placed (sh .edition) (sh .tensors) ts len step s))
+      (check-sized (sh .edition) (sh .tensors) ts len step (sh .edition) (sh .tensors .layouts) (sh .tensors .views) ok s))
+      (λ e. (omega (arith, within-places w), omega (arith, step-element (sh .edition) (sh .tensors) ts len step (sh .tensors .layouts) (sh .tensors .views) ok s), omega arith))
+
+  checked-small : SmallCheck (checked sh len)
+  unfolding checked
+  checked-small = from-small (sh .steps) 0 (emptyRegisters .types) 0 (omega arith) (omega arith) sized-empty
+
+pub check-small : (s : List ℕ) (len : ℕ) → Small (checkedSheet s len .refusal) (checkedSheet s len .count)
+unfolding checkedSheet
+check-small s len = by-reading SmallCheck s len (λ w. checked-small _ w len) (λ n. read-small s) (omega arith, omega arith, omega arith)
+
+-- performing an accepted sheet counts what its check counted
+carried-count : (s memory : List ℕ) → checkedSheet s (length memory) .refusal .number ≡ 0 → performed (readSheet s .sheet) (started memory) .count ≡ checkedSheet s (length memory) .count
+unfolding checkedSheet
+carried-count s memory =
+    by-reading (λ (c : CheckAnswer). c .refusal .number ≡ 0 → performed (readSheet s .sheet) (started memory) .count ≡ c .count) s (length memory)
+    (λ w h. sheet-count _ w memory h) (λ n h. absurd (omega arith)) (λ h. absurd (omega arith))
+
+pub carried-small : (s memory : List ℕ) → Small (carried s memory .refusal) (carried s memory .count)
+unfolding carried
+carried-small s memory =
+    let c = check-small s (length memory) in
+    pick-case (λ (r : CarryAnswer). Small (r .refusal) (r .count)) (eqb (checkedSheet s (length memory) .refusal .number) 0) _ _
+    (λ e. (omega arith, omega arith, rw (carried-count s memory (eqb-true _ 0 e)) (c .2))) (λ e. (c .0, c .1, omega arith))
+
+-- ---- translating and running
+
+abbrev pub SmallTranslate : TranslateAnswer → Type 0
+SmallTranslate r = (r .records < 2 ^ 32) × Small (r .refusal) (r .count)
+
+pub translated-small : (s : List ℕ) (len room : ℕ) → SmallTranslate (translated s len room)
+unfolding translated fitsRoom
+translated-small s len room =
+    let c = check-small s len in
+    pick-case SmallTranslate (eqb (checkedSheet s len .refusal .number) 0) _ _
+    (λ e. pick-case SmallTranslate (fitsRoom s len room) _ _ (λ f. (omega (arith, fit-few _ _ _ f), (omega arith, omega arith, c .2)))
+    (λ f. (omega arith, (omega arith, omega arith, omega arith))))
+    (λ e. (omega arith, (c .0, c .1, omega arith)))
+
+range-small : (n : ℕ) (sh : Sheet) (len : ℕ) (the : ℕ → Decoded) (k : ℕ) (ts : List MatrixType) → k + n ≤ recordPlaces → Small (rangeFrom n sh len the k ts) 0
+unfolding rangeFrom
+range-small zero sh len the k ts l = (omega arith, omega arith, omega arith)
+range-small (suc n) sh len the k ts l =
+    pick-case (λ (r : Refusal). Small r 0) (decodedOk sh ts len (the k)) _ _ (λ e. range-small n sh len the (k + 1) (decodedTypes sh ts (the k)) (omega arith))
+    (λ e. (omega arith, omega arith, omega arith))
+
+-- records of at most a register's elements each
+ran-few : (n : ℕ) (sh : Sheet) → Within sh → (len : ℕ) (the : ℕ → Decoded) (goal : Machine) (left k : ℕ) (m : Machine) → k + left ≡ n → RunReady (n - k) sh len the k m goal
+    → goal .count ≤ n * matrixPlaces
+ran-few n sh w len the goal zero k m e r =
+    let q = ap (λ (x : Machine). x .count) (turns-end n sh len the k m goal r (omega arith)) in omega (arith, q, r .few)
+ran-few n sh w len the goal (suc left) k m e r =
+    ran-few n sh w len the goal left (k + 1) (ranDecoded sh (the k) m) (omega arith) (turn-next n sh len the k m goal r (omega arith) w refl)
+
+module _ (s : List ℕ) (tape : List ℤ) (records : ℕ) where
+  refusal-small : (len : ℕ) → Small (runRefusal s tape records len) 0
+  unfolding runRefusal tapeRefusal
+  refusal-small len =
+      by-reading P s len
+      (λ w. pick-case P _ _ _ (λ f. range-small records _ len (tapeRecord tape) 0 (emptyRegisters .types) (omega (arith, fit-few _ _ _ f)))
+      (λ f. (omega arith, omega arith, omega arith)))
+      (λ n. read-small s) (omega arith, omega arith, omega arith)
+    where
+      P : Refusal → Type 0
+      P r = Small r 0
+
+  ran-small : (memory : List ℕ) → runRefusal s tape records (length memory) .number ≡ 0 → ran records (readSheet s .sheet) (tapeRecord tape) (started memory) .count < 2 ^ 32
+  unfolding runRefusal
+  ran-small memory =
+      by-reading (λ (r : Refusal). r .number ≡ 0 → ran records (readSheet s .sheet) (tapeRecord tape) (started memory) .count < 2 ^ 32) s (length memory)
+      (λ w h.
+      let sh = readSheet s .sheet in
+      let f = fit-few _ _ _ (tape-fit sh tape records (length memory) h) in
+      let r = ready-start records sh (tapeRecord tape) memory (tape-clear sh tape records (length memory) h) in
+      let few = ran-few records sh w (length memory) (tapeRecord tape) (ran records sh (tapeRecord tape) (started memory)) records 0 (started memory) (omega arith) (rw (sub-zero records) r) in
+      omega (arith, f, few))
+      (λ n h. absurd (omega arith)) (λ h. absurd (omega arith))
+
+  pub run-small : (memory : List ℕ) → Small (runTape s tape records memory .refusal) (runTape s tape records memory .count)
+  unfolding runTape
+  run-small memory =
+      let c = refusal-small (length memory) in
+      pick-case (λ (r : CarryAnswer). Small (r .refusal) (r .count)) (eqb (runRefusal s tape records (length memory) .number) 0) _ _
+      (λ e. (omega arith, omega arith, ran-small memory (eqb-true _ 0 e))) (λ e. (c .0, c .1, omega arith))

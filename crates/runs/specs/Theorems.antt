@@ -1,0 +1,4 @@
+-- What the crate is there to claim.
+pub mod Longest
+pub mod Unique
+pub mod Acts
