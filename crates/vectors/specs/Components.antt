@@ -1,6 +1,6 @@
 -- The components of the input, as the step's input interpretation takes them from the input register.
-use Prim.Native.Nat.{ℕ, _/_, _%_}
 use mathlib.Core.List.{List}
+use Prim.Native.Nat.{ℕ, _/_, _%_}
 use lib.Dec.{eqb}
 use lib.IntN.{ℤ}
 use Rattle.numbers.specs.Choice.{pick}

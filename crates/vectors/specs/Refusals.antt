@@ -1,6 +1,6 @@
 -- Refusals 7, 8 and 14 of a vector step, in order, by the type of its input register and the memory's length.
-use Prim.Native.Nat.{ℕ, _+_, _/_}
 use mathlib.Core.Bool.{Bool}
+use Prim.Native.Nat.{ℕ, _+_, _/_}
 use lib.Dec.{eqb, ltb}
 use Rattle.numbers.specs.Choice.{pick, both}
 use Rattle.numbers.specs.First.{firstFrom}

@@ -1,32 +1,20 @@
--- What the inner functions of a vector step give: whether the last elements lie in memory, saturated numbers raised by 2^32, components modulo 2^32.
-use Prim.Native.Nat.{ℕ, _+_, _-_, _*_, _^_}
-use mathlib.Core.Bool.{Bool, true}
+-- What the inner functions of a vector step give: numbers raised by 2^32 and clamped, components modulo 2^32, and sums of products over them.
 use mathlib.Core.List.{List}
+use Prim.Native.Nat.{ℕ, _+_, _-_, _*_, _^_}
 use lib.Dec.{leb}
 use lib.IntN.{ℤ, pos, _*ℤ_}
 use lib.ListN.{getD, replicate}
-use Rattle.numbers.specs.Choice.{pick, both}
+use Rattle.numbers.specs.Choice.{pick}
 use Rattle.numbers.specs.Lists.{line}
 use Rattle.numbers.specs.Remainders.{remainder}
 use Rattle.kinds.specs.Widths.{bytesOf}
 use Rattle.kinds.specs.Values.{value}
 use Rattle.kinds.specs.Sums.{sumZ}
-use Rattle.memory.specs.Elements.{elementAt}
 use Rattle.sheet.specs.Sizes.{sidePlaces}
 use Rattle.sheet.specs.declared.VectorStep.{VectorStep}
-use Rattle.vectors.specs.Places.{sizeOf, matrixByte, biasByte}
+use Rattle.memory.specs.Elements.{elementAt}
 use Rattle.vectors.specs.Saturation.{below, above}
 use Rattle.vectors.specs.Components.{componentAt}
-
--- the byte past those of the last matrix element
-unfoldable pub lastEnd : VectorStep → ℕ
-lastEnd v = matrixByte v (v .rows - 1) (v .columns - 1) + sizeOf v
-
--- the last matrix element, and the last bias element if there is a bias, lie in memory
-unfoldable pub lastInside : VectorStep → ℕ → Bool
-lastInside v memory =
-    both (leb (lastEnd v) memory)
-    (pick (v .biased) (leb (biasByte v (v .rows)) memory) true)
 
 -- a number from low to high stays, another becomes the nearer end
 unfoldable pub clamped : ℕ → ℕ → ℕ → ℕ

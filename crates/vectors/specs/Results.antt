@@ -1,6 +1,6 @@
 -- What a vector step makes: the matrix times the input, a column vector, plus the bias. Sums wrap at 32 bits.
-use Prim.Native.Nat.{ℕ, _^_}
 use mathlib.Core.List.{List}
+use Prim.Native.Nat.{ℕ, _^_}
 use lib.IntN.{ℤ, pos, _+ℤ_, _*ℤ_}
 use Rattle.numbers.specs.Choice.{pick}
 use Rattle.numbers.specs.Remainders.{remainder}

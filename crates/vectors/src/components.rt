@@ -8,11 +8,10 @@ ghost use Rattle.sheet.specs.Sizes.{registerCount, sidePlaces, matrixPlaces};
 ghost use Rattle.vectors.specs.Saturation.{below, saturated};
 ghost use Rattle.vectors.specs.Components.{packedKind, componentAt};
 ghost use Rattle.vectors.specs.Residues.{clamped, lowRaised, highRaised, componentsOf};
+use super::WRAP;
 use kinds::interpretations;
 use sheet::VectorStep;
 use sheet::sizes::SIDE;
-
-const WRAP: u64 = 4294967296;
 
 // How far the values of a kind go below zero.
 fn below(kind: u8) -> u64

@@ -18,6 +18,9 @@ use registers::MatrixType;
 use sheet::VectorStep;
 use sheet::sizes::PLACES;
 
+// Sums wrap at 32 bits.
+const WRAP: u64 = 4294967296;
+
 // By the type of the input register and the memory's length: 7, 8 or 14.
 pub fn vector_refusal(t: MatrixType, memory: usize, v: VectorStep) -> Stop
     ensures { λ r. ⌜ r ≡ vectorRefusal t memory v ⌝ }

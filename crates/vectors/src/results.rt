@@ -11,13 +11,12 @@ ghost use Rattle.vectors.specs.Places.{biasSize, biasByte};
 ghost use Rattle.vectors.specs.Results.{biasAt, resultAt};
 ghost use Rattle.vectors.specs.Within.{LineInside, Inside};
 ghost use Rattle.vectors.specs.Residues.{lineTo, listed};
+use super::WRAP;
 use super::places;
 use places::BIAS_SIZE;
 use sheet::VectorStep;
 use sheet::sizes::PLACES;
 use sheet::sizes::SIDE;
-
-const WRAP: u64 = 4294967296;
 
 fn wide(x: u32) -> u64
     ensures { λ r. ⌜ (r ≡ x) × (r < 2 ^ 32) ⌝ }

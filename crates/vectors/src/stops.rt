@@ -2,7 +2,7 @@
 ghost use mathlib.Core.Path.{_≡_};
 ghost use Prim.Native.Nat.{_-_};
 ghost use Rattle.vectors.specs.Refusals.{inputAgrees, firstOutside, memoryRefusal};
-ghost use Rattle.vectors.specs.Residues.{lastEnd, lastInside};
+ghost use Rattle.vectors.specs.Within.{lastEnd, lastInside};
 use super::places;
 use kinds::interpretations;
 use refusals::OUTSIDE_MEMORY;

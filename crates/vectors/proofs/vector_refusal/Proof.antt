@@ -1,6 +1,6 @@
 use borrow.Author.Needs.{needs}
-use Rattle.vectors.specs.Refusals.{vectorRefusal}
 use Rattle.numbers.specs.Laws.Choice.{calls}
+use Rattle.vectors.specs.Refusals.{vectorRefusal}
 use Rattle.vectors.proofs.vector_refusal.Statement.{statement}
 use Rattle.vectors.proofs.vector_refusal.Tie as tie
 

@@ -1,7 +1,7 @@
 -- The numbers of a step's elements, and how far they reach: where the last ones lie in memory, all do.
-use Prim.Native.Nat.{ℕ, _+_, _-_, _*_, _/_, _%_, _<_, _≤_}
 use mathlib.Core.Path.{_≡_}
 use mathlib.Core.Bool.{true, false}
+use Prim.Native.Nat.{ℕ, _+_, _-_, _*_, _/_, _%_, _<_, _≤_}
 use native.Mathlib.Nat.{mul-le-mul-right}
 use native.Mathlib.Omega.{arith}
 use borrow.Author.Tests.{lt-ltb, le-ltb, leb-true}
@@ -11,7 +11,7 @@ use Rattle.sheet.specs.declared.VectorStep.{VectorStep}
 use Rattle.registers.specs.Laws.Grids.{row-end, number-at, number-row, number-column}
 use Rattle.vectors.specs.Places.{sizeOf, rowStep, columnStep, matrixByte, biasSize, biasByte, matrixElements, elementsOf, endOf}
 use Rattle.vectors.specs.Refusals.{outside}
-use Rattle.vectors.specs.Residues.{lastEnd, lastInside}
+use Rattle.vectors.specs.Within.{lastEnd, lastInside}
 
 module _ (v : VectorStep) where
   -- matrix element (r, c) is element r*K+c

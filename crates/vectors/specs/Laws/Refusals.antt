@@ -1,7 +1,7 @@
 -- What is known of a step that is not refused, and of the element that 14 names.
-use Prim.Native.Nat.{ℕ, _<_, _≤_}
 use mathlib.Core.Path.{_≡_, ap, _∙_}
 use mathlib.Core.Bool.{true}
+use Prim.Native.Nat.{ℕ, _<_, _≤_}
 use native.Mathlib.Nat.{zero-add}
 use native.Mathlib.Omega.{arith}
 use lib.Dec.{ltb}
@@ -17,8 +17,7 @@ use Rattle.registers.specs.Laws.Grids.{row-end}
 use Rattle.registers.specs.declared.MatrixType.{MatrixType}
 use Rattle.vectors.specs.Places.{elementsOf, endOf}
 use Rattle.vectors.specs.Refusals.{inputAgrees, outside, firstOutside, memoryRefusal, vectorRefusal}
-use Rattle.vectors.specs.Within.{Inside}
-use Rattle.vectors.specs.Residues.{lastInside}
+use Rattle.vectors.specs.Within.{Inside, lastInside}
 use Rattle.vectors.specs.Laws.Reach.{all-inside, matrix-end, bias-end, matrix-among, bias-among}
 
 -- no element is outside where the last ones are inside

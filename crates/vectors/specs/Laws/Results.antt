@@ -1,7 +1,7 @@
 -- The sums that the code makes of listed components are the step's results.
-use Prim.Native.Nat.{ℕ, _+_, _*_, _<_, _≤_, _%_, _^_}
 use mathlib.Core.Path.{_≡_, sym, ap, _∙_}
 use mathlib.Core.List.{List}
+use Prim.Native.Nat.{ℕ, _+_, _*_, _<_, _≤_, _%_, _^_}
 use native.Mathlib.Nat.{mod-eq-of-lt}
 use native.Mathlib.Omega.{arith}
 use lib.IntN.{ℤ, pos, _*ℤ_}

@@ -1,12 +1,12 @@
-use borrow.Author.Needs.{needs}
 use mathlib.Core.Path.{_≡_}
 use Prim.Native.Nat.{_-_, _≤_}
+use native.Mathlib.Omega.{arith}
+use lib.ListN.{replicate}
+use borrow.Author.Needs.{needs}
 use Rattle.numbers.specs.Lists.{line}
 use Rattle.numbers.specs.Laws.Lists.{line-start, line-step}
-use Rattle.vectors.specs.Residues.{residueAt, componentsOf}
-use lib.ListN.{replicate}
 use Rattle.sheet.specs.Sizes.{sidePlaces}
-use native.Mathlib.Omega.{arith}
+use Rattle.vectors.specs.Residues.{residueAt, componentsOf}
 use Rattle.vectors.proofs.components.components_of.Statement.{statement}
 use Rattle.vectors.proofs.components.components_of.Tie as tie
 

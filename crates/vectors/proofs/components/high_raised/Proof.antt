@@ -1,9 +1,9 @@
 use native.Mathlib.Omega.{arith}
-use borrow.Author.Needs.{needs}
-use Rattle.vectors.specs.Laws.Saturation.{below-half, above-most}
-use Rattle.vectors.specs.Saturation.{above}
-use Rattle.kinds.specs.Widths.{width}
 use lib.Pow.{pow-pos}
+use borrow.Author.Needs.{needs}
+use Rattle.kinds.specs.Widths.{width}
+use Rattle.vectors.specs.Saturation.{above}
+use Rattle.vectors.specs.Laws.Saturation.{below-half, above-most}
 use Rattle.vectors.proofs.components.high_raised.Statement.{statement}
 use Rattle.vectors.proofs.components.high_raised.Tie as tie
 

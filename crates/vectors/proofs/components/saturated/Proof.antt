@@ -1,8 +1,8 @@
+use mathlib.Core.Path.{ap, _∙_}
+use Prim.Native.Nat.{ℕ, _%_, _^_}
 use borrow.Author.Needs.{needs}
 use Rattle.vectors.specs.Residues.{clamped}
 use Rattle.vectors.specs.Laws.Saturation.{clamped-saturated}
-use mathlib.Core.Path.{ap, _∙_}
-use Prim.Native.Nat.{ℕ, _%_, _^_}
 use Rattle.vectors.proofs.components.saturated.Statement.{statement}
 use Rattle.vectors.proofs.components.saturated.Tie as tie
 

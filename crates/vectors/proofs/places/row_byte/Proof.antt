@@ -1,5 +1,5 @@
-use Prim.Native.Nat.{_+_, _*_}
 use mathlib.Core.Path.{ap}
+use Prim.Native.Nat.{_+_, _*_}
 use native.Mathlib.Omega.{arith}
 use borrow.Author.Needs.{needs}
 use Rattle.vectors.proofs.Laws.{line-lt}

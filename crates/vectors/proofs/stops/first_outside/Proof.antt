@@ -1,12 +1,12 @@
-use borrow.Author.Needs.{needs}
-use native.Mathlib.Omega.{arith}
 use mathlib.Core.Path.{_≡_, sym, _∙_}
 use Prim.Native.Nat.{ℕ, _-_, _≤_}
+use native.Mathlib.Omega.{arith}
+use borrow.Author.Needs.{needs}
+use borrow.Author.Tests.{lt-ltb, le-ltb}
 use Rattle.numbers.specs.First.{firstFrom}
 use Rattle.numbers.specs.Laws.First.{first-found, first-next, first-end}
-use Rattle.vectors.specs.Refusals.{outside}
 use Rattle.vectors.specs.Places.{endOf}
-use borrow.Author.Tests.{lt-ltb, le-ltb}
+use Rattle.vectors.specs.Refusals.{outside}
 use Rattle.vectors.proofs.stops.first_outside.Statement.{statement}
 use Rattle.vectors.proofs.stops.first_outside.Tie as tie
 

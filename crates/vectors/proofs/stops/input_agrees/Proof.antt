@@ -1,7 +1,7 @@
+use mathlib.Core.Path.{refl}
 use borrow.Author.Needs.{needs}
 use Rattle.numbers.specs.Laws.Choice.{taken, left, tests, stop, pass}
 use Rattle.vectors.specs.Refusals.{inputAgrees}
-use mathlib.Core.Path.{refl}
 use Rattle.vectors.proofs.stops.input_agrees.Statement.{statement}
 use Rattle.vectors.proofs.stops.input_agrees.Tie as tie
 

@@ -1,10 +1,10 @@
-use native.Mathlib.Omega.{arith}
-use borrow.Author.Needs.{needs}
-use Rattle.vectors.specs.Places.{matrixByte}
 use mathlib.Core.Path.{ap₂, _∙_}
 use Prim.Native.Nat.{_+_}
-use Rattle.vectors.specs.Residues.{lastEnd}
+use native.Mathlib.Omega.{arith}
+use borrow.Author.Needs.{needs}
 use Rattle.kinds.specs.Laws.Widths.{bytes-high}
+use Rattle.vectors.specs.Places.{matrixByte}
+use Rattle.vectors.specs.Within.{lastEnd}
 use Rattle.vectors.proofs.stops.last_end.Statement.{statement}
 use Rattle.vectors.proofs.stops.last_end.Tie as tie
 

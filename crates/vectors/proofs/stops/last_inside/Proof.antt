@@ -1,9 +1,9 @@
-use borrow.Author.Needs.{needs}
-use Rattle.vectors.specs.Residues.{lastInside, lastEnd}
-use native.Mathlib.Omega.{arith}
 use mathlib.Core.Path.{refl}
-use Rattle.numbers.specs.Laws.Choice.{taken, left, tests, stop, pass}
+use native.Mathlib.Omega.{arith}
+use borrow.Author.Needs.{needs}
 use borrow.Author.Tests.{lt-leb, le-leb}
+use Rattle.numbers.specs.Laws.Choice.{taken, left, tests, stop, pass}
+use Rattle.vectors.specs.Within.{lastEnd, lastInside}
 use Rattle.vectors.proofs.stops.last_inside.Statement.{statement}
 use Rattle.vectors.proofs.stops.last_inside.Tie as tie
 

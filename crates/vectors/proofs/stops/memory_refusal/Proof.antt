@@ -1,12 +1,12 @@
-use borrow.Author.Needs.{needs}
-use Rattle.vectors.specs.Refusals.{memoryRefusal, firstOutside}
-use Rattle.refusals.specs.Refusals.{outsideMemory, stopAt}
 use mathlib.Core.Path.{sym, _∙_, ap}
-use Rattle.numbers.specs.Laws.Choice.{tests, taken, left}
-use Rattle.vectors.specs.Laws.Refusals.{memory-clear}
 use native.Mathlib.Omega.{arith}
+use borrow.Author.Needs.{needs}
 use borrow.Author.Tests.{lt-ltb, le-ltb}
+use Rattle.numbers.specs.Laws.Choice.{tests, taken, left}
+use Rattle.refusals.specs.Refusals.{outsideMemory, stopAt}
 use Rattle.vectors.specs.Places.{elementsOf}
+use Rattle.vectors.specs.Refusals.{memoryRefusal, firstOutside}
+use Rattle.vectors.specs.Laws.Refusals.{memory-clear}
 use Rattle.vectors.proofs.stops.memory_refusal.Statement.{statement}
 use Rattle.vectors.proofs.stops.memory_refusal.Tie as tie
 
