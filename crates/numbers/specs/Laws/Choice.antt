@@ -1,7 +1,7 @@
 -- The laws by which a proof follows the way that the code took, and what tests tell.
 use Prim.Native.Nat.{ℕ, _≤_, _<_}
 use mathlib.Core.Path.{_≡_, refl, sym, _∙_}
-use mathlib.Core.Bool.{Bool, true, false, not, true≢false}
+use mathlib.Core.Bool.{Bool, true, false, not, cond, _&&_, true≢false}
 use mathlib.Core.Logic.{_⊎_, inl, inr}
 use lib.Dec.{eqb, ltb, leb}
 use borrow.Author.Tests.{lt-ltb, le-ltb, le-leb, lt-leb, eq-eqb, ne-eqb, ltb-false, leb-true, not-true, not-false, eqb-true, eqb-false, ltb-true}
@@ -106,3 +106,14 @@ by-place k n f g = by-test (eqb k n) (λ q. f (eqb-true k n q)) (λ q. g (eqb-fa
 
 pub by-order : {P : Type 0} (k n : ℕ) → (k < n → P) → (n ≤ k → P) → P
 by-order k n f g = by-test (ltb k n) (λ q. f (ltb-true k n q)) (λ q. g (ltb-false k n q))
+
+-- the choice and the conjunction are the library's, kept folded
+pub pick-cond : {A : Type 0} (b : Bool) (x y : A) → pick b x y ≡ cond b x y
+unfolding pick
+pick-cond true x y = refl
+pick-cond false x y = refl
+
+pub both-and : (a b : Bool) → both a b ≡ (a && b)
+unfolding both pick
+both-and true b = refl
+both-and false b = refl
