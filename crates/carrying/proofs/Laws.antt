@@ -10,6 +10,8 @@ use Rattle.sheet_reader.specs.Reading.{readSheet}
 use Rattle.registers.specs.Registers.{emptyRegisters}
 use Rattle.registers.specs.declared.Registers.{Registers}
 use Rattle.refusals.specs.Refusals.{notRefused}
+use Rattle.counts.specs.Counts.{noCounts}
+use Rattle.counts.specs.declared.Counts.{Counts}
 use Rattle.checking.specs.Checking.{checkedSheet}
 use Rattle.checking.specs.declared.CheckAnswer.{CheckAnswer}
 use Rattle.carrying.specs.Steps.{machine}
@@ -17,7 +19,7 @@ use Rattle.carrying.specs.Carrying.{started, performed, carryAnswer, car
 
 module _ (s memory : List ℕ) where
   -- refused: the check's refusal, empty registers, memory unchanged
-  pub carried-refused : {c : CheckAnswer} → checkedSheet s (length memory) ≡ c → 0 < c .refusal .number → carryAnswer (c .refusal) emptyRegisters 0 ≡ carried s memory
+  pub carried-refused : {c : CheckAnswer} → checkedSheet s (length memory) ≡ c → 0 < c .refusal .number → carryAnswer (c .refusal) emptyRegisters noCounts ≡ carried s memory
   unfolding carried pick
   carried-refused {c} e n = rw (e, ne-eqb (c .refusal .number) 0 (λ q. omega arith))
 
@@ -26,10 +28,10 @@ module _ (s memory : List ℕ) where
   memory-refused {c} e n = rw (e, ne-eqb (c .refusal .number) 0 (λ q. omega arith))
 
   -- accepted: what the steps leave
-  pub carried-accepted : {registers : Registers} {after : List ℕ} {count : ℕ} → checkedSheet s (length memory) .refusal .number ≡ 0 → machine registers after count ≡ performed (readSheet s .sheet) (started memory) → carryAnswer notRefused registers count ≡ carried s memory
+  pub carried-accepted : {registers : Registers} {after : List ℕ} {counts : Counts} → checkedSheet s (length memory) .refusal .number ≡ 0 → machine registers after counts ≡ performed (readSheet s .sheet) (started memory) → carryAnswer notRefused registers counts ≡ carried s memory
   unfolding carried pick
   carried-accepted n e = rw (eq-eqb (checkedSheet s (length memory) .refusal .number) 0 n, ← e)
 
-  pub memory-accepted : {registers : Registers} {after : List ℕ} {count : ℕ} → checkedSheet s (length memory) .refusal .number ≡ 0 → machine registers after count ≡ performed (readSheet s .sheet) (started memory) → after ≡ carriedMemory s memory
+  pub memory-accepted : {registers : Registers} {after : List ℕ} {counts : Counts} → checkedSheet s (length memory) .refusal .number ≡ 0 → machine registers after counts ≡ performed (readSheet s .sheet) (started memory) → after ≡ carriedMemory s memory
   unfolding carriedMemory pick
   memory-accepted n e = rw (eq-eqb (checkedSheet s (length memory) .refusal .number) 0 n, ← e)

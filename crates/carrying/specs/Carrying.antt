@@ -11,6 +11,8 @@ use Rattle.refusals.specs.declared.Refusal.{Refusal}
 use Rattle.sheet_reader.specs.Reading.{readSheet}
 use Rattle.registers.specs.Registers.{emptyRegisters}
 use Rattle.registers.specs.declared.Registers.{Registers}
+use Rattle.counts.specs.Counts.{noCounts}
+use Rattle.counts.specs.declared.Counts.{Counts}
 use Rattle.checking.specs.Checking.{checkedSheet}
 use Rattle.carrying.specs.Steps.{performedStep, Machine, machine}
 use Rattle.carrying.specs.declared.CarryAnswer.{CarryAnswer}
@@ -26,17 +28,17 @@ performed sh m = performedFrom (sh .steps) sh 0 m
 
 -- the machine at the start: empty registers, the lent memory, nothing counted
 abbrev pub started : List ℕ → Machine
-started memory = machine emptyRegisters memory 0
+started memory = machine emptyRegisters memory noCounts
 
-abbrev pub carryAnswer : Refusal → Registers → ℕ → CarryAnswer
-carryAnswer r registers count = record { refusal = r; count = count; registers = registers }
+abbrev pub carryAnswer : Refusal → Registers → Counts → CarryAnswer
+carryAnswer r registers counts = record { refusal = r; counts = counts; registers = registers }
 
--- refused: empty registers and a count of 0; accepted: what the steps leave
+-- refused: empty registers and nothing counted; accepted: what the steps leave
 unfoldable pub carried : List ℕ → List ℕ → CarryAnswer
 carried s memory =
     pick (eqb (checkedSheet s (length memory) .refusal .number) 0)
-    (let m = performed (readSheet s .sheet) (started memory) in carryAnswer notRefused (m .registers) (m .count))
-    (carryAnswer (checkedSheet s (length memory) .refusal) emptyRegisters 0)
+    (let m = performed (readSheet s .sheet) (started memory) in carryAnswer notRefused (m .registers) (m .counts))
+    (carryAnswer (checkedSheet s (length memory) .refusal) emptyRegisters noCounts)
 
 -- memory afterwards: unchanged where the sheet is refused
 unfoldable pub carriedMemory : List ℕ → List ℕ → List ℕ

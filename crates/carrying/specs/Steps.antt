@@ -15,28 +15,29 @@ use Rattle.registers.specs.Registers.{copied}
 use Rattle.registers.specs.declared.MatrixType.{MatrixType}
 use Rattle.registers.specs.declared.Registers.{Registers}
 use Rattle.whole_steps.specs.Whole.{wholeDone}
+use Rattle.counts.specs.declared.Counts.{Counts}
 use Rattle.transfers.specs.Acts.{State, state}
 use Rattle.transfers.specs.Transfers.{loadedElements, storedElements}
 use Rattle.checking.specs.Steps.{accessOf}
 
--- registers, memory, and how many elements of loads and stores had a byte
+-- registers, memory, and what is counted
 pub record Machine : Type 0 where
   pub registers : Registers
   pub memory : List ℕ
-  pub count : ℕ
+  pub counts : Counts
 
-abbrev pub machine : Registers → List ℕ → ℕ → Machine
-machine registers memory count = record { registers = registers; memory = memory; count = count }
+abbrev pub machine : Registers → List ℕ → Counts → Machine
+machine registers memory counts = record { registers = registers; memory = memory; counts = counts }
 
 -- what elements of a register of a type work on, and the machine that they leave
 abbrev pub stateOf : Machine → State
-stateOf m = state (m .registers .elements) (m .memory) (m .count)
+stateOf m = state (m .registers .elements) (m .memory) (m .counts)
 
 abbrev pub registersOf : List MatrixType → List ℕ → Registers
 registersOf types elements = record { types = types; elements = elements }
 
 abbrev pub machineOf : List MatrixType → State → Machine
-machineOf types s = machine (registersOf types (s .elements)) (s .memory) (s .count)
+machineOf types s = machine (registersOf types (s .elements)) (s .memory) (s .counts)
 
 -- a load first gives its register the object, type and elements
 unfoldable pub withObject : ℕ → Object → Registers → Registers
@@ -44,7 +45,7 @@ withObject register Kept g = g
 withObject register (Register object) g = copied g register object
 
 abbrev pub objectDone : ℕ → Object → Machine → Machine
-objectDone register object m = machine (withObject register object (m .registers)) (m .memory) (m .count)
+objectDone register object m = machine (withObject register object (m .registers)) (m .memory) (m .counts)
 
 -- then its elements, and the elements of a store
 unfoldable pub loadDone : Tensors → ℕ → Window → Machine → Machine
@@ -59,7 +60,7 @@ storeDone tensors register window m =
 
 -- a whole step reads memory, and leaves it as it was
 abbrev pub wholeStepDone : WholeStep → Machine → Machine
-wholeStepDone w m = machine (wholeDone (m .registers) (m .memory) w) (m .memory) (m .count)
+wholeStepDone w m = machine (wholeDone (m .registers) (m .memory) w) (m .memory) (m .counts)
 
 -- what a step does
 unfoldable pub performedStep : Tensors → Step → Machine → Machine

@@ -4,39 +4,40 @@ pub mod performing;
 
 ghost use mathlib.Core.Path.{_≡_};
 ghost use Rattle.registers.specs.Registers.{emptyRegisters};
+ghost use Rattle.counts.specs.Counts.{noCounts};
 ghost use Rattle.carrying.specs.Carrying.{carryAnswer, carried, carriedMemory};
+use counts::Counts;
 use refusals::Refusal;
 use registers::MatrixType;
 use registers::Registers;
 use sheet::sizes::REGISTERS;
 
-// The answer of carrying out: a refusal with empty registers and a count of 0, or the registers and how many elements of loads and
-// stores had a byte.
+// The answer of carrying out: a refusal with empty registers and nothing counted, or the registers and what was counted.
 pub struct CarryAnswer {
     pub refusal: Refusal,
-    pub count: usize,
+    pub counts: Counts,
     pub registers: Registers,
 }
 
-// Registers, and how many elements of loads and stores had a byte. Memory is the lent one.
+// Registers, and what was counted. Memory is the lent one.
 pub struct Performed {
     pub registers: Registers,
-    pub count: usize,
+    pub counts: Counts,
 }
 
 // The same after a step: the registers' elements are lent too, so that they are not copied for each step.
 pub struct Stepped {
     pub types: [MatrixType; REGISTERS],
-    pub count: usize,
+    pub counts: Counts,
 }
 
 pub fn carry_refused(refusal: Refusal) -> CarryAnswer
-    ensures { λ r. ⌜ r ≡ carryAnswer refusal emptyRegisters 0 ⌝ }
+    ensures { λ r. ⌜ r ≡ carryAnswer refusal emptyRegisters noCounts ⌝ }
 {
     let registers = registers::empty_registers();
     CarryAnswer {
         refusal,
-        count: 0,
+        counts: counts::no_counts(),
         registers,
     }
 }
@@ -55,9 +56,10 @@ pub fn carry_out(sheet: &[u8], memory: &mut [u8]) -> CarryAnswer
     let model = judged.sheet;
     let done = performing::perform(model, memory);
     let registers = done.registers;
+    let counts = done.counts;
     CarryAnswer {
         refusal: refusals::not_refused(),
-        count: done.count,
+        counts,
         registers,
     }
 }

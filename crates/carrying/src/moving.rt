@@ -13,6 +13,7 @@ ghost use Rattle.checking.specs.Steps.{accessOf};
 ghost use Rattle.checking.specs.Clear.{Clear};
 ghost use Rattle.carrying.specs.Steps.{machineOf, loadDone, storeDone};
 use checking::windows;
+use counts::Counts;
 use registers::MatrixType;
 use sheet::Tensors;
 use sheet::Window;
@@ -20,7 +21,7 @@ use sheet::sizes::ELEMENTS;
 use sheet::sizes::PLACES;
 use sheet::sizes::REGISTERS;
 
-// The elements of a load into a register that its object was copied to. The answer is the count with each element that had a byte.
+// The elements of a load into a register that its object was copied to. The answer counts each element that had a byte.
 pub fn perform_load(
     entries: &mut [u32; PLACES],
     tensors: Tensors,
@@ -29,20 +30,20 @@ pub fn perform_load(
     memory: &[u8],
     register: u8,
     window: Window,
-    count: usize,
-) -> usize
-    requires { ⌜ TensorsWithin tensors × Sized types × (register < registerCount) × (length (now memory) ≤ memoryLimit) × (count < 2 ^ 31) ⌝ }
+    counted: Counts,
+) -> Counts
+    requires { ⌜ TensorsWithin tensors × Sized types × (register < registerCount) × (length (now memory) ≤ memoryLimit) × (counted .placed < 2 ^ 31) ⌝ }
     requires { ⌜ Clear (theType types register) (accessOf tensors true window (theType types register) (length (now memory))) ⌝ }
     requires { ⌜ (windowOk (tensors .layouts) (tensors .views) window ≡ true) × (length (now entries) ≡ matrixPlaces) ⌝ }
     ensures { λ _. ⌜ length (now (entries .exit)) ≡ matrixPlaces ⌝ }
-    ensures { λ r. ⌜ machineOf types (state (now (elements .exit)) (now (memory .entry)) r) ≡ loadDone tensors register window (machineOf types (state (now (elements .entry)) (now (memory .entry)) count)) ⌝ }
+    ensures { λ r. ⌜ machineOf types (state (now (elements .exit)) (now (memory .entry)) r) ≡ loadDone tensors register window (machineOf types (state (now (elements .entry)) (now (memory .entry)) counted)) ⌝ }
 {
     let t = registers::the_type(types, register);
     let p = windows::plan_window(tensors, true, window, t, memory.len());
-    transfers::load_elements(elements, memory, entries, p, register, count)
+    transfers::load_elements(elements, memory, entries, p, register, counted)
 }
 
-// The elements of a store. The answer is the count with each element that had a byte.
+// The elements of a store. The answer counts each element that had a byte.
 pub fn perform_store(
     entries: &mut [u32; PLACES],
     tensors: Tensors,
@@ -51,15 +52,15 @@ pub fn perform_store(
     memory: &mut [u8],
     register: u8,
     window: Window,
-    count: usize,
-) -> usize
-    requires { ⌜ TensorsWithin tensors × Sized types × (register < registerCount) × (length (now memory) ≤ memoryLimit) × (count < 2 ^ 31) ⌝ }
+    counted: Counts,
+) -> Counts
+    requires { ⌜ TensorsWithin tensors × Sized types × (register < registerCount) × (length (now memory) ≤ memoryLimit) × (counted .placed < 2 ^ 31) ⌝ }
     requires { ⌜ Clear (theType types register) (accessOf tensors false window (theType types register) (length (now memory))) ⌝ }
     requires { ⌜ (windowOk (tensors .layouts) (tensors .views) window ≡ true) × (length (now entries) ≡ matrixPlaces) ⌝ }
     ensures { λ _. ⌜ length (now (entries .exit)) ≡ matrixPlaces ⌝ }
-    ensures { λ r. ⌜ machineOf types (state (now (elements .entry)) (now (memory .exit)) r) ≡ storeDone tensors register window (machineOf types (state (now (elements .entry)) (now (memory .entry)) count)) ⌝ }
+    ensures { λ r. ⌜ machineOf types (state (now (elements .entry)) (now (memory .exit)) r) ≡ storeDone tensors register window (machineOf types (state (now (elements .entry)) (now (memory .entry)) counted)) ⌝ }
 {
     let t = registers::the_type(types, register);
     let p = windows::plan_window(tensors, false, window, t, memory.len());
-    transfers::store_elements(elements, memory, entries, p, register, count)
+    transfers::store_elements(elements, memory, entries, p, register, counted)
 }

@@ -15,6 +15,7 @@ ghost use Rattle.carrying.specs.Machines.{Accepted, Formed};
 use super::Performed;
 use super::Stepped;
 use super::moving;
+use counts::Counts;
 use registers::MatrixType;
 use registers::Registers;
 use sheet::Object;
@@ -63,15 +64,15 @@ fn perform_step(
     elements: &mut [u32; ELEMENTS],
     memory: &mut [u8],
     step: Step,
-    count: usize,
+    counts: Counts,
 ) -> Stepped
-    requires { ⌜ TensorsWithin tensors × (length (now memory) ≤ memoryLimit) × (count < 2 ^ 31) × (length (now entries) ≡ matrixPlaces) × Formed (machineOf types (state (now elements) (now memory) count)) ⌝ }
-    requires { ⌜ ((edition : ℕ) × (stepOk edition (tensors .layouts) (tensors .views) step ≡ true) × Accepted edition tensors step (machineOf types (state (now elements) (now memory) count))) ⌝ }
+    requires { ⌜ TensorsWithin tensors × (length (now memory) ≤ memoryLimit) × (counts .placed < 2 ^ 31) × (length (now entries) ≡ matrixPlaces) × Formed (machineOf types (state (now elements) (now memory) counts)) ⌝ }
+    requires { ⌜ ((edition : ℕ) × (stepOk edition (tensors .layouts) (tensors .views) step ≡ true) × Accepted edition tensors step (machineOf types (state (now elements) (now memory) counts))) ⌝ }
     ensures { λ _. ⌜ length (now (entries .exit)) ≡ matrixPlaces ⌝ }
-    ensures { λ r. ⌜ machineOf (r .types) (state (now (elements .exit)) (now (memory .exit)) (r .count)) ≡ performedStep tensors step (machineOf types (state (now (elements .entry)) (now (memory .entry)) count)) ⌝ }
+    ensures { λ r. ⌜ machineOf (r .types) (state (now (elements .exit)) (now (memory .exit)) (r .counts)) ≡ performedStep tensors step (machineOf types (state (now (elements .entry)) (now (memory .entry)) counts)) ⌝ }
 {
     match step {
-        Step::Nothing => Stepped { types, count },
+        Step::Nothing => Stepped { types, counts },
         Step::Load {
             register,
             object,
@@ -86,11 +87,11 @@ fn perform_step(
                 memory,
                 register,
                 window,
-                count,
+                counts,
             );
             Stepped {
                 types: after,
-                count: counted,
+                counts: counted,
             }
         }
         Step::Store { register, window } => {
@@ -102,18 +103,18 @@ fn perform_step(
                 memory,
                 register,
                 window,
-                count,
+                counts,
             );
             Stepped {
                 types,
-                count: counted,
+                counts: counted,
             }
         }
         Step::Whole(whole) => {
             let after = whole_steps::perform_whole(types, elements, memory, whole);
             Stepped {
                 types: after,
-                count,
+                counts,
             }
         }
     }
@@ -122,7 +123,7 @@ fn perform_step(
 // The steps in order, from empty registers and the lent memory.
 pub fn perform(sheet: Sheet, memory: &mut [u8]) -> Performed
     requires { ⌜ Within sheet × (length (now memory) ≤ memoryLimit) × (checked sheet (length (now memory)) .refusal .number ≡ 0) ⌝ }
-    ensures { λ r. ⌜ machine (r .registers) (now (memory .exit)) (r .count) ≡ performed sheet (started (now (memory .entry))) ⌝ }
+    ensures { λ r. ⌜ machine (r .registers) (now (memory .exit)) (r .counts) ≡ performed sheet (started (now (memory .entry))) ⌝ }
 {
     let tensors = sheet.tensors;
     let steps = sheet.steps;
@@ -130,7 +131,7 @@ pub fn perform(sheet: Sheet, memory: &mut [u8]) -> Performed
     let mut entries = accesses::no_entries();
     let mut types = empty.types;
     let mut elements = empty.elements;
-    let mut count: usize = 0;
+    let mut counts = counts::no_counts();
     let mut k: usize = 0;
     while k < steps {
         let c = sheet.step[k];
@@ -142,15 +143,15 @@ pub fn perform(sheet: Sheet, memory: &mut [u8]) -> Performed
             &mut elements,
             memory,
             step,
-            count,
+            counts,
         );
         let after = done.types;
         types = after;
-        count = done.count;
+        counts = done.counts;
         k += 1;
     }
     Performed {
         registers: Registers { types, elements },
-        count,
+        counts,
     }
 }

@@ -135,11 +135,11 @@ pub extern "C" fn moonbleat_carry_out(
     ensures { λ _. ⌜ now (memory .exit) ≡ carriedMemory (now (sheet .entry)) (now (memory .entry)) ⌝ }
     ensures { λ _. ⌜ now (types .exit) ≡ typesRow (carried (now (sheet .entry)) (now (memory .entry)) .registers .types) ⌝ }
     ensures { λ _. ⌜ now (elements .exit) ≡ carried (now (sheet .entry)) (now (memory .entry)) .registers .elements ⌝ }
-    ensures { λ _. ⌜ now (answer .exit) ≡ answerRow (carried (now (sheet .entry)) (now (memory .entry)) .refusal) (carried (now (sheet .entry)) (now (memory .entry)) .count) ⌝ }
+    ensures { λ _. ⌜ now (answer .exit) ≡ answerRow (carried (now (sheet .entry)) (now (memory .entry)) .refusal) (carried (now (sheet .entry)) (now (memory .entry)) .counts .placed) ⌝ }
 {
     let done = carrying::carry_out(sheet, memory);
     put_registers(types, elements, done.registers);
-    put_answer(answer, done.refusal, done.count)
+    put_answer(answer, done.refusal, done.counts.placed)
 }
 
 // Translates a sheet for a memory of a length into the lent room.
@@ -176,9 +176,9 @@ pub extern "C" fn moonbleat_run(
     ensures { λ _. ⌜ now (memory .exit) ≡ ranMemory (now (sheet .entry)) (now (tape .entry)) records (now (memory .entry)) ⌝ }
     ensures { λ _. ⌜ now (types .exit) ≡ typesRow (runTape (now (sheet .entry)) (now (tape .entry)) records (now (memory .entry)) .registers .types) ⌝ }
     ensures { λ _. ⌜ now (elements .exit) ≡ runTape (now (sheet .entry)) (now (tape .entry)) records (now (memory .entry)) .registers .elements ⌝ }
-    ensures { λ _. ⌜ now (answer .exit) ≡ answerRow (runTape (now (sheet .entry)) (now (tape .entry)) records (now (memory .entry)) .refusal) (runTape (now (sheet .entry)) (now (tape .entry)) records (now (memory .entry)) .count) ⌝ }
+    ensures { λ _. ⌜ now (answer .exit) ≡ answerRow (runTape (now (sheet .entry)) (now (tape .entry)) records (now (memory .entry)) .refusal) (runTape (now (sheet .entry)) (now (tape .entry)) records (now (memory .entry)) .counts .placed) ⌝ }
 {
     let done = running::run_tape(sheet, tape, records, memory);
     put_registers(types, elements, done.registers);
-    put_answer(answer, done.refusal, done.count)
+    put_answer(answer, done.refusal, done.counts.placed)
 }

@@ -22,7 +22,7 @@ onElements register act count m =
 -- take gives its elements the raw bits at their bytes, put writes theirs there, fill gives its elements the value's bits,
 -- copy makes the register equal to the object, op 4 does the step that it names; all else stays
 unfoldable pub ranRecordWith : Tensors → Step → Record → Machine → Machine
-ranRecordWith tensors named (Copy register object) m = machine (copied (m .registers) register object) (m .memory) (m .count)
+ranRecordWith tensors named (Copy register object) m = machine (copied (m .registers) register object) (m .memory) (m .counts)
 ranRecordWith tensors named (Take register first count byte up down) m =
     onElements register (λ (size i : ℕ) (s : State). took size register (first + i) (byteAt byte up down i) s) count m
 ranRecordWith tensors named (Put register first count byte up down) m =

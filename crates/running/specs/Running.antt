@@ -13,6 +13,7 @@ use Rattle.refusals.specs.declared.Refusal.{Refusal}
 use Rattle.sheet_reader.specs.Reading.{readSheet}
 use Rattle.registers.specs.Registers.{emptyRegisters}
 use Rattle.refusals.specs.Refusals.{memoryTooLarge, refusalAt, notRefused}
+use Rattle.counts.specs.Counts.{noCounts}
 use Rattle.carrying.specs.Steps.{Machine}
 use Rattle.carrying.specs.Carrying.{started, carryAnswer}
 use Rattle.carrying.specs.declared.CarryAnswer.{CarryAnswer}
@@ -45,13 +46,13 @@ runRefusal s tape records len =
     (pick (eqb (readSheet s .refusal .number) 0) (tapeRefusal (readSheet s .sheet) tape records len) (readSheet s .refusal))
     (refusalAt memoryTooLarge 0 0)
 
--- refused: empty registers and a count of 0; accepted: what the records leave
+-- refused: empty registers and nothing counted; accepted: what the records leave
 unfoldable pub runTape : List ℕ → List ℤ → ℕ → List ℕ → CarryAnswer
 runTape s tape records memory =
     let r = runRefusal s tape records (length memory) in
     pick (eqb (r .number) 0)
-    (let m = ran records (readSheet s .sheet) (tapeRecord tape) (started memory) in carryAnswer notRefused (m .registers) (m .count))
-    (carryAnswer r emptyRegisters 0)
+    (let m = ran records (readSheet s .sheet) (tapeRecord tape) (started memory) in carryAnswer notRefused (m .registers) (m .counts))
+    (carryAnswer r emptyRegisters noCounts)
 
 -- memory afterwards: unchanged where the tape is refused
 unfoldable pub ranMemory : List ℕ → List ℤ → ℕ → List ℕ → List ℕ

@@ -9,6 +9,7 @@ ghost use Rattle.sheet.specs.Sizes.{recordPlaces};
 ghost use Rattle.sheet.specs.Laws.Within.{Within};
 ghost use Rattle.sheet.specs.declared.Tensors.{Tensors};
 ghost use Rattle.registers.specs.Sized.{Sized};
+ghost use Rattle.counts.specs.declared.Counts.{Counts};
 ghost use Rattle.transfers.specs.Acts.{state};
 ghost use Rattle.carrying.specs.Steps.{machine, machineOf, performedStep};
 ghost use Rattle.carrying.specs.Carrying.{started};
@@ -23,6 +24,7 @@ ghost use Rattle.running.specs.Running.{ranDecodedWith, ran, runTape, ra
 use carrying::CarryAnswer;
 use carrying::Performed;
 use carrying::Stepped;
+use counts::Counts;
 use records::Decoded;
 use records::Record;
 use refusals::MEMORY_TOO_LARGE;
@@ -42,7 +44,7 @@ fn perform_named(
     step: Step,
 ) -> [MatrixType; REGISTERS]
     requires { ⌜ Sized types × ((edition : ℕ) × Placed edition step × (wholeClear edition types (length (now memory)) step ≡ true)) ⌝ }
-    ensures { λ r. ⌜ ((tensors : Tensors) (n : ℕ) → machineOf r (state (now (elements .exit)) (now (memory .entry)) n) ≡ performedStep tensors step (machineOf types (state (now (elements .entry)) (now (memory .entry)) n))) ⌝ }
+    ensures { λ r. ⌜ ((tensors : Tensors) (c : Counts) → machineOf r (state (now (elements .exit)) (now (memory .entry)) c) ≡ performedStep tensors step (machineOf types (state (now (elements .entry)) (now (memory .entry)) c))) ⌝ }
 {
     match step {
         Step::Nothing => types,
@@ -66,11 +68,11 @@ fn run_record(
     memory: &mut [u8],
     named: Step,
     r: Record,
-    counted: usize,
+    counted: Counts,
 ) -> Stepped
-    requires { ⌜ Sized types × GoodInRange (Good r) × (counted < 2 ^ 31) ⌝ }
+    requires { ⌜ Sized types × GoodInRange (Good r) × (counted .placed < 2 ^ 31) ⌝ }
     requires { ⌜ ((edition steps : ℕ) × Placed edition named × (recordOkWith edition steps types (length (now memory)) named r ≡ true)) ⌝ }
-    ensures { λ p. ⌜ ((tensors : Tensors) → machineOf (p .types) (state (now (elements .exit)) (now (memory .exit)) (p .count)) ≡ ranRecordWith tensors named r (machineOf types (state (now (elements .entry)) (now (memory .entry)) counted))) ⌝ }
+    ensures { λ p. ⌜ ((tensors : Tensors) → machineOf (p .types) (state (now (elements .exit)) (now (memory .exit)) (p .counts)) ≡ ranRecordWith tensors named r (machineOf types (state (now (elements .entry)) (now (memory .entry)) counted))) ⌝ }
 {
     match r {
         Record::Copy { register, object } => {
@@ -78,7 +80,7 @@ fn run_record(
             registers::copy_elements(elements, register, object);
             Stepped {
                 types: registers::with_type(types, register, t),
-                count: counted,
+                counts: counted,
             }
         }
         Record::Take {
@@ -102,7 +104,7 @@ fn run_record(
             );
             Stepped {
                 types,
-                count: counted + count,
+                counts: counts::more_placed(counted, count),
             }
         }
         Record::Put {
@@ -126,7 +128,7 @@ fn run_record(
             );
             Stepped {
                 types,
-                count: counted + count,
+                counts: counts::more_placed(counted, count),
             }
         }
         Record::Fill {
@@ -138,14 +140,14 @@ fn run_record(
             moving::fill(types, elements, register, first, count, value);
             Stepped {
                 types,
-                count: counted,
+                counts: counted,
             }
         }
         Record::Whole { step: _ } => {
             let after = perform_named(types, elements, memory, named);
             Stepped {
                 types: after,
-                count: counted,
+                counts: counted,
             }
         }
     }
@@ -157,17 +159,17 @@ fn run_decoded(
     memory: &mut [u8],
     named: Step,
     d: Decoded,
-    counted: usize,
+    counted: Counts,
 ) -> Stepped
-    requires { ⌜ Sized types × GoodInRange d × (counted < 2 ^ 31) ⌝ }
+    requires { ⌜ Sized types × GoodInRange d × (counted .placed < 2 ^ 31) ⌝ }
     requires { ⌜ ((edition steps : ℕ) × Placed edition named × (decodedOkWith edition steps types (length (now memory)) named d ≡ true)) ⌝ }
-    ensures { λ p. ⌜ ((tensors : Tensors) → machineOf (p .types) (state (now (elements .exit)) (now (memory .exit)) (p .count)) ≡ ranDecodedWith tensors named d (machineOf types (state (now (elements .entry)) (now (memory .entry)) counted))) ⌝ }
+    ensures { λ p. ⌜ ((tensors : Tensors) → machineOf (p .types) (state (now (elements .exit)) (now (memory .exit)) (p .counts)) ≡ ranDecodedWith tensors named d (machineOf types (state (now (elements .entry)) (now (memory .entry)) counted))) ⌝ }
 {
     match d {
         Decoded::Good(r) => run_record(types, elements, memory, named, r, counted),
         Decoded::Bad => Stepped {
             types,
-            count: counted,
+            counts: counted,
         },
     }
 }
@@ -176,28 +178,28 @@ fn run_decoded(
 fn run_records(sheet: Sheet, tape: &[i32], records: usize, memory: &mut [u8]) -> Performed
     requires { ⌜ Within sheet × (records ≤ recordPlaces) × (records * recordLength ≤ length (now tape)) ⌝ }
     requires { ⌜ rangeRefusal records sheet (length (now memory)) (tapeRecord (now tape)) .number ≡ 0 ⌝ }
-    ensures { λ r. ⌜ machine (r .registers) (now (memory .exit)) (r .count) ≡ ran records sheet (tapeRecord (now (tape .entry))) (started (now (memory .entry))) ⌝ }
+    ensures { λ r. ⌜ machine (r .registers) (now (memory .exit)) (r .counts) ≡ ran records sheet (tapeRecord (now (tape .entry))) (started (now (memory .entry))) ⌝ }
 {
     let empty = registers::empty_registers();
     let steps = sheet.steps;
     let mut types = empty.types;
     let mut elements = empty.elements;
-    let mut count: usize = 0;
+    let mut counts = counts::no_counts();
     let mut k: usize = 0;
     while k < records {
         let d = records::read_record(tape, k * records::NUMBERS);
         let at = judging::place_named(steps, d);
         let c = sheet.step[at];
         let named = c.step;
-        let done = run_decoded(types, &mut elements, memory, named, d, count);
+        let done = run_decoded(types, &mut elements, memory, named, d, counts);
         let after = done.types;
         types = after;
-        count = done.count;
+        counts = done.counts;
         k += 1;
     }
     Performed {
         registers: Registers { types, elements },
-        count,
+        counts,
     }
 }
 
@@ -221,9 +223,10 @@ pub fn run_tape(sheet: &[u8], tape: &[i32], records: usize, memory: &mut [u8]) -
     }
     let done = run_records(model, tape, records, memory);
     let registers = done.registers;
+    let counts = done.counts;
     CarryAnswer {
         refusal: refusals::not_refused(),
-        count: done.count,
+        counts,
         registers,
     }
 }

@@ -9,6 +9,8 @@ ghost use Rattle.kinds.specs.Laws.Widths.{ElementSize};
 ghost use Rattle.sheet.specs.Sizes.{registerCount, matrixPlaces};
 ghost use Rattle.registers.specs.Sized.{Sized};
 ghost use Rattle.registers.specs.Types.{theType};
+ghost use Rattle.counts.specs.Counts.{morePlaced};
+ghost use Rattle.counts.specs.declared.Counts.{Counts};
 ghost use Rattle.transfers.specs.Acts.{state};
 ghost use Rattle.carrying.specs.Steps.{machineOf};
 ghost use Rattle.records.specs.Ranges.{Elements, Bytes};
@@ -39,7 +41,7 @@ fn take_elements(
 )
     requires { ⌜ ElementSize size × (register < registerCount) × (first + count ≤ matrixPlaces) × Bytes byte up down ⌝ }
     requires { ⌜ bytesInside size (length (now memory)) count byte up down ≡ true ⌝ }
-    ensures { λ _. ⌜ ((n : ℕ) → state (now (elements .exit)) (now (memory .entry)) (n + count) ≡ inOrder (taking size register first byte up down) count (state (now (elements .entry)) (now (memory .entry)) n)) ⌝ }
+    ensures { λ _. ⌜ ((c : Counts) → state (now (elements .exit)) (now (memory .entry)) (morePlaced c count) ≡ inOrder (taking size register first byte up down) count (state (now (elements .entry)) (now (memory .entry)) c)) ⌝ }
 {
     let mut i = 0;
     while i < count {
@@ -63,7 +65,7 @@ fn put_elements(
 )
     requires { ⌜ ElementSize size × (register < registerCount) × (first + count ≤ matrixPlaces) × Bytes byte up down ⌝ }
     requires { ⌜ bytesInside size (length (now memory)) count byte up down ≡ true ⌝ }
-    ensures { λ _. ⌜ ((n : ℕ) → state (now (elements .entry)) (now (memory .exit)) (n + count) ≡ inOrder (putting size register first byte up down) count (state (now (elements .entry)) (now (memory .entry)) n)) ⌝ }
+    ensures { λ _. ⌜ ((c : Counts) → state (now (elements .entry)) (now (memory .exit)) (morePlaced c count) ≡ inOrder (putting size register first byte up down) count (state (now (elements .entry)) (now (memory .entry)) c)) ⌝ }
 {
     let mut i = 0;
     while i < count {
@@ -82,7 +84,7 @@ fn fill_elements(
     value: u32,
 )
     requires { ⌜ (register < registerCount) × (first + count ≤ matrixPlaces) ⌝ }
-    ensures { λ _. ⌜ ((memory : List ℕ) (n : ℕ) → state (now (elements .exit)) memory n ≡ inOrder (filling register first value) count (state (now (elements .entry)) memory n)) ⌝ }
+    ensures { λ _. ⌜ ((memory : List ℕ) (c : Counts) → state (now (elements .exit)) memory c ≡ inOrder (filling register first value) count (state (now (elements .entry)) memory c)) ⌝ }
 {
     let mut i = 0;
     while i < count {
@@ -105,7 +107,7 @@ pub fn take(
 )
     requires { ⌜ Sized types × Elements register first count × Bytes byte up down ⌝ }
     requires { ⌜ bytesRecordOk (theType types register) (length (now memory)) first count byte up down ≡ true ⌝ }
-    ensures { λ _. ⌜ ((n : ℕ) → machineOf types (state (now (elements .exit)) (now (memory .entry)) (n + count)) ≡ onElements register (λ (size : ℕ). taking size register first byte up down) count (machineOf types (state (now (elements .entry)) (now (memory .entry)) n))) ⌝ }
+    ensures { λ _. ⌜ ((c : Counts) → machineOf types (state (now (elements .exit)) (now (memory .entry)) (morePlaced c count)) ≡ onElements register (λ (size : ℕ). taking size register first byte up down) count (machineOf types (state (now (elements .entry)) (now (memory .entry)) c))) ⌝ }
 {
     let t = registers::the_type(types, register);
     take_elements(
@@ -135,7 +137,7 @@ pub fn put(
 )
     requires { ⌜ Sized types × Elements register first count × Bytes byte up down ⌝ }
     requires { ⌜ bytesRecordOk (theType types register) (length (now memory)) first count byte up down ≡ true ⌝ }
-    ensures { λ _. ⌜ ((n : ℕ) → machineOf types (state (now (elements .entry)) (now (memory .exit)) (n + count)) ≡ onElements register (λ (size : ℕ). putting size register first byte up down) count (machineOf types (state (now (elements .entry)) (now (memory .entry)) n))) ⌝ }
+    ensures { λ _. ⌜ ((c : Counts) → machineOf types (state (now (elements .entry)) (now (memory .exit)) (morePlaced c count)) ≡ onElements register (λ (size : ℕ). putting size register first byte up down) count (machineOf types (state (now (elements .entry)) (now (memory .entry)) c))) ⌝ }
 {
     let t = registers::the_type(types, register);
     put_elements(
@@ -162,7 +164,7 @@ pub fn fill(
 )
     requires { ⌜ Sized types × Elements register first count ⌝ }
     requires { ⌜ fillRecordOk (theType types register) first count value ≡ true ⌝ }
-    ensures { λ _. ⌜ ((memory : List ℕ) (n : ℕ) → machineOf types (state (now (elements .exit)) memory n) ≡ onElements register (λ (size : ℕ). filling register first value) count (machineOf types (state (now (elements .entry)) memory n))) ⌝ }
+    ensures { λ _. ⌜ ((memory : List ℕ) (c : Counts) → machineOf types (state (now (elements .exit)) memory c) ≡ onElements register (λ (size : ℕ). filling register first value) count (machineOf types (state (now (elements .entry)) memory c))) ⌝ }
 {
     fill_elements(elements, register, first, count, value);
 }

@@ -5,15 +5,17 @@ use Rattle.outcomes.specs.declared.Outcome.{Outcome}
 use Rattle.outcomes.specs.declared.Outcome.the-variants.{Skipped, Filled, Discarded, Placed}
 use Rattle.memory.specs.Elements.{elementAt, withElement}
 use Rattle.registers.specs.Registers.{elementOf, withElementOf}
+use Rattle.counts.specs.Counts.{onePlaced}
+use Rattle.counts.specs.declared.Counts.{Counts}
 
--- what elements move between, and how many of them had a byte
+-- what elements move between, and what is counted
 pub record State : Type 0 where
   pub elements : List ℕ
   pub memory : List ℕ
-  pub count : ℕ
+  pub counts : Counts
 
-abbrev pub state : List ℕ → List ℕ → ℕ → State
-state elements memory count = record { elements = elements; memory = memory; count = count }
+abbrev pub state : List ℕ → List ℕ → Counts → State
+state elements memory counts = record { elements = elements; memory = memory; counts = counts }
 
 -- an element takes the raw bits at its byte; an element of a store is written there
 abbrev pub took : ℕ → ℕ → ℕ → ℕ → State → State
@@ -21,19 +23,19 @@ took size register element byte s =
     record {
       elements = withElementOf (s .elements) register element (elementAt (s .memory) byte size);
       memory = s .memory;
-      count = s .count + 1;
+      counts = onePlaced (s .counts);
     }
 
 abbrev pub gave : ℕ → ℕ → ℕ → State → State
 gave register element bits s =
-    record { elements = withElementOf (s .elements) register element bits; memory = s .memory; count = s .count }
+    record { elements = withElementOf (s .elements) register element bits; memory = s .memory; counts = s .counts }
 
 abbrev pub put : ℕ → ℕ → ℕ → ℕ → State → State
 put size register element byte s =
     record {
       elements = s .elements;
       memory = withElement (s .memory) byte size (elementOf (s .elements) register element);
-      count = s .count + 1;
+      counts = onePlaced (s .counts);
     }
 
 -- on a load a skipped element keeps the object's, which the register holds already

@@ -1,5 +1,5 @@
 -- Demand 3: for every sheet within Sizes, and every memory for which it is accepted, its tape is not refused, and running it leaves
--- what carrying out the sheet leaves: every byte, every register, and the count.
+-- what carrying out the sheet leaves: every byte, every register, and what is counted.
 use Prim.Native.Nat.{ℕ, _+_, _*_, _≤_}
 use mathlib.Core.Path.{_≡_, sym, ap, _∙_}
 use mathlib.Core.Bool.{true}

@@ -73,7 +73,7 @@ module _ (s memory : List ℕ) (room : List ℤ) (h : translated s (length memor
       record {
         answer =
             rw (run-accepted, translation .accepted)
-            (ap (λ (m : Machine). carryAnswer (notRefused) (m .registers) (m .count)) (agrees .same));
+            (ap (λ (m : Machine). carryAnswer (notRefused) (m .registers) (m .counts)) (agrees .same));
         bytes = rw (run-accepted, translation .accepted) (ap (λ (m : Machine). m .memory) (agrees .same));
       }
 

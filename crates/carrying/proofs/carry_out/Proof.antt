@@ -38,15 +38,15 @@ same-length : tie.Need-same-length
 same-length c = search needs
 
 returns-2 : tie.Need-returns-2
-returns-2 c = let j = c .before .before .before .before .before .before .before .before .before .before .before .judge in
-    let a = c .before .before .before .before .before .before .before .before .before .before .before .before .before .before .args in
+returns-2 c = let j = c .before .before .before .before .before .before .before .before .before .before .before .before .judge in
+    let a = c .before .before .before .before .before .before .before .before .before .before .before .before .before .before .before .args in
     let s = now (a .sheet) in
     let m = now (a .memory) in
-    let z : j .result .answer .refusal .number ≡ 0 = omega (arith, c .before .before .before .before .before .before .before .if1 .left) in
+    let z : j .result .answer .refusal .number ≡ 0 = omega (arith, c .before .before .before .before .before .before .before .before .if1 .left) in
     let n = ap (λ (x : CheckAnswer). x .refusal .number) (sym (j .ensures .0)) ∙ z in
-    let g = c .before .before .before .before .perform in
+    let g = c .before .before .before .before .before .perform in
     let p = g .ensures ∙ ap (λ (x : Sheet). performed x (started m)) (judged-read s (length m) (j .ensures .0) (j .ensures .1) z) in
-    (ap (λ (r : Refusal). carryAnswer r (g .result .registers) (g .result .count)) (c .not-refused .ensures) ∙ carried-accepted s m n p, memory-accepted s m n p)
+    (ap (λ (r : Refusal). carryAnswer r (g .result .registers) (g .result .counts)) (c .not-refused .ensures) ∙ carried-accepted s m n p, memory-accepted s m n p)
 
 pub carry-out-spec : {M : Type 1} → statement M
 carry-out-spec =

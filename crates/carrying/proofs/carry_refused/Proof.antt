@@ -5,8 +5,11 @@ use Rattle.carrying.proofs.carry_refused.Tie as tie
 empty-registers-requires : tie.Need-empty-registers-requires
 empty-registers-requires c κs = search needs
 
+no-counts-requires : tie.Need-no-counts-requires
+no-counts-requires c κs = search needs
+
 returns : tie.Need-returns
 returns c = cc
 
 pub carry-refused-spec : {M : Type 1} → statement M
-carry-refused-spec = tie.close (tie.spec empty-registers-requires returns)
+carry-refused-spec = tie.close (tie.spec empty-registers-requires no-counts-requires returns)

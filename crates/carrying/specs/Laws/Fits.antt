@@ -46,7 +46,7 @@ started-fits memory b = record { places = started-formed memory .places; fit = f
 
 module _ (m : Machine) (w : Formed m) (f : FitMachine m) where
   -- a register made equal to another
-  pub copied-fits : (register object : ℕ) → object < registerCount → FitMachine (machine (copied (m .registers) register object) (m .memory) (m .count))
+  pub copied-fits : (register object : ℕ) → object < registerCount → FitMachine (machine (copied (m .registers) register object) (m .memory) (m .counts))
   copied-fits register object l =
       record {
         places = length-line (m .registers .elements) (placeOf register 0) (elementOf (m .registers .elements) object) matrixPlaces ∙ f .places;

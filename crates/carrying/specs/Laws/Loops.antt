@@ -31,7 +31,7 @@ use Rattle.carrying.specs.Laws.Counts.{step-count}
 -- a machine before step k of n more: well formed, few elements counted, the rest accepted, and the rest leaves what the whole sheet leaves
 pub record Ready (n : ℕ) (sh : Sheet) (k : ℕ) (m start : Machine) : Type 0 where
   pub formed : Formed m
-  pub few : m .count ≤ k * matrixPlaces
+  pub few : m .counts .placed ≤ k * matrixPlaces
   pub kept : length (m .memory) ≡ length (start .memory)
   pub counted : ℕ
   pub clear : checkFrom n sh k m counted .refusal .number ≡ 0

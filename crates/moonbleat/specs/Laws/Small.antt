@@ -171,17 +171,17 @@ unfolding checkedSheet
 check-small s len = by-reading SmallCheck s len (λ w. checked-small _ w len) (λ n. read-small s) (omega arith, omega arith, omega arith)
 
 -- performing an accepted sheet counts what its check counted
-carried-count : (s memory : List ℕ) → checkedSheet s (length memory) .refusal .number ≡ 0 → performed (readSheet s .sheet) (started memory) .count ≡ checkedSheet s (length memory) .count
+carried-count : (s memory : List ℕ) → checkedSheet s (length memory) .refusal .number ≡ 0 → performed (readSheet s .sheet) (started memory) .counts .placed ≡ checkedSheet s (length memory) .count
 unfolding checkedSheet
 carried-count s memory =
-    by-reading (λ (c : CheckAnswer). c .refusal .number ≡ 0 → performed (readSheet s .sheet) (started memory) .count ≡ c .count) s (length memory)
+    by-reading (λ (c : CheckAnswer). c .refusal .number ≡ 0 → performed (readSheet s .sheet) (started memory) .counts .placed ≡ c .count) s (length memory)
     (λ w h. sheet-count _ w memory h) (λ n h. absurd (omega arith)) (λ h. absurd (omega arith))
 
-pub carried-small : (s memory : List ℕ) → Small (carried s memory .refusal) (carried s memory .count)
+pub carried-small : (s memory : List ℕ) → Small (carried s memory .refusal) (carried s memory .counts .placed)
 unfolding carried
 carried-small s memory =
     let c = check-small s (length memory) in
-    pick-case (λ (r : CarryAnswer). Small (r .refusal) (r .count)) (eqb (checkedSheet s (length memory) .refusal .number) 0) _ _
+    pick-case (λ (r : CarryAnswer). Small (r .refusal) (r .counts .placed)) (eqb (checkedSheet s (length memory) .refusal .number) 0) _ _
     (λ e. (omega arith, omega arith, rw (carried-count s memory (eqb-true _ 0 e)) (c .2))) (λ e. (c .0, c .1, omega arith))
 
 -- ---- translating and running
@@ -207,9 +207,9 @@ range-small (suc n) sh len the k ts l =
 
 -- records of at most a register's elements each
 ran-few : (n : ℕ) (sh : Sheet) → Within sh → (len : ℕ) (the : ℕ → Decoded) (goal : Machine) (left k : ℕ) (m : Machine) → k + left ≡ n → RunReady (n - k) sh len the k m goal
-    → goal .count ≤ n * matrixPlaces
+    → goal .counts .placed ≤ n * matrixPlaces
 ran-few n sh w len the goal zero k m e r =
-    let q = ap (λ (x : Machine). x .count) (turns-end n sh len the k m goal r (omega arith)) in omega (arith, q, r .few)
+    let q = ap (λ (x : Machine). x .counts .placed) (turns-end n sh len the k m goal r (omega arith)) in omega (arith, q, r .few)
 ran-few n sh w len the goal (suc left) k m e r =
     ran-few n sh w len the goal left (k + 1) (ranDecoded sh (the k) m) (omega arith) (turn-next n sh len the k m goal r (omega arith) w refl)
 
@@ -225,10 +225,10 @@ module _ (s : List ℕ) (tape : List ℤ) (records : ℕ) where
       P : Refusal → Type 0
       P r = Small r 0
 
-  ran-small : (memory : List ℕ) → runRefusal s tape records (length memory) .number ≡ 0 → ran records (readSheet s .sheet) (tapeRecord tape) (started memory) .count < 2 ^ 32
+  ran-small : (memory : List ℕ) → runRefusal s tape records (length memory) .number ≡ 0 → ran records (readSheet s .sheet) (tapeRecord tape) (started memory) .counts .placed < 2 ^ 32
   unfolding runRefusal
   ran-small memory =
-      by-reading (λ (r : Refusal). r .number ≡ 0 → ran records (readSheet s .sheet) (tapeRecord tape) (started memory) .count < 2 ^ 32) s (length memory)
+      by-reading (λ (r : Refusal). r .number ≡ 0 → ran records (readSheet s .sheet) (tapeRecord tape) (started memory) .counts .placed < 2 ^ 32) s (length memory)
       (λ w h.
       let sh = readSheet s .sheet in
       let f = fit-few _ _ _ (tape-fit sh tape records (length memory) h) in
@@ -237,9 +237,9 @@ module _ (s : List ℕ) (tape : List ℤ) (records : ℕ) where
       omega (arith, f, few))
       (λ n h. absurd (omega arith)) (λ h. absurd (omega arith))
 
-  pub run-small : (memory : List ℕ) → Small (runTape s tape records memory .refusal) (runTape s tape records memory .count)
+  pub run-small : (memory : List ℕ) → Small (runTape s tape records memory .refusal) (runTape s tape records memory .counts .placed)
   unfolding runTape
   run-small memory =
       let c = refusal-small (length memory) in
-      pick-case (λ (r : CarryAnswer). Small (r .refusal) (r .count)) (eqb (runRefusal s tape records (length memory) .number) 0) _ _
+      pick-case (λ (r : CarryAnswer). Small (r .refusal) (r .counts .placed)) (eqb (runRefusal s tape records (length memory) .number) 0) _ _
       (λ e. (omega arith, omega arith, ran-small memory (eqb-true _ 0 e))) (λ e. (c .0, c .1, omega arith))

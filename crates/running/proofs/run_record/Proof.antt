@@ -29,8 +29,8 @@ take-requires c κs =
     let q = rw e at (s .pre .0 .1) in
     ((s .pre .0 .0, q .0, q .1), rw e at (s .pre .1 .3))
 
-add-t35 : tie.Need-add-t35
-add-t35 c = let q = rw (c .before .before .before .before .r2 .given .1) at (c .before .before .before .before .before .before .before .pre .0 .1) in omega (arith, c .before .before .before .before .before .before .before .pre .0 .2, q .0 .count)
+more-placed-requires : tie.Need-more-placed-requires
+more-placed-requires c κs = let q = rw (c .before .before .before .before .r2 .given .1) at (c .before .before .before .before .before .before .before .pre .0 .1) in (omega (arith, c .before .before .before .before .before .before .before .pre .0 .2), omega (arith, q .0 .count))
 
 enum-known-r-3 : tie.Need-enum-known-r-3
 enum-known-r-3 c = search needs
@@ -42,8 +42,8 @@ put-requires c κs =
     let q = rw e at (s .pre .0 .1) in
     ((s .pre .0 .0, q .0, q .1), rw e at (s .pre .1 .3))
 
-add-t40 : tie.Need-add-t40
-add-t40 c = let q = rw (c .before .before .before .before .before .before .r3 .given .1) at (c .before .before .before .before .before .before .before .before .before .pre .0 .1) in omega (arith, c .before .before .before .before .before .before .before .before .before .pre .0 .2, q .0 .count)
+more-placed-requires-2 : tie.Need-more-placed-requires-2
+more-placed-requires-2 c κs = let q = rw (c .before .before .before .before .before .before .r3 .given .1) at (c .before .before .before .before .before .before .before .before .before .pre .0 .1) in (omega (arith, c .before .before .before .before .before .before .before .before .before .pre .0 .2), omega (arith, q .0 .count))
 
 enum-known-r-4 : tie.Need-enum-known-r-4
 enum-known-r-4 c = search needs
@@ -72,14 +72,14 @@ same-length c = search needs
 
 returns-2 : tie.Need-returns-2
 unfolding ranRecordWith
-returns-2 c = λ tensors. rw (c .before .before .before .before .r2 .given .1) (c .take .ensures (c .before .before .before .before .before .before .before .args .counted))
+returns-2 c = λ tensors. rw (c .before .before .before .before .before .r2 .given .1, c .more-placed .ensures) (c .before .take .ensures (c .before .before .before .before .before .before .before .before .args .counted))
 
 same-length-2 : tie.Need-same-length-2
 same-length-2 c = search needs
 
 returns-3 : tie.Need-returns-3
 unfolding ranRecordWith
-returns-3 c = λ tensors. rw (c .before .before .before .before .before .before .r3 .given .1) (c .before .before .put .ensures (c .before .before .before .before .before .before .before .before .before .args .counted))
+returns-3 c = λ tensors. rw (c .before .before .before .before .before .before .before .r3 .given .1, c .more-placed2 .ensures) (c .before .before .before .put .ensures (c .before .before .before .before .before .before .before .before .before .before .args .counted))
 
 returns-4 : tie.Need-returns-4
 unfolding ranRecordWith
@@ -102,10 +102,10 @@ run-record-spec =
     with-type-requires
     enum-known-r-2
     take-requires
-    add-t35
+    more-placed-requires
     enum-known-r-3
     put-requires
-    add-t40
+    more-placed-requires-2
     enum-known-r-4
     fill-requires
     enum-told

@@ -7,6 +7,7 @@ use Rattle.sheet_reader.specs.Reading.{readSheet}
 use Rattle.sheet_reader.specs.declared.ReadAnswer.{ReadAnswer}
 use Rattle.registers.specs.Registers.{emptyRegisters}
 use Rattle.sheet_reader.specs.Laws.Growing.{read-within}
+use Rattle.counts.specs.Counts.{noCounts}
 use Rattle.carrying.specs.Carrying.{started, carryAnswer}
 use Rattle.judging.specs.Judging.{tapeRecord, tapeRefusal}
 use Rattle.running.specs.Running.{ran}
@@ -31,7 +32,7 @@ returns c =
     let t = now (a .tape) in
     let m = now (a .memory) in
     let u = run-large s t (a .records) (length m) (c .before .before .if1 .taken) in
-    (c .carry-refused .ensures ∙ ap (λ (r : Refusal). carryAnswer r emptyRegisters 0) (c .before .refusal-at .ensures) ∙ run-refused s t (a .records) m u (omega arith), ran-refused s t (a .records) m u (omega arith))
+    (c .carry-refused .ensures ∙ ap (λ (r : Refusal). carryAnswer r emptyRegisters noCounts) (c .before .refusal-at .ensures) ∙ run-refused s t (a .records) m u (omega arith), ran-refused s t (a .records) m u (omega arith))
 
 read-sheet-requires : tie.Need-read-sheet-requires
 read-sheet-requires c κs = search needs
@@ -48,7 +49,7 @@ returns-2 c =
     let e = c .before .before .before .before .read-sheet .ensures in
     let n : 0 < readSheet s .refusal .number = rw e at (c .before .if2 .taken) in
     let u = run-unread s t (a .records) (length m) (c .before .before .before .before .before .if1 .left) n in
-    (c .carry-refused2 .ensures ∙ ap (λ (r : ReadAnswer). carryAnswer (r .refusal) emptyRegisters 0) e ∙ run-refused s t (a .records) m u n, ran-refused s t (a .records) m u n)
+    (c .carry-refused2 .ensures ∙ ap (λ (r : ReadAnswer). carryAnswer (r .refusal) emptyRegisters noCounts) e ∙ run-refused s t (a .records) m u n, ran-refused s t (a .records) m u n)
 
 tape-refusal-requires : tie.Need-tape-refusal-requires
 tape-refusal-requires c κs =
@@ -95,7 +96,7 @@ same-length c = search needs
 
 returns-4 : tie.Need-returns-4
 returns-4 c =
-    let q = c .before .before .before .before .before .before .before .before in
+    let q = c .before .before .before .before .before .before .before .before .before in
     let d = q .before .before .before .before .before in
     let a = d .before .before .before .before .args in
     let s = now (a .sheet) in
@@ -104,11 +105,11 @@ returns-4 c =
     let e = d .read-sheet .ensures in
     let z : readSheet s .refusal .number ≤ 0 = rw e at (q .before .before .if2 .left) in
     let w = run-readable s t (a .records) (length m) (d .before .if1 .left) (omega arith) ∙ ap (λ (r : ReadAnswer). tapeRefusal (r .sheet) t (a .records) (length m)) (sym e) ∙ sym (q .tape-refusal .ensures) in
-    let y : q .tape-refusal .result .number ≡ 0 = omega (arith, c .before .before .before .before .before .before .if3 .left) in
+    let y : q .tape-refusal .result .number ≡ 0 = omega (arith, c .before .before .before .before .before .before .before .if3 .left) in
     let n = ap (λ (r : Refusal). r .number) w ∙ y in
-    let g = c .before .before .before .before .run-records in
+    let g = c .before .before .before .before .before .run-records in
     let p = g .ensures ∙ ap (λ (r : ReadAnswer). ran (a .records) (r .sheet) (tapeRecord t) (started m)) e in
-    (ap (λ (r : Refusal). carryAnswer r (g .result .registers) (g .result .count)) (c .not-refused .ensures) ∙ run-accepted s t (a .records) m n p, ran-accepted s t (a .records) m n p)
+    (ap (λ (r : Refusal). carryAnswer r (g .result .registers) (g .result .counts)) (c .not-refused .ensures) ∙ run-accepted s t (a .records) m n p, ran-accepted s t (a .records) m n p)
 
 pub run-tape-spec : {M : Type 1} → statement M
 run-tape-spec =

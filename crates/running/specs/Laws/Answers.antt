@@ -13,6 +13,8 @@ use Rattle.sheet_reader.specs.Reading.{readSheet}
 use Rattle.registers.specs.Registers.{emptyRegisters}
 use Rattle.registers.specs.declared.Registers.{Registers}
 use Rattle.refusals.specs.Refusals.{memoryTooLarge, refusalAt, notRefused}
+use Rattle.counts.specs.Counts.{noCounts}
+use Rattle.counts.specs.declared.Counts.{Counts}
 use Rattle.carrying.specs.Steps.{machine}
 use Rattle.carrying.specs.Carrying.{started, carryAnswer}
 use Rattle.judging.specs.Judging.{tapeRecord, tapeRefusal}
@@ -34,7 +36,7 @@ module _ (s : List ℕ) (tape : List ℤ) (records : ℕ) where
 
   module _ (memory : List ℕ) where
     -- refused: empty registers, memory unchanged
-    pub run-refused : {r : Refusal} → runRefusal s tape records (length memory) ≡ r → 0 < r .number → carryAnswer r emptyRegisters 0 ≡ runTape s tape records memory
+    pub run-refused : {r : Refusal} → runRefusal s tape records (length memory) ≡ r → 0 < r .number → carryAnswer r emptyRegisters noCounts ≡ runTape s tape records memory
     unfolding runTape pick
     run-refused {r} e n = rw (e, ne-eqb (r .number) 0 (λ q. omega arith))
 
@@ -43,12 +45,12 @@ module _ (s : List ℕ) (tape : List ℤ) (records : ℕ) where
     ran-refused {r} e n = rw (e, ne-eqb (r .number) 0 (λ q. omega arith))
 
     -- accepted: what the records leave
-    pub run-accepted : {registers : Registers} {after : List ℕ} {count : ℕ} → runRefusal s tape records (length memory) .number ≡ 0
-        → machine registers after count ≡ ran records (readSheet s .sheet) (tapeRecord tape) (started memory) → carryAnswer notRefused registers count ≡ runTape s tape records memory
+    pub run-accepted : {registers : Registers} {after : List ℕ} {counts : Counts} → runRefusal s tape records (length memory) .number ≡ 0
+        → machine registers after counts ≡ ran records (readSheet s .sheet) (tapeRecord tape) (started memory) → carryAnswer notRefused registers counts ≡ runTape s tape records memory
     unfolding runTape pick
     run-accepted n e = rw (eq-eqb (runRefusal s tape records (length memory) .number) 0 n, ← e)
 
-    pub ran-accepted : {registers : Registers} {after : List ℕ} {count : ℕ} → runRefusal s tape records (length memory) .number ≡ 0
-        → machine registers after count ≡ ran records (readSheet s .sheet) (tapeRecord tape) (started memory) → after ≡ ranMemory s tape records memory
+    pub ran-accepted : {registers : Registers} {after : List ℕ} {counts : Counts} → runRefusal s tape records (length memory) .number ≡ 0
+        → machine registers after counts ≡ ran records (readSheet s .sheet) (tapeRecord tape) (started memory) → after ≡ ranMemory s tape records memory
     unfolding ranMemory pick
     ran-accepted n e = rw (eq-eqb (runRefusal s tape records (length memory) .number) 0 n, ← e)

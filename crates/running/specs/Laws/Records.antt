@@ -72,7 +72,7 @@ module _ (sh : Sheet) (m : Machine) (len : ℕ) where
   few : (register first count : ℕ) → Sized (m .registers .types) → elementsOk (theType (m .registers .types) register) first count ≡ true → count ≤ matrixPlaces
   few register first count s e = omega (arith, elements-fit _ first count (s .each register) e)
 
-  record-count : (r : Record) → recordOk sh (m .registers .types) len r ≡ true → Sized (m .registers .types) → ranRecord sh r m .count ≤ m .count + matrixPlaces
+  record-count : (r : Record) → recordOk sh (m .registers .types) len r ≡ true → Sized (m .registers .types) → ranRecord sh r m .counts .placed ≤ m .counts .placed + matrixPlaces
   unfolding ranRecordWith performedStep
   record-count (Copy register object) e s = omega arith
   record-count (Take register first count byte up down) e s =
@@ -107,7 +107,7 @@ module _ (sh : Sheet) (m : Machine) (len : ℕ) where
   decoded-length (Good r) e = record-length r e
   decoded-length Bad e = refl
 
-  pub decoded-count : (d : Decoded) → decodedOk sh (m .registers .types) len d ≡ true → Sized (m .registers .types) → ranDecoded sh d m .count ≤ m .count + matrixPlaces
+  pub decoded-count : (d : Decoded) → decodedOk sh (m .registers .types) len d ≡ true → Sized (m .registers .types) → ranDecoded sh d m .counts .placed ≤ m .counts .placed + matrixPlaces
   decoded-count (Good r) e s = record-count r e s
   decoded-count Bad e s = omega arith
 

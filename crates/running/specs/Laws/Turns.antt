@@ -24,7 +24,7 @@ use Rattle.running.specs.Laws.Records.{decoded-types, decoded-length, de
 -- a machine before record k of n more: well formed, few elements counted, the rest in range, and the rest leaves the goal
 pub record RunReady (n : ℕ) (sh : Sheet) (len : ℕ) (the : ℕ → Decoded) (k : ℕ) (m goal : Machine) : Type 0 where
   pub formed : Formed m
-  pub few : m .count ≤ k * matrixPlaces
+  pub few : m .counts .placed ≤ k * matrixPlaces
   pub kept : length (m .memory) ≡ len
   pub clear : rangeFrom n sh len the k (m .registers .types) .number ≡ 0
   pub rest : ranFrom n sh the k m ≡ goal

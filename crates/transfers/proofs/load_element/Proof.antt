@@ -1,3 +1,5 @@
+use Rattle.transfers.specs.Laws.Elements.{took-counted}
+use denote.Ref.{now}
 use mathlib.Core.Path.{refl}
 use borrow.Author.Needs.{needs}
 use Rattle.transfers.proofs.load_element.Statement.{statement}
@@ -28,16 +30,17 @@ add-result : tie.Need-add-result
 add-result c = search needs
 
 returns : tie.Need-returns
-returns c = search needs
+returns c = rw (c .enum-told .given .1) (λ n. refl)
 
 returns-2 : tie.Need-returns-2
-returns-2 c = rw (c .before .before .before .o .given .1) (c .put-element-of .ensures, refl)
+returns-2 c = rw (c .before .before .before .o .given .1) (λ n. rw (c .put-element-of .ensures))
 
 returns-3 : tie.Need-returns-3
-returns-3 c = search needs
+returns-3 c = rw (c .enum-told2 .given .1) (λ n. refl)
 
 returns-4 : tie.Need-returns-4
-returns-4 c = rw (c .before .before .before .before .o2 .given .1) (cc, refl)
+returns-4 c = let a = c .before .before .before .before .before .before .before .args in
+    rw (c .before .before .before .before .o2 .given .1) (λ n. took-counted _ (a .register) (a .element) _ n _ (now (a .elements)) _ (c .before .before .element-at .ensures) (c .put-element-of2 .ensures))
 
 pub load-element-spec : {M : Type 1} → statement M
 load-element-spec =

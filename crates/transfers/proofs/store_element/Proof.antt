@@ -1,3 +1,4 @@
+use Rattle.transfers.specs.Laws.Elements.{put-counted}
 use mathlib.Core.Path.{refl}
 use borrow.Author.Needs.{needs}
 use Rattle.transfers.proofs.store_element.Statement.{statement}
@@ -25,19 +26,19 @@ add-result : tie.Need-add-result
 add-result c = search needs
 
 returns : tie.Need-returns
-returns c = search needs
+returns c = rw (c .enum-told .given .1) (λ n. refl)
 
 returns-2 : tie.Need-returns-2
-returns-2 c = search needs
+returns-2 c = rw (c .enum-told2 .given .1) (λ n. refl)
 
 returns-3 : tie.Need-returns-3
-returns-3 c = search needs
+returns-3 c = rw (c .enum-told3 .given .1) (λ n. refl)
 
 same-length : tie.Need-same-length
 same-length c = search needs
 
 returns-4 : tie.Need-returns-4
-returns-4 c = rw (c .before .before .before .before .before .before .o .given .1) (cc, refl)
+returns-4 c = rw (c .before .before .before .before .before .before .o .given .1) (λ n. put-counted _ _ _ _ n _ _ _ (c .before .before .before .before .element-of .ensures) (c .before .before .put-element .ensures))
 
 pub store-element-spec : {M : Type 1} → statement M
 store-element-spec =

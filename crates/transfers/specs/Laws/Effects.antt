@@ -1,7 +1,6 @@
--- What the elements of a load or a store leave as it was, and how many of them are counted.
+-- What the elements of a load or a store leave as it was, and what they count.
 use mathlib.Core.Path.{_≡_, refl, sym, _∙_}
 use Prim.Native.Nat.{ℕ, zero, suc, _+_, _<_, _≤_}
-use native.Mathlib.Nat.{add-zero, add-assoc}
 use native.Mathlib.Omega.{arith}
 use lib.ListN.{length, getD, length-set}
 use Rattle.outcomes.specs.declared.Outcome.{Outcome}
@@ -11,6 +10,8 @@ use Rattle.memory.specs.Elements.{elementAt}
 use Rattle.memory.specs.Laws.Elements.{with-outside}
 use Rattle.addressing.specs.declared.Located.{Located}
 use Rattle.accesses.specs.Refusals.{placedOne, placedCount}
+use Rattle.counts.specs.Counts.{morePlaced}
+use Rattle.counts.specs.Laws.Counts.{placed-none, placed-more}
 use Rattle.transfers.specs.Acts.{State, loaded, stored, Occupies}
 use Rattle.transfers.specs.Transfers.{transferred}
 
@@ -23,13 +24,13 @@ transferred-keeps what act h outcome (suc n) s =
     h n (outcome n) (transferred act outcome n s) ∙ transferred-keeps what act h outcome n s
 
 -- where each element with a byte counts one, all count as many as have a byte
-pub transferred-counts : (act : ℕ → Outcome → State → State) → ((k : ℕ) (o : Outcome) (s : State) → act k o s .count ≡ s .count + placedOne o)
-    → (f : ℕ → Located) (n : ℕ) (s : State) → transferred act (λ (k : ℕ). f k .outcome) n s .count ≡ s .count + placedCount f n
+pub transferred-counts : (act : ℕ → Outcome → State → State) → ((k : ℕ) (o : Outcome) (s : State) → act k o s .counts ≡ morePlaced (s .counts) (placedOne o))
+    → (f : ℕ → Located) (n : ℕ) (s : State) → transferred act (λ (k : ℕ). f k .outcome) n s .counts ≡ morePlaced (s .counts) (placedCount f n)
 unfolding transferred placedCount
-transferred-counts act h f zero s = sym (add-zero (s .count))
+transferred-counts act h f zero s = sym (placed-none (s .counts))
 transferred-counts act h f (suc n) s =
     h n (f n .outcome) (transferred act (λ (k : ℕ). f k .outcome) n s)
-    ∙ rw (transferred-counts act h f n s) (add-assoc (s .count) (placedCount f n) (placedOne (f n .outcome)))
+    ∙ rw (transferred-counts act h f n s) (placed-more (s .counts) (placedCount f n) (placedOne (f n .outcome)))
 
 module _ (size register : ℕ) where
   -- an element of a load keeps the number of places of the registers
@@ -40,16 +41,16 @@ module _ (size register : ℕ) where
   loaded-places k (Placed byte) s = length-set (s .elements) (placeOf register k) (elementAt (s .memory) byte size)
 
   -- an element counts one if it has a byte
-  pub loaded-counts : (k : ℕ) (o : Outcome) (s : State) → loaded size register k o s .count ≡ s .count + placedOne o
-  loaded-counts k Skipped s = sym (add-zero (s .count))
-  loaded-counts k (Filled bits) s = sym (add-zero (s .count))
-  loaded-counts k Discarded s = sym (add-zero (s .count))
+  pub loaded-counts : (k : ℕ) (o : Outcome) (s : State) → loaded size register k o s .counts ≡ morePlaced (s .counts) (placedOne o)
+  loaded-counts k Skipped s = sym (placed-none (s .counts))
+  loaded-counts k (Filled bits) s = sym (placed-none (s .counts))
+  loaded-counts k Discarded s = sym (placed-none (s .counts))
   loaded-counts k (Placed byte) s = refl
 
-  pub stored-counts : (k : ℕ) (o : Outcome) (s : State) → stored size register k o s .count ≡ s .count + placedOne o
-  stored-counts k Skipped s = sym (add-zero (s .count))
-  stored-counts k (Filled bits) s = sym (add-zero (s .count))
-  stored-counts k Discarded s = sym (add-zero (s .count))
+  pub stored-counts : (k : ℕ) (o : Outcome) (s : State) → stored size register k o s .counts ≡ morePlaced (s .counts) (placedOne o)
+  stored-counts k Skipped s = sym (placed-none (s .counts))
+  stored-counts k (Filled bits) s = sym (placed-none (s .counts))
+  stored-counts k Discarded s = sym (placed-none (s .counts))
   stored-counts k (Placed byte) s = refl
 
 pub has-placed : (size b : ℕ) (o : Outcome) → Occupies size b o → (byte : ℕ) × ((o ≡ Placed byte) × ((byte ≤ b) × (b < byte + size)))

@@ -14,8 +14,13 @@ use Rattle.outcomes.specs.declared.Outcome.the-variants.{Skipped, Filled, Disca
 use Rattle.addressing.specs.declared.Access.{Access}
 use Rattle.addressing.specs.Valid.{SizedAccess}
 use Rattle.addressing.specs.Sound.{Sound}
+use Rattle.memory.specs.Elements.{elementAt, withElement}
 use Rattle.memory.specs.Laws.Elements.{length-with}
-use Rattle.transfers.specs.Acts.{State, state, loaded, stored, Inside}
+use Rattle.registers.specs.Registers.{elementOf, withElementOf}
+use Rattle.counts.specs.Counts.{morePlaced}
+use Rattle.counts.specs.Laws.Counts.{placed-none, placed-more}
+use Rattle.counts.specs.declared.Counts.{Counts}
+use Rattle.transfers.specs.Acts.{State, state, took, put, loaded, stored, Inside}
 use Rattle.transfers.specs.Transfers.{transferred}
 
 module _ (size register element : ℕ) where
@@ -40,22 +45,32 @@ module _ (size register element : ℕ) where
   stored-length (Placed byte) s = length-with (s .memory) byte size _
 
   -- an element counts at most once
-  pub loaded-count : (o : Outcome) (s : State) → loaded size register element o s .count ≤ s .count + 1
+  pub loaded-count : (o : Outcome) (s : State) → loaded size register element o s .counts .placed ≤ s .counts .placed + 1
   loaded-count Skipped s = omega arith
   loaded-count (Filled bits) s = omega arith
   loaded-count Discarded s = omega arith
   loaded-count (Placed byte) s = le-refl _
 
-  pub stored-count : (o : Outcome) (s : State) → stored size register element o s .count ≤ s .count + 1
+  pub stored-count : (o : Outcome) (s : State) → stored size register element o s .counts .placed ≤ s .counts .placed + 1
   stored-count Skipped s = omega arith
   stored-count (Filled bits) s = omega arith
   stored-count Discarded s = omega arith
   stored-count (Placed byte) s = le-refl _
 
--- one more element
-pub transferred-none : (act : ℕ → Outcome → State → State) (f : ℕ → Outcome) (s : State) → transferred act f 0 s ≡ s
+-- an element takes bits or is put, and its byte is counted beside n others
+module _ (size register element byte : ℕ) (c : Counts) (n : ℕ) (es m : List ℕ) {x : ℕ} where
+  pub took-counted : {es′ : List ℕ} → x ≡ elementAt m byte size → es′ ≡ withElementOf es register element x
+      → state es′ m (morePlaced c (n + 1)) ≡ took size register element byte (state es m (morePlaced c n))
+  took-counted p q = rw (q, p, ← placed-more c n 1)
+
+  pub put-counted : {m′ : List ℕ} → x ≡ elementOf es register element → m′ ≡ withElement m byte size x
+      → state es m′ (morePlaced c (n + 1)) ≡ put size register element byte (state es m (morePlaced c n))
+  put-counted p q = rw (q, p, ← placed-more c n 1)
+
+-- no element yet, and one more
+pub transferred-start : (act : ℕ → Outcome → State → State) (f : ℕ → Outcome) (es m : List ℕ) (c : Counts) → state es m (morePlaced c 0) ≡ transferred act f 0 (state es m c)
 unfolding transferred
-transferred-none act f s = refl
+transferred-start act f es m c = rw (placed-none c)
 
 pub transferred-more : (act : ℕ → Outcome → State → State) (f : ℕ → Outcome) (n : ℕ) (s : State) → transferred act f (n + 1) s ≡ act n (f n) (transferred act f n s)
 unfolding transferred
@@ -74,23 +89,9 @@ access-size a s =
     by-place (a .size) 1 inl
     (λ n. by-place (a .size) 2 (λ e. inr (inl e)) (λ m. let k : a .size ≡ 4 = omega (arith, s .some, s .most, s .odd) in inr (inr k)))
 
--- a state by its parts
-made : (x : State) {es m : List ℕ} {n : ℕ} → es ≡ x .elements → m ≡ x .memory → n ≡ x .count → state es m n ≡ x
-made x p q r = rw (p, q, r)
-
--- one turn of the loop over a load's elements, and over a store's
-module _ (size register k : ℕ) (f : ℕ → Outcome) (s : State) {es m : List ℕ} {n : ℕ} (o : Outcome) (q : o ≡ f k) where
-  pub load-turn : {es′ : List ℕ} {n′ : ℕ} → state es m n ≡ transferred (loaded size register) f k s → es′ ≡ loaded size register k o (state es m n) .elements → n′ ≡ loaded size register k o (state es m n) .count → state es′ m n′ ≡ transferred (loaded size register) f (k + 1) s
-  load-turn inv p r =
-      made (loaded size register k o (state es m n)) p (sym (loaded-memory size register k o (state es m n))) r
-      ∙ ap₂ (loaded size register k) q inv
-      ∙ sym (transferred-more (loaded size register) f k s)
-
-  pub store-turn : {m′ : List ℕ} {n′ : ℕ} → state es m n ≡ transferred (stored size register) f k s → m′ ≡ stored size register k o (state es m n) .memory → n′ ≡ stored size register k o (state es m n) .count → state es m′ n′ ≡ transferred (stored size register) f (k + 1) s
-  store-turn inv p r =
-      made (stored size register k o (state es m n)) (sym (stored-elements size register k o (state es m n))) p r
-      ∙ ap₂ (stored size register k) q inv
-      ∙ sym (transferred-more (stored size register) f k s)
+-- one turn of the loop over elements
+pub transferred-turn : (act : ℕ → Outcome → State → State) (f : ℕ → Outcome) (k : ℕ) (s : State) {t u : State} (o : Outcome) → o ≡ f k → t ≡ transferred act f k s → u ≡ act k o t → u ≡ transferred act f (k + 1) s
+transferred-turn act f k s o q inv e = e ∙ ap₂ (act k) q inv ∙ sym (transferred-more act f k s)
 
 -- elements with the same outcomes act alike
 pub transferred-same : (act : ℕ → Outcome → State → State) {f g : ℕ → Outcome} (n : ℕ) (s : State) → ((k : ℕ) → k < n → f k ≡ g k) → transferred act f n s ≡ transferred act g n s

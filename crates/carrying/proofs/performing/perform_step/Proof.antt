@@ -27,7 +27,7 @@ perform-load-requires c κs =
     let q = s .pre .0 in
     let ok = rw (g .1) at (s .pre .1 .1) in
     let n = load-register _ _ _ _ _ ok in
-    let m = machineOf (s .args .types) (state (now (s .args .elements)) (now (s .args .memory)) (s .args .count)) in
+    let m = machineOf (s .args .types) (state (now (s .args .elements)) (now (s .args .memory)) (s .args .counts)) in
     let w = ap (λ (r : Registers). r .types) (c .before .before .before .with-object .ensures) in
     rw w (
       (q .0, given-sized (s .pre .1 .0) (s .args .tensors) m (g .0 .0) (g .0 .1 .1 .0) (q .4) (g .0 .1 .0), n, q .1, q .2),
@@ -43,7 +43,7 @@ perform-store-requires c κs =
     let g = c .before .before .before .before .step2 .given in
     let q = s .pre .0 in
     let ok = rw (g .1) at (s .pre .1 .1) in
-    let m = machineOf (s .args .types) (state (now (s .args .elements)) (now (s .args .memory)) (s .args .count)) in (
+    let m = machineOf (s .args .types) (state (now (s .args .elements)) (now (s .args .memory)) (s .args .counts)) in (
       (q .0, q .4 .sized, store-register _ _ _ _ ok, q .1, q .2),
       (store-clear (s .pre .1 .0) (s .args .tensors) m (g .0 .0) (g .0 .1 .0) (rw (g .1) at (s .pre .1 .2)), (store-window _ _ _ _ ok, q .3)),
     )
@@ -75,7 +75,7 @@ returns-2 c =
       rw (g .1)
           (e .1
           ∙ ap (loadDone (s .args .tensors) (g .0 .0) (g .0 .1 .1 .0))
-          (ap (λ (r : Registers). machine r (now (s .args .memory)) (s .args .count)) (c .before .before .before .before .with-object .ensures))),
+          (ap (λ (r : Registers). machine r (now (s .args .memory)) (s .args .counts)) (c .before .before .before .before .with-object .ensures))),
     )
 
 same-length-2 : tie.Need-same-length-2
@@ -93,7 +93,7 @@ unfolding performedStep
 returns-4 c =
     let s = c .before .before .before .before .before .before .before in
     let p = c .perform-whole .ensures in
-    (s .pre .0 .3, rw (c .before .before .before .before .step3 .given .1) (λ i. machine (registersOf (p .0 i) (p .1 i)) (now (s .args .memory)) (s .args .count)))
+    (s .pre .0 .3, rw (c .before .before .before .before .step3 .given .1) (λ i. machine (registersOf (p .0 i) (p .1 i)) (now (s .args .memory)) (s .args .counts)))
 
 pub perform-step-spec : {M : Type 1} → statement M
 perform-step-spec =

@@ -3,6 +3,7 @@ use mathlib.Core.Path.{_≡_, sym}
 use mathlib.Core.List.{List}
 use Prim.Native.Nat.{ℕ, _-_, _≤_}
 use Rattle.numbers.specs.Orders.{inOrder}
+use Rattle.counts.specs.declared.Counts.{Counts}
 use Rattle.transfers.specs.Acts.{state}
 use Rattle.running.specs.Elements.{filling}
 use Rattle.running.specs.Laws.Elements.{order-none, fill-turn}
@@ -12,7 +13,7 @@ use Rattle.running.proofs.moving.fill_elements.Statement.{statement}
 use Rattle.running.proofs.moving.fill_elements.Tie as tie
 
 abbrev Inv-loop : tie.InvT-loop
-Inv-loop elements₀ register first count value i₀ elements i = (i ≤ count) × ((m : List ℕ) (n : ℕ) → state elements m n ≡ inOrder (filling register first value) i (state elements₀ m n))
+Inv-loop elements₀ register first count value i₀ elements i = (i ≤ count) × ((m : List ℕ) (c : Counts) → state elements m c ≡ inOrder (filling register first value) i (state elements₀ m c))
 
 abbrev μ-loop : tie.MeasureT-loop
 μ-loop elements₀ register first count value i₀ elements i = count - i

@@ -4,6 +4,8 @@ use mathlib.Core.Path.{_≡_, refl, ap, _∙_}
 use Prim.Native.Nat.{ℕ, _+_, _-_, _≤_}
 use Rattle.numbers.specs.Orders.{inOrder}
 use Rattle.memory.specs.Laws.Elements.{length-with}
+use Rattle.counts.specs.Counts.{morePlaced}
+use Rattle.counts.specs.declared.Counts.{Counts}
 use Rattle.transfers.specs.Acts.{state}
 use Rattle.running.specs.Elements.{putting}
 use Rattle.running.specs.Laws.Elements.{order-start, put-turn}
@@ -14,7 +16,7 @@ use Rattle.running.proofs.moving.put_elements.Statement.{statement}
 use Rattle.running.proofs.moving.put_elements.Tie as tie
 
 abbrev Inv-loop : tie.InvT-loop
-Inv-loop elements memory₀ size register first count byte up down i₀ memory i = (i ≤ count) × (length memory ≡ length memory₀) × ((n : ℕ) → state elements memory (n + i) ≡ inOrder (putting size register first byte up down) i (state elements memory₀ n))
+Inv-loop elements memory₀ size register first count byte up down i₀ memory i = (i ≤ count) × (length memory ≡ length memory₀) × ((c : Counts) → state elements memory (morePlaced c i) ≡ inOrder (putting size register first byte up down) i (state elements memory₀ c))
 
 abbrev μ-loop : tie.MeasureT-loop
 μ-loop elements memory₀ size register first count byte up down i₀ memory i = count - i

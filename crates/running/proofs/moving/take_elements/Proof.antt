@@ -2,6 +2,8 @@ use denote.Ref.{now}
 use mathlib.Core.Path.{_≡_}
 use Prim.Native.Nat.{ℕ, _+_, _-_, _≤_}
 use Rattle.numbers.specs.Orders.{inOrder}
+use Rattle.counts.specs.Counts.{morePlaced}
+use Rattle.counts.specs.declared.Counts.{Counts}
 use Rattle.transfers.specs.Acts.{state}
 use Rattle.running.specs.Elements.{taking}
 use Rattle.running.specs.Laws.Elements.{order-start, take-turn}
@@ -12,7 +14,7 @@ use Rattle.running.proofs.moving.take_elements.Statement.{statement}
 use Rattle.running.proofs.moving.take_elements.Tie as tie
 
 abbrev Inv-loop : tie.InvT-loop
-Inv-loop elements₀ memory size register first count byte up down i₀ elements i = (i ≤ count) × ((n : ℕ) → state elements memory (n + i) ≡ inOrder (taking size register first byte up down) i (state elements₀ memory n))
+Inv-loop elements₀ memory size register first count byte up down i₀ elements i = (i ≤ count) × ((c : Counts) → state elements memory (morePlaced c i) ≡ inOrder (taking size register first byte up down) i (state elements₀ memory c))
 
 abbrev μ-loop : tie.MeasureT-loop
 μ-loop elements₀ memory size register first count byte up down i₀ elements i = count - i
