@@ -3,7 +3,8 @@ ghost use mathlib.Core.Path.{_≡_};
 ghost use Prim.Native.Nat.{_+_, _≤_, _<_};
 ghost use lib.ListN.{length};
 ghost use Rattle.sheet.specs.Sizes.{layoutPlaces, viewPlaces};
-ghost use Rattle.sheet_reader.specs.Reading.{layoutMayCome, viewMayCome, stepMayCome, editionRefusal, layoutRefusal, viewRefusal, stepRefusal, fieldRefusal, moreLayout, moreView, refusedRead, endRead, readSheet};
+ghost use Rattle.sheet_reader.specs.Reading.{layoutMayCome, viewMayCome, stepMayCome, editionRefusal, layoutRefusal, viewRefusal, moreLayout, moreView, refusedRead, endRead, readSheet};
+ghost use Rattle.sheet_reader.specs.Heads.{stepHeadRefusal, headRefusal};
 use fields::Cursor;
 use fields::Field;
 use refusals::BEYOND_SIZES;
@@ -134,9 +135,9 @@ fn view_refusal(s: &[u8], start: usize, len: usize, given: Given) -> u8
     0
 }
 
-fn step_refusal(s: &[u8], tag: u8, start: usize, len: usize, given: Given) -> u8
-    requires { ⌜ start + len ≤ length (now s) ⌝ }
-    ensures { λ r. ⌜ r ≡ stepRefusal (now (s .entry)) tag start len given ⌝ }
+// Refusals 2, 3 and 4 of a step: its content is judged as it is put in its place.
+fn step_head_refusal(tag: u8, len: usize, given: Given) -> u8
+    ensures { λ r. ⌜ r ≡ stepHeadRefusal tag len given ⌝ }
 {
     let edition = given.edition;
     if !editions::tag_known(edition, tag) {
@@ -148,23 +149,19 @@ fn step_refusal(s: &[u8], tag: u8, start: usize, len: usize, given: Given) -> u8
     if len != contents::step_length(edition, tag) {
         return WRONG_LENGTH;
     }
-    let step = contents::step_at(s, edition, tag, start);
-    if !steps::step_ok(edition, given.layouts, given.views, step) {
-        return BEYOND_SIZES;
-    }
     0
 }
 
-// The field's tag chooses.
+// The field's tag chooses. A step is judged by its head alone.
 fn field_refusal(s: &[u8], tag: u8, start: usize, len: usize, given: Given) -> u8
     requires { ⌜ start + len ≤ length (now s) ⌝ }
-    ensures { λ r. ⌜ r ≡ fieldRefusal (now (s .entry)) tag start len given ⌝ }
+    ensures { λ r. ⌜ r ≡ headRefusal (now (s .entry)) tag start len given ⌝ }
 {
     match tag {
         codes::EDITION_TAG => edition_refusal(s, start, len, given),
         codes::LAYOUT_TAG => layout_refusal(s, start, len, given),
         codes::VIEW_TAG => view_refusal(s, start, len, given),
-        codes::FILL_TAG..=codes::LAST_STEP_TAG => step_refusal(s, tag, start, len, given),
+        codes::FILL_TAG..=codes::LAST_STEP_TAG => step_head_refusal(tag, len, given),
         _ => UNKNOWN_TAG,
     }
 }
@@ -258,9 +255,11 @@ pub fn read_sheet(s: &[u8]) -> ReadAnswer
             tensors = more;
             continue;
         }
-        step[count] = Cell {
-            step: contents::step_at(s, edition, tag, start),
-        };
+        let found = contents::step_at(s, edition, tag, start);
+        if !steps::step_ok(edition, given.layouts, given.views, found) {
+            return refused_read(BEYOND_SIZES, at);
+        }
+        step[count] = Cell { step: found };
         count += 1;
     }
     end_read(

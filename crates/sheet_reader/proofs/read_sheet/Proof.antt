@@ -1,20 +1,27 @@
 use Prim.Native.Nat.{ℕ, suc, _+_, _-_, _≤_, _<_}
-use mathlib.Core.Path.{_≡_, sym, ap, _∙_}
+use mathlib.Core.Path.{_≡_, refl, sym, ap, _∙_}
 use native.Mathlib.Omega.{arith}
 use denote.Ref.{now}
 use lib.ListN.{length}
 use borrow.Author.Needs.{needs}
 use mathlib.Core.List.{List}
+use Rattle.numbers.specs.Choice.{pick}
+use Rattle.numbers.specs.Laws.Choice.{taken, left, went-not, went-past}
+use Rattle.refusals.specs.Refusals.{beyondSizes}
 use Rattle.sheet.specs.Sizes.{stepPlaces}
+use Rattle.sheet.specs.Codes.{fillTag}
+use Rattle.sheet.specs.Steps.{stepOk}
 use Rattle.sheet.specs.declared.Sheet.{Sheet}
 use Rattle.fields.specs.Fields.{fieldAt}
 use Rattle.fields.specs.declared.Cursor.{Cursor}
-use Rattle.fields.specs.declared.Cursor.{Cursor}
 use Rattle.fields.specs.declared.Field.the-variants.{Whole}
 use Rattle.fields.specs.Laws.Bounds.{FieldIn, field-in}
+use Rattle.contents.specs.Contents.{stepAt}
 use Rattle.contents.specs.Laws.Heads.{layout-room, view-room}
-use Rattle.sheet_reader.specs.Reading.{givenOf, withField, readFrom, readSheet}
-use Rattle.sheet_reader.specs.Laws.Taken.{Took, took, took-edition, took-layout, took-view, took-step, StepTaken, layout-place, view-place, step-place}
+use Rattle.sheet_reader.specs.Reading.{givenOf, fieldRefusal, withField, readFrom, readSheet}
+use Rattle.sheet_reader.specs.Heads.{headRefusal}
+use Rattle.sheet_reader.specs.Laws.Taken.{Took, took, took-edition, took-layout, took-view, layout-place, view-place, step-place}
+use Rattle.sheet_reader.specs.Laws.Heads.{head-refused, head-whole, StepHead, head-step, content-decides}
 use Rattle.sheet_reader.specs.Laws.Turns.{turn-on, turn-over, turn-end, turn-short, turn-refused, turn-next, with-edition, with-layout, with-view, with-step}
 use Rattle.sheet_reader.proofs.read_sheet.Statement.{statement}
 use Rattle.sheet_reader.proofs.read_sheet.Tie as tie
@@ -74,6 +81,9 @@ module _ (c : tie.After-known-told Inv-loop μ-loop) where
   inside : here < length s
   inside = c .before .before .before .before .if1 .taken
 
+  abbrev refusal : ℕ
+  refusal = fieldRefusal s tag start len (givenOf sofar)
+
 field-requires : tie.Need-field-requires Inv-loop μ-loop
 field-requires c κs = search needs
 
@@ -105,20 +115,28 @@ returns-2 : tie.Need-returns-2 Inv-loop μ-loop
 returns-2 c =
     let k = c .before .before .before in
     let i = c .before .before .before .before .before .before .before .before .before .loop in
+    let e = c .before .before .field-refusal .ensures in
     c .refused-read2 .ensures
     ∙ sym
     (turn-over _ (i .c .at) _ (i .inv .1 .0) (omega (arith, i .inv, inside k))
-    (turn-refused _ _ (sofar k) (inside k) (the-field k) (c .before .before .field-refusal .ensures) (c .before .if2 .taken)))
+    (turn-refused _ _ (sofar k) (inside k) (the-field k) (e ∙ head-refused _ _ _ _ _ (rw e at (c .before .if2 .taken))) (c .before .if2 .taken)))
     ∙ i .inv .1 .1 .1
 
--- a field that is not refused
+-- a field that is not refused by its head
 module _ (c : tie.Else2 Inv-loop μ-loop) where
-  its-way : Took (s (c .before .before)) (start (c .before .before)) (len (c .before .before)) (givenOf (sofar (c .before .before))) (tag (c .before .before))
-  its-way = took _ _ _ _ _ (sym (c .before .field-refusal .ensures) ∙ omega (arith, c .if2 .left))
+  headed : headRefusal (s (c .before .before)) (tag (c .before .before)) (start (c .before .before)) (len (c .before .before)) (givenOf (sofar (c .before .before))) ≡ 0
+  headed = sym (c .before .field-refusal .ensures) ∙ omega (arith, c .if2 .left)
+
+  -- below the steps' tags it is not refused
+  free : tag (c .before .before) < fillTag → refusal (c .before .before) ≡ 0
+  free h = sym (head-whole _ _ _ _ _ h) ∙ headed
+
+  its-way : tag (c .before .before) < fillTag → Took (s (c .before .before)) (start (c .before .before)) (len (c .before .before)) (givenOf (sofar (c .before .before))) (tag (c .before .before))
+  its-way h = took _ _ _ _ _ (free h)
 
   -- reading goes on past it, with what it adds
-  goes-on : (sh : Sheet) → sh ≡ withField (s (c .before .before)) (tag (c .before .before)) (start (c .before .before)) (sofar (c .before .before)) → Left (s (c .before .before)) (next (c .before .before) .at) sh
-  goes-on sh e =
+  goes-on : refusal (c .before .before) ≡ 0 → (sh : Sheet) → sh ≡ withField (s (c .before .before)) (tag (c .before .before)) (start (c .before .before)) (sofar (c .before .before)) → Left (s (c .before .before)) (next (c .before .before) .at) sh
+  goes-on r sh e =
       let k = c .before .before in
       let i = c .before .before .before .before .before .before .before .before .loop in
       let p = its-place k in (
@@ -129,7 +147,7 @@ module _ (c : tie.Else2 Inv-loop μ-loop) where
             omega (arith, p, i .inv),
             sym
                 (turn-on _ (i .c .at) _ (i .inv .1 .0) (omega (arith, i .inv, inside k))
-                (turn-next _ _ (sofar k) (inside k) (the-field k) (c .before .field-refusal .ensures) (c .if2 .left) e))
+                (turn-next _ _ (sofar k) (inside k) (the-field k) (sym r) (omega arith) e))
                 ∙ i .inv .1 .1 .1,
           ),
         ),
@@ -140,74 +158,119 @@ module _ (c : tie.Else2 Inv-loop μ-loop) where
 
 shared-slice-read-edition : tie.Need-shared-slice-read-edition Inv-loop μ-loop
 shared-slice-read-edition c =
-    let t = took-edition _ _ _ _ (its-way (c .before .before)) (c .before .if3 .taken) in
+    let e = c .before .if3 .taken in
+    let t = took-edition _ _ _ _ (its-way (c .before .before) (omega (arith, e))) e in
     omega (arith, its-place (c .before .before .before .before), t .one)
 
 loop-less : tie.Need-loop-less Inv-loop μ-loop
 loop-less c = further (c .before .before)
 
 loop-again : tie.Need-loop-again Inv-loop μ-loop
-loop-again c = goes-on (c .before .before) _ (with-edition _ _ _ (sofar (c .before .before .before .before)) (c .before .if3 .taken))
+loop-again c =
+    let e = c .before .if3 .taken in
+    let k = c .before .before in
+    goes-on k (free k (omega (arith, e))) _ (with-edition _ _ _ (sofar (k .before .before)) e)
 
 layout-at-requires : tie.Need-layout-at-requires Inv-loop μ-loop
 layout-at-requires c κs =
-    let t = took-layout _ _ _ _ (its-way (c .before .before)) (c .if4 .taken) in
+    let e = c .if4 .taken in
+    let t = took-layout _ _ _ _ (its-way (c .before .before) (omega (arith, e))) e in
     (layout-room _ (t .long), its-place (c .before .before .before .before) .within, t .head)
 
 more-layout-requires : tie.Need-more-layout-requires Inv-loop μ-loop
-more-layout-requires c κs = layout-place _ (took-layout _ _ _ _ (its-way (c .before .before .before)) (c .before .if4 .taken) .may)
+more-layout-requires c κs =
+    let e = c .before .if4 .taken in
+    layout-place _ (took-layout _ _ _ _ (its-way (c .before .before .before) (omega (arith, e))) e .may)
 
 loop-less-2 : tie.Need-loop-less-2 Inv-loop μ-loop
 loop-less-2 c = further (c .before .before .before .before)
 
 loop-again-2 : tie.Need-loop-again-2 Inv-loop μ-loop
-loop-again-2 c = goes-on (c .before .before .before .before) _ (with-layout _ _ _ (sofar (c .before .before .before .before .before .before)) (c .before .before .if4 .taken) (c .before .layout-at .ensures) (c .more-layout .ensures))
+loop-again-2 c =
+    let e = c .before .before .if4 .taken in
+    let k = c .before .before .before .before in
+    goes-on k (free k (omega (arith, e))) _ (with-layout _ _ _ (sofar (k .before .before)) e (c .before .layout-at .ensures) (c .more-layout .ensures))
 
 view-at-requires : tie.Need-view-at-requires Inv-loop μ-loop
 view-at-requires c κs =
-    let t = took-view _ _ _ _ (its-way (c .before .before .before)) (c .if5 .taken) in
+    let e = c .if5 .taken in
+    let t = took-view _ _ _ _ (its-way (c .before .before .before) (omega (arith, e))) e in
     (view-room _ (t .long), its-place (c .before .before .before .before .before) .within, t .head)
 
 more-view-requires : tie.Need-more-view-requires Inv-loop μ-loop
-more-view-requires c κs = view-place _ (took-view _ _ _ _ (its-way (c .before .before .before .before)) (c .before .if5 .taken) .may)
+more-view-requires c κs =
+    let e = c .before .if5 .taken in
+    view-place _ (took-view _ _ _ _ (its-way (c .before .before .before .before) (omega (arith, e))) e .may)
 
 loop-less-3 : tie.Need-loop-less-3 Inv-loop μ-loop
 loop-less-3 c = further (c .before .before .before .before .before)
 
 loop-again-3 : tie.Need-loop-again-3 Inv-loop μ-loop
-loop-again-3 c = goes-on (c .before .before .before .before .before) _ (with-view _ _ _ (sofar (c .before .before .before .before .before .before .before)) (c .before .before .if5 .taken) (c .before .view-at .ensures) (c .more-view .ensures))
+loop-again-3 c =
+    let e = c .before .before .if5 .taken in
+    let k = c .before .before .before .before .before in
+    goes-on k (free k (omega (arith, e))) _ (with-view _ _ _ (sofar (k .before .before)) e (c .before .view-at .ensures) (c .more-view .ensures))
 
--- a field that is none of these is a step
+-- a field that is none of these is a step, and its content decides
 module _ (c : tie.Else5 Inv-loop μ-loop) where
-  step-way : StepTaken (s (c .before .before .before .before .before)) (start (c .before .before .before .before .before)) (len (c .before .before .before .before .before)) (givenOf (sofar (c .before .before .before .before .before))) (tag (c .before .before .before .before .before))
-  step-way = took-step _ _ _ _ (its-way (c .before .before .before)) (c .before .before .if3 .left) (c .before .if4 .left) (c .if5 .left)
+  abbrev field : tie.After-known-told Inv-loop μ-loop
+  field = c .before .before .before .before .before
+
+  its-head : StepHead (s field) (tag field) (start field) (len field) (givenOf (sofar field))
+  its-head = head-step _ _ _ _ _ (headed (c .before .before .before)) (c .before .before .if3 .left) (c .before .if4 .left) (c .if5 .left)
 
   step-room : c .before .before .before .before .before .before .before .before .before .before .before .loop .count < stepPlaces
-  step-room = step-place _ (step-way .may)
+  step-room = step-place _ (its-head .may)
+
+  decided : refusal field ≡ pick (stepOk (sofar field .edition) (sofar field .tensors .layouts) (sofar field .tensors .views) (stepAt (s field) (tag field) (start field))) 0 beyondSizes
+  decided = content-decides _ _ _ _ _ its-head
 
 step-at-requires : tie.Need-step-at-requires Inv-loop μ-loop
-step-at-requires c κs = omega (arith, its-place (c .before .before .before .before .before), step-way c .long)
+step-at-requires c κs = omega (arith, its-place (field c), its-head c .long)
+
+step-ok-requires : tie.Need-step-ok-requires Inv-loop μ-loop
+step-ok-requires c κs = search needs
+
+refused-read-requires-3 : tie.Need-refused-read-requires-3 Inv-loop μ-loop
+refused-read-requires-3 c κs = search needs
+
+returns-3 : tie.Need-returns-3 Inv-loop μ-loop
+returns-3 c =
+    let d = c .before .before .before .before in
+    let k = field d in
+    let i = k .before .before .before .before .before .before .loop in
+    let bad = rw (c .before .before .before .step-at .ensures) at (went-not (c .before .before .step-ok .ensures) (c .before .if6 .taken)) in
+    c .refused-read3 .ensures
+    ∙ sym
+    (turn-over _ (i .c .at) _ (i .inv .1 .0) (omega (arith, i .inv, inside k))
+    (turn-refused _ _ (sofar k) (inside k) (the-field k) (left 0 bad refl ∙ sym (decided d)) (omega arith)))
+    ∙ i .inv .1 .1 .1
 
 mul-step : tie.Need-mul-step Inv-loop μ-loop
-mul-step c = omega (arith, step-room (c .before))
+mul-step c = omega (arith, step-room (c .before .before .before))
 
 array-set-from-step : tie.Need-array-set-from-step Inv-loop μ-loop
-array-set-from-step c = step-room (c .before)
+array-set-from-step c = step-room (c .before .before .before)
 
 add-count : tie.Need-add-count Inv-loop μ-loop
-add-count c = omega (arith, step-room (c .before))
+add-count c = omega (arith, step-room (c .before .before .before))
 
 loop-less-4 : tie.Need-loop-less-4 Inv-loop μ-loop
-loop-less-4 c = further (c .before .before .before .before)
+loop-less-4 c = further (c .before .before .before .before .before .before)
 
 loop-again-4 : tie.Need-loop-again-4 Inv-loop μ-loop
-loop-again-4 c = goes-on (c .before .before .before .before) _ (with-step _ _ _ (sofar (c .before .before .before .before .before .before)) (c .before .before .before .if3 .left) (c .before .before .if4 .left) (c .before .if5 .left) (c .step-at .ensures))
+loop-again-4 c =
+    let d = c .before .before .before in
+    let found = c .before .before .step-at .ensures in
+    let good = rw found at (went-past (c .before .step-ok .ensures) (c .if6 .left)) in
+    goes-on (d .before .before .before) (decided d ∙ sym (taken beyondSizes good refl)) _
+    (with-step _ _ _ (sofar (field d)) (d .before .before .if3 .left) (d .before .if4 .left) (d .if5 .left) found)
 
 end-read-requires : tie.Need-end-read-requires Inv-loop μ-loop
 end-read-requires c κs = search needs
 
-returns-3 : tie.Need-returns-3 Inv-loop μ-loop
-returns-3 c =
+returns-4 : tie.Need-returns-4 Inv-loop μ-loop
+returns-4 c =
     let i = c .before .before .before .loop in
     c .end-read .ensures
     ∙ sym (turn-over _ (i .c .at) _ (i .inv .1 .0) (omega (arith, i .inv)) (turn-end _ _ _ (c .before .if1 .left)))
@@ -241,10 +304,13 @@ read-sheet-spec =
     loop-less-3
     loop-again-3
     step-at-requires
+    step-ok-requires
+    refused-read-requires-3
+    returns-3
     mul-step
     array-set-from-step
     add-count
     loop-less-4
     loop-again-4
     end-read-requires
-    returns-3)
+    returns-4)

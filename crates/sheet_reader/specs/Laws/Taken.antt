@@ -21,7 +21,7 @@ use Rattle.sheet_reader.specs.Reading.{layoutMayCome, viewMayCome, stepM
 use Rattle.sheet_reader.specs.declared.Given.{Given}
 
 -- what is not refused went the way without a refusal
-taken-way : (t : Bool) (x n : ℕ) → 0 < n → pick t x n ≡ 0 → (t ≡ true) × (x ≡ 0)
+pub taken-way : (t : Bool) (x n : ℕ) → 0 < n → pick t x n ≡ 0 → (t ≡ true) × (x ≡ 0)
 unfolding pick
 taken-way true x n h e = (refl, e)
 taken-way false x n h e = absurd (omega arith)
