@@ -4,7 +4,7 @@ use mathlib.Core.Bool.{Bool, true, false, not}
 use lib.Dec.{eqb, ltb, leb}
 use Rattle.numbers.specs.Choice.{pick, both}
 use Rattle.numbers.specs.All.{all}
-use Rattle.sheet.specs.Layouts.{theDimension}
+use Rattle.tensor_ranges.specs.Layouts.{theDimension}
 use Rattle.sheet.specs.declared.Layout.{Layout}
 use Rattle.outcomes.specs.declared.Outcome.{Outcome}
 use Rattle.outcomes.specs.declared.Outcome.the-variants.{Skipped, Filled, Discarded, Placed}

@@ -4,7 +4,7 @@ ghost use mathlib.Core.Bool.{true};
 ghost use Prim.Native.Nat.{_≤_, _<_};
 ghost use lib.ListN.{length};
 ghost use Rattle.refusals.specs.Refusals.{stopAt};
-ghost use Rattle.sheet.specs.Layouts.{theDimension, layoutOk};
+ghost use Rattle.tensor_ranges.specs.Layouts.{theDimension, layoutOk};
 ghost use Rattle.addressing.specs.Rules.{elementsOf};
 ghost use Rattle.addressing.specs.Valid.{SizedAccess, Planned};
 ghost use Rattle.sheet.specs.Sizes.{rankPlaces, matrixPlaces};

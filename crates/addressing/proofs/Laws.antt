@@ -14,8 +14,8 @@ use borrow.Author.Tests.{lt-ltb, le-ltb, le-leb, lt-leb, ltb-false, leb-true, le
 use Rattle.refusals.specs.Refusals.{indexTooLarge}
 use Rattle.numbers.specs.Choice.{pick}
 use Rattle.numbers.specs.Laws.Choice.{pick-case}
-use Rattle.sheet.specs.Laws.Facts.{InSize, layout-span, view-most, view-size}
-use Rattle.sheet.specs.Views.{theViewDimension}
+use Rattle.tensor_ranges.specs.Laws.Facts.{InSize, layout-span, view-most, view-size}
+use Rattle.tensor_ranges.specs.Views.{theViewDimension}
 use Rattle.addressing.specs.Valid.{ValidAccess, Planned}
 use Rattle.numbers.specs.Remainders.{remainder}
 use Rattle.numbers.specs.Laws.Remainders.{remainder-lt}
@@ -26,7 +26,7 @@ use Rattle.sheet.specs.declared.Clip.{Clip}
 use Rattle.sheet.specs.declared.Dimension.{Dimension}
 use Rattle.sheet.specs.declared.Layout.{Layout}
 use Rattle.sheet.specs.declared.View.{View}
-use Rattle.sheet.specs.Layouts.{theDimension}
+use Rattle.tensor_ranges.specs.Layouts.{theDimension}
 use Rattle.addressing.specs.declared.Access.{Access}
 use Rattle.addressing.specs.declared.Clamped.{Clamped}
 use Rattle.addressing.specs.declared.Clamped.the-variants.{Refused, Discarded, Filled, At}

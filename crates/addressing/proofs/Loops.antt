@@ -12,8 +12,8 @@ use lib.Seq.{getD-set-same, getD-set-other}
 use Rattle.numbers.specs.Choice.{pick}
 use Rattle.numbers.specs.Laws.Choice.{pick-case, by-place}
 use Rattle.numbers.specs.Laws.Places.{none-all}
-use Rattle.sheet.specs.Laws.Facts.{InSize, layout-most}
-use Rattle.sheet.specs.Layouts.{theDimension, layoutOk}
+use Rattle.tensor_ranges.specs.Laws.Facts.{InSize, layout-most}
+use Rattle.tensor_ranges.specs.Layouts.{theDimension, layoutOk}
 use Rattle.sheet.specs.declared.ClampMode.{ClampMode}
 use Rattle.sheet.specs.declared.ClampMode.the-variants.{Undefined, Constant, ClampToEdge, Repeat, MirrorRepeat}
 use Rattle.sheet.specs.declared.Dimension.{Dimension}

@@ -10,8 +10,8 @@ use Rattle.numbers.specs.Remainders.{remainder}
 use Rattle.kinds.specs.Widths.{s16}
 use Rattle.kinds.specs.Values.{value}
 use Rattle.refusals.specs.Refusals.{indexTooLarge, outsideUndefined, outsideMemory}
-use Rattle.sheet.specs.Layouts.{theDimension}
-use Rattle.sheet.specs.Views.{theViewDimension}
+use Rattle.tensor_ranges.specs.Layouts.{theDimension}
+use Rattle.tensor_ranges.specs.Views.{theViewDimension}
 use Rattle.sheet.specs.declared.ClampMode.{ClampMode}
 use Rattle.sheet.specs.declared.ClampMode.the-variants.{Undefined, Constant, ClampToEdge, Repeat, MirrorRepeat}
 use Rattle.sheet.specs.declared.Clip.{Clip}

@@ -3,8 +3,8 @@ use Prim.Native.Nat.{ℕ, _^_, _<_, _≤_}
 use mathlib.Core.Path.{_≡_}
 use mathlib.Core.Bool.{true, false}
 use lib.ListN.{getD}
-use Rattle.sheet.specs.Layouts.{layoutOk}
-use Rattle.sheet.specs.Views.{viewOk}
+use Rattle.tensor_ranges.specs.Layouts.{layoutOk}
+use Rattle.tensor_ranges.specs.Views.{viewOk}
 use Rattle.addressing.specs.declared.Access.{Access}
 use Rattle.addressing.specs.declared.Plan.{Plan}
 use Rattle.addressing.specs.declared.Clamped.{Clamped}

@@ -2,8 +2,8 @@
 ghost use mathlib.Core.Path.{_≡_};
 ghost use mathlib.Core.Bool.{true};
 ghost use Prim.Native.Nat.{_*_, _/_, _^_, _<_};
-ghost use Rattle.sheet.specs.Layouts.{layoutOk};
-ghost use Rattle.sheet.specs.Laws.Facts.{InSize};
+ghost use Rattle.tensor_ranges.specs.Layouts.{layoutOk};
+ghost use Rattle.tensor_ranges.specs.Laws.Facts.{InSize};
 ghost use Rattle.sheet.specs.Sizes.{rankPlaces, sizeLimit};
 ghost use Rattle.addressing.specs.Plans.{dimensionNumbers, dimensionPut, layoutNumbers, dimensionIn};
 ghost use Rattle.addressing.specs.Rules.{spanCoordinates, part, tensorIndex};

@@ -8,8 +8,8 @@ use borrow.Author.Tests.{le-leb, lt-leb, eq-eqb, ne-eqb}
 use lib.Dec.{eqb}
 use Rattle.numbers.specs.Choice.{pick}
 use Rattle.sheet.specs.Sizes.{memoryLimit}
-use Rattle.sheet.specs.Steps.{theStep}
-use Rattle.sheet.specs.Sheets.{emptySheet}
+use Rattle.sheet_ranges.specs.Steps.{theStep}
+use Rattle.sheet_ranges.specs.Sheets.{emptySheet}
 use Rattle.refusals.specs.declared.Refusal.{Refusal}
 use Rattle.sheet.specs.declared.Sheet.{Sheet}
 use Rattle.sheet_reader.specs.Reading.{readSheet}

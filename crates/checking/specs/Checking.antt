@@ -4,8 +4,8 @@ use mathlib.Core.List.{List}
 use lib.Dec.{eqb, leb}
 use Rattle.numbers.specs.Choice.{pick}
 use Rattle.sheet.specs.Sizes.{memoryLimit}
-use Rattle.sheet.specs.Steps.{theStep}
-use Rattle.sheet.specs.Sheets.{emptySheet}
+use Rattle.sheet_ranges.specs.Steps.{theStep}
+use Rattle.sheet_ranges.specs.Sheets.{emptySheet}
 use Rattle.sheet.specs.declared.Sheet.{Sheet}
 use Rattle.refusals.specs.Refusals.{memoryTooLarge, refusalAt, notRefused}
 use Rattle.refusals.specs.declared.Refusal.{Refusal}

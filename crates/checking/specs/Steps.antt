@@ -5,8 +5,8 @@ use mathlib.Core.Bool.{Bool, true, false}
 use Rattle.numbers.specs.Choice.{pick}
 use Rattle.kinds.specs.Widths.{bytesOf}
 use Rattle.refusals.specs.Refusals.{emptyRegister, stopAt}
-use Rattle.sheet.specs.Layouts.{theLayout}
-use Rattle.sheet.specs.Views.{theView, noView}
+use Rattle.tensor_ranges.specs.Layouts.{theLayout}
+use Rattle.tensor_ranges.specs.Views.{theView, noView}
 use Rattle.sheet.specs.declared.View.{View}
 use Rattle.sheet.specs.declared.Object.{Object}
 use Rattle.sheet.specs.declared.Object.the-variants.{Kept, Register}

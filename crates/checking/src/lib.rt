@@ -9,9 +9,9 @@ use refusals::Refusal;
 use refusals::Stop;
 use registers::MatrixType;
 use sheet::Sheet;
-use sheet::sheets;
 use sheet::sizes::MEMORY_LIMIT;
 use sheet::sizes::REGISTERS;
+use sheet_ranges::sheets;
 
 // What the check of a step tells: its refusal, or the types that it leaves and how many of its elements have a byte.
 pub struct StepCheck {

@@ -3,8 +3,8 @@ ghost use mathlib.Core.Path.{_≡_};
 ghost use mathlib.Core.Bool.{true, false};
 ghost use Prim.Native.Nat.{_≤_};
 ghost use Rattle.sheet.specs.Sizes.{memoryLimit};
-ghost use Rattle.sheet.specs.Steps.{viewingOk, windowOk};
-ghost use Rattle.sheet.specs.Laws.Within.{TensorsWithin};
+ghost use Rattle.sheet_ranges.specs.Steps.{viewingOk, windowOk};
+ghost use Rattle.sheet_ranges.specs.Laws.Within.{TensorsWithin};
 ghost use Rattle.registers.specs.Types.{isEmpty};
 ghost use Rattle.registers.specs.Sized.{SizedType};
 ghost use Rattle.addressing.specs.Plans.{planned};
@@ -18,7 +18,7 @@ use sheet::Tensors;
 use sheet::View;
 use sheet::Viewing;
 use sheet::Window;
-use sheet::views;
+use tensor_ranges::views;
 
 fn is_viewed(view: Viewing) -> bool
     ensures { λ r. ⌜ r ≡ isViewed view ⌝ }

@@ -5,7 +5,7 @@ ghost use Prim.Native.Nat.{ℕ, _+_, _*_, _<_, _≤_, _^_};
 ghost use lib.ListN.{length};
 ghost use Rattle.sheet.specs.Sizes.{matrixPlaces, recordPlaces};
 ghost use Rattle.registers.specs.Sized.{Sized, SizedType};
-ghost use Rattle.sheet.specs.Laws.Within.{Within};
+ghost use Rattle.sheet_ranges.specs.Laws.Within.{Within};
 ghost use Rattle.records.specs.Records.{recordLength};
 ghost use Rattle.records.specs.Ranges.{Bytes, GoodInRange};
 ghost use Rattle.records.specs.declared.Decoded.the-variants.{Good};

@@ -12,8 +12,8 @@ use lib.Seq.{sets, sets-eq, take-at, take-all, length-take-le, getD-take}
 use Rattle.numbers.specs.Choice.{pick}
 use Rattle.numbers.specs.Laws.Choice.{by-test, by-order}
 use Rattle.numbers.specs.Bytes.{AreBytes}
-use Rattle.sheet.specs.Sheets.{writable}
-use Rattle.sheet.specs.Laws.Within.{within, within-writable}
+use Rattle.sheet_ranges.specs.Sheets.{writable}
+use Rattle.sheet_ranges.specs.Laws.Within.{within, within-writable}
 use Rattle.sheet.specs.declared.Sheet.{Sheet}
 use Rattle.sheet_reader.specs.Reading.{refusedRead, acceptedRead, readSheet}
 use Rattle.sheet_reader.specs.declared.ReadAnswer.{ReadAnswer}

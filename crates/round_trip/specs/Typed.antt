@@ -4,9 +4,9 @@ use Prim.Native.Nat.{ℕ, _<_}
 use mathlib.Core.Path.{_≡_}
 use lib.ListN.{length}
 use Rattle.sheet.specs.Sizes.{rankPlaces, layoutPlaces, viewPlaces, stepPlaces}
-use Rattle.sheet.specs.Layouts.{theDimension, theLayout}
-use Rattle.sheet.specs.Views.{theViewDimension, theView}
-use Rattle.sheet.specs.Steps.{theStep}
+use Rattle.tensor_ranges.specs.Layouts.{theDimension, theLayout}
+use Rattle.tensor_ranges.specs.Views.{theViewDimension, theView}
+use Rattle.sheet_ranges.specs.Steps.{theStep}
 use Rattle.sheet.specs.declared.Dimension.{Dimension}
 use Rattle.sheet.specs.declared.Layout.{Layout}
 use Rattle.sheet.specs.declared.Clip.{Clip}

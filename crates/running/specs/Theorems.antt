@@ -13,7 +13,7 @@ use Rattle.numbers.specs.Laws.Choice.{pick-case}
 use Rattle.numbers.specs.Bytes.{AreBytes}
 use Rattle.kinds.specs.Widths.{bytesOf}
 use Rattle.sheet.specs.Sizes.{memoryLimit}
-use Rattle.sheet.specs.Laws.Within.{Within}
+use Rattle.sheet_ranges.specs.Laws.Within.{Within}
 use Rattle.sheet.specs.declared.Sheet.{Sheet}
 use Rattle.refusals.specs.declared.Refusal.{Refusal}
 use Rattle.memory.specs.Laws.Elements.{with-outside}

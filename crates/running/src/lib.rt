@@ -6,7 +6,7 @@ ghost use mathlib.Core.Bool.{true};
 ghost use Prim.Native.Nat.{ℕ, _+_, _*_, _<_, _≤_, _^_};
 ghost use lib.ListN.{length};
 ghost use Rattle.sheet.specs.Sizes.{recordPlaces};
-ghost use Rattle.sheet.specs.Laws.Within.{Within};
+ghost use Rattle.sheet_ranges.specs.Laws.Within.{Within};
 ghost use Rattle.sheet.specs.declared.Tensors.{Tensors};
 ghost use Rattle.registers.specs.Sized.{Sized};
 ghost use Rattle.counts.specs.declared.Counts.{Counts};

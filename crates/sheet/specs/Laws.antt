@@ -1,4 +1,2 @@
 -- What is proved of the definitions.
-pub mod Facts
 pub mod Editions
-pub mod Within

@@ -1,11 +1,7 @@
 // The model of a sheet: what reading gives and writing takes.
 pub mod codes;
 pub mod editions;
-pub mod layouts;
-pub mod sheets;
 pub mod sizes;
-pub mod steps;
-pub mod views;
 
 use sizes::LAYOUTS;
 use sizes::RANK;

@@ -5,8 +5,8 @@ use lib.ListN.{length, getD}
 use Rattle.numbers.specs.Little.{u16Bytes, u32Bytes}
 use Rattle.numbers.specs.Lists.{each}
 use Rattle.sheet.specs.Codes.{editionTag, layoutTag, viewTag, clampCode, flagCode}
-use Rattle.sheet.specs.Layouts.{theDimension}
-use Rattle.sheet.specs.Views.{theViewDimension, sizedRank}
+use Rattle.tensor_ranges.specs.Layouts.{theDimension}
+use Rattle.tensor_ranges.specs.Views.{theViewDimension, sizedRank}
 use Rattle.sheet.specs.declared.Dimension.{Dimension}
 use Rattle.sheet.specs.declared.Layout.{Layout}
 use Rattle.sheet.specs.declared.ViewDimension.{ViewDimension}

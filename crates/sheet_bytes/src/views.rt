@@ -13,7 +13,7 @@ use sheet::View;
 use sheet::ViewDimension;
 use sheet::codes;
 use sheet::sizes::RANK;
-use sheet::views;
+use tensor_ranges::views;
 
 // Dimension count and has-dimensions.
 const START: usize = 2;

@@ -6,7 +6,7 @@ use Rattle.numbers.specs.Choice.{pick, between}
 use Rattle.refusals.specs.Refusals.{unknownTag, outOfOrder, wrongLength}
 use Rattle.sheet.specs.Editions.{tagKnown}
 use Rattle.sheet.specs.Codes.{fillTag, lastStepTag}
-use Rattle.contents.specs.Contents.{stepLength}
+use Rattle.step_contents.specs.Contents.{stepLength}
 use Rattle.sheet_reader.specs.Reading.{stepMayCome, fieldRefusal}
 use Rattle.sheet_reader.specs.declared.Given.{Given}
 

@@ -9,10 +9,10 @@ use Rattle.refusals.specs.Refusals.{cutShort, unknownTag, outOfOrder, wrongLeng
 use Rattle.sheet.specs.Sizes.{layoutPlaces, viewPlaces}
 use Rattle.sheet.specs.Editions.{editionOk, tagKnown, limits}
 use Rattle.sheet.specs.Codes.{editionTag, layoutTag, viewTag, fillTag, lastStepTag}
-use Rattle.sheet.specs.Layouts.{layoutOk}
-use Rattle.sheet.specs.Views.{viewOk}
-use Rattle.sheet.specs.Steps.{stepOk}
-use Rattle.sheet.specs.Sheets.{emptySheet}
+use Rattle.tensor_ranges.specs.Layouts.{layoutOk}
+use Rattle.tensor_ranges.specs.Views.{viewOk}
+use Rattle.sheet_ranges.specs.Steps.{stepOk}
+use Rattle.sheet_ranges.specs.Sheets.{emptySheet}
 use Rattle.sheet.specs.declared.Layout.{Layout}
 use Rattle.sheet.specs.declared.View.{View}
 use Rattle.sheet.specs.declared.Step.{Step}
@@ -21,7 +21,8 @@ use Rattle.sheet.specs.declared.Sheet.{Sheet}
 use Rattle.fields.specs.Fields.{fieldAt}
 use Rattle.fields.specs.declared.Field.{Field}
 use Rattle.fields.specs.declared.Field.the-variants.{Whole, Short}
-use Rattle.contents.specs.Contents.{layoutAt, layoutLengthOk, layoutHeadOk, viewAt, viewLengthOk, viewHeadOk, stepAt, stepLength}
+use Rattle.contents.specs.Contents.{layoutAt, layoutLengthOk, layoutHeadOk, viewAt, viewLengthOk, viewHeadOk}
+use Rattle.step_contents.specs.Contents.{stepAt, stepLength}
 use Rattle.sheet_reader.specs.declared.Given.{Given}
 use Rattle.sheet_reader.specs.declared.ReadAnswer.{ReadAnswer}
 

@@ -21,11 +21,11 @@ use sheet::Tensors;
 use sheet::View;
 use sheet::codes;
 use sheet::editions;
-use sheet::layouts;
-use sheet::sheets;
 use sheet::sizes;
-use sheet::steps;
-use sheet::views;
+use sheet_ranges::sheets;
+use sheet_ranges::steps;
+use tensor_ranges::layouts;
+use tensor_ranges::views;
 
 // What a sheet has so far: its edition, 0 for none, and how many layouts, views and steps.
 pub struct Given {
@@ -146,7 +146,7 @@ fn step_head_refusal(tag: u8, len: usize, given: Given) -> u8
     if !step_may_come(given) {
         return OUT_OF_ORDER;
     }
-    if len != contents::step_length(edition, tag) {
+    if len != step_contents::step_length(edition, tag) {
         return WRONG_LENGTH;
     }
     0
@@ -255,7 +255,7 @@ pub fn read_sheet(s: &[u8]) -> ReadAnswer
             tensors = more;
             continue;
         }
-        let found = contents::step_at(s, edition, tag, start);
+        let found = step_contents::step_at(s, edition, tag, start);
         if !steps::step_ok(edition, given.layouts, given.views, found) {
             return refused_read(BEYOND_SIZES, at);
         }

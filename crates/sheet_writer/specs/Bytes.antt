@@ -2,9 +2,9 @@
 use Prim.Native.Nat.{ℕ}
 use mathlib.Core.List.{List, _++_}
 use Rattle.numbers.specs.Lists.{each}
-use Rattle.sheet.specs.Layouts.{theLayout}
-use Rattle.sheet.specs.Views.{theView}
-use Rattle.sheet.specs.Steps.{theStep}
+use Rattle.tensor_ranges.specs.Layouts.{theLayout}
+use Rattle.tensor_ranges.specs.Views.{theView}
+use Rattle.sheet_ranges.specs.Steps.{theStep}
 use Rattle.sheet.specs.declared.Layout.{Layout}
 use Rattle.sheet.specs.declared.View.{View}
 use Rattle.sheet.specs.declared.Cell.{Cell}

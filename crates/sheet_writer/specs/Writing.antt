@@ -6,7 +6,7 @@ use lib.Seq.{sets}
 use lib.Dec.{leb}
 use Rattle.numbers.specs.Choice.{pick}
 use Rattle.refusals.specs.Refusals.{beyondSizes, roomTooShort, refusalAt}
-use Rattle.sheet.specs.Sheets.{writable}
+use Rattle.sheet_ranges.specs.Sheets.{writable}
 use Rattle.sheet.specs.declared.Sheet.{Sheet}
 use Rattle.sheet_writer.specs.Bytes.{sheetBytes}
 use Rattle.sheet_writer.specs.declared.WriteAnswer.{WriteAnswer}

@@ -4,7 +4,7 @@ ghost use mathlib.Core.Bool.{true};
 ghost use Prim.Native.Nat.{_*_, _≤_};
 ghost use lib.ListN.{length};
 ghost use Rattle.sheet.specs.Sizes.{layoutPlaces, viewPlaces, stepPlaces};
-ghost use Rattle.sheet.specs.Sheets.{writable};
+ghost use Rattle.sheet_ranges.specs.Sheets.{writable};
 ghost use Rattle.sheet_writer.specs.Bytes.{layoutsBytes, viewsBytes, stepsBytes, sheetBytes};
 use sheet::Cell;
 use sheet::Layout;

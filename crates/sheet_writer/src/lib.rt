@@ -5,8 +5,8 @@ ghost use Prim.Native.Nat.{_+_, _≤_};
 ghost use lib.ListN.{length};
 ghost use lib.Seq.{sets};
 ghost use Rattle.sheet.specs.Sizes.{layoutPlaces, viewPlaces, stepPlaces};
-ghost use Rattle.sheet.specs.Sheets.{writable};
-ghost use Rattle.sheet.specs.Laws.Within.{LayoutsHeld, ViewsHeld};
+ghost use Rattle.sheet_ranges.specs.Sheets.{writable};
+ghost use Rattle.sheet_ranges.specs.Laws.Within.{LayoutsHeld, ViewsHeld};
 ghost use Rattle.sheet_writer.specs.Bytes.{layoutsBytes, viewsBytes, stepsBytes, sheetBytes};
 ghost use Rattle.sheet_writer.specs.Writing.{writeAnswer, written, writtenRoom};
 use refusals::Refusal;
@@ -14,13 +14,13 @@ use sheet::Cell;
 use sheet::Layout;
 use sheet::Sheet;
 use sheet::View;
-use sheet::sheets;
 use sheet::sizes::LAYOUTS;
 use sheet::sizes::STEPS;
 use sheet::sizes::VIEWS;
 use sheet_bytes::fields;
 use sheet_bytes::layouts;
 use sheet_bytes::views;
+use sheet_ranges::sheets;
 
 mod lengths;
 

@@ -15,12 +15,13 @@ use Rattle.refusals.specs.declared.Refusal.{Refusal}
 use Rattle.sheet.specs.Sizes
 use Rattle.sheet.specs.Editions
 use Rattle.sheet.specs.Codes
-use Rattle.sheet.specs.Layouts
-use Rattle.sheet.specs.Views
-use Rattle.sheet.specs.Steps as model
-use Rattle.sheet.specs.Sheets
+use Rattle.tensor_ranges.specs.Layouts
+use Rattle.tensor_ranges.specs.Views
+use Rattle.sheet_ranges.specs.Steps as model
+use Rattle.sheet_ranges.specs.Sheets
 use Rattle.fields.specs.Fields
 use Rattle.contents.specs.Contents
+use Rattle.step_contents.specs.Contents as stepContents
 use Rattle.sheet_reader.specs.Reading
 use Rattle.memory.specs.Elements.{elementAt, withElement}
 use Rattle.registers.specs.Registers.{emptyRegisters, elementOf}
@@ -203,5 +204,5 @@ strips =
 
 -- each strip gives what is wanted
 pub strips-right : map found strips ≡ map (λ (s : Strip). s .wanted) strips
-unfolding strips word long field edition layout dimension view fill load store Undefined Constant ClampToEdge Repeat MirrorRepeat countingFrom counting loadStrip storeStrip edged edgeStrip plain pick both between all line Little.u16At Little.u32At width bytesOf fits elementAt withElement Editions.tagKnown Editions.limits Editions.fillLength Sizes.offsetOk Codes.clampMode Codes.reduceMode Codes.combineOf Codes.objectOf Codes.viewingOf Layouts.noLayout Layouts.dimensionOk Layouts.dimensionUnused Layouts.dimensionAtOk Layouts.layoutOk Layouts.layoutUnused Views.noView Views.fresh Views.entryOk Views.viewDimensionUnused Views.viewDimensionAtOk Views.sizedRank Views.viewOk Views.clipUnused Views.viewUnused model.fillOk model.windowOk model.loadOk model.storeOk model.reduceOk model.transposeOk model.multiplyOk Sheets.noTensors Sheets.emptySheet Fields.fieldAt Contents.dimensionAt Contents.dimensionsAt Contents.layoutAt Contents.layoutLengthOk Contents.layoutHeadOk Contents.permutationAt Contents.viewDimensionAt Contents.viewDimensionsAt Contents.clipAt Contents.viewOf Contents.viewAt Contents.viewLengthOk Contents.viewHeadOk Contents.fillAt Contents.windowAt Contents.loadAt Contents.storeAt Contents.reduceAt Contents.transposeAt Contents.multiplyAt Contents.stepAt Contents.stepLength Reading.layoutMayCome Reading.viewMayCome Reading.stepMayCome Reading.editionRefusal Reading.layoutRefusal Reading.viewRefusal Reading.stepRefusal Reading.fieldRefusal Reading.withField Reading.refusedRead Reading.acceptedRead Reading.endRead Reading.turnField Reading.turn Reading.afterTurn Reading.readFrom Reading.readSheet emptyRegisters Combining.folded Rules.outsideClip Rules.outsideView Rules.indexed Rules.rowMajor Rules.viewSizes Rules.viewStrides Rules.coordinates Rules.viewCoordinates Rules.weighted Rules.viewIndex Rules.spanCoordinates value taken negative Rules.turnedBack Rules.mirrored Rules.outside Rules.clamped Rules.part Rules.tensorIndex Rules.addressed Rules.reached Rules.located accesses.elementOutcome accesses.otherRank accesses.blocksOne accesses.storeBlocked accesses.firstRefused accesses.meets accesses.clashFrom accesses.clashRefusal accesses.elementsRefusal accesses.accessRefusal accesses.placedCount accesses.checkedElements Grids.blank Grids.block Reducing.reduced shapes.reduceRefusal transferred checks.accessCheck checks.checkedStep steps.withObject steps.loadDone steps.storeDone steps.performedStep checkedFrom checked checkedSheet performedFrom performed carried carriedMemory
+unfolding strips word long field edition layout dimension view fill load store Undefined Constant ClampToEdge Repeat MirrorRepeat countingFrom counting loadStrip storeStrip edged edgeStrip plain pick both between all line Little.u16At Little.u32At width bytesOf fits elementAt withElement Editions.tagKnown Editions.limits Editions.fillLength Sizes.offsetOk Codes.clampMode Codes.reduceMode Codes.combineOf Codes.objectOf Codes.viewingOf Layouts.noLayout Layouts.dimensionOk Layouts.dimensionUnused Layouts.dimensionAtOk Layouts.layoutOk Layouts.layoutUnused Views.noView Views.fresh Views.entryOk Views.viewDimensionUnused Views.viewDimensionAtOk Views.sizedRank Views.viewOk Views.clipUnused Views.viewUnused model.fillOk model.windowOk model.loadOk model.storeOk model.reduceOk model.transposeOk model.multiplyOk Sheets.noTensors Sheets.emptySheet Fields.fieldAt Contents.dimensionAt Contents.dimensionsAt Contents.layoutAt Contents.layoutLengthOk Contents.layoutHeadOk Contents.permutationAt Contents.viewDimensionAt Contents.viewDimensionsAt Contents.clipAt Contents.viewOf Contents.viewAt Contents.viewLengthOk Contents.viewHeadOk stepContents.fillAt stepContents.windowAt stepContents.loadAt stepContents.storeAt stepContents.reduceAt stepContents.transposeAt stepContents.multiplyAt stepContents.stepAt stepContents.stepLength Reading.layoutMayCome Reading.viewMayCome Reading.stepMayCome Reading.editionRefusal Reading.layoutRefusal Reading.viewRefusal Reading.stepRefusal Reading.fieldRefusal Reading.withField Reading.refusedRead Reading.acceptedRead Reading.endRead Reading.turnField Reading.turn Reading.afterTurn Reading.readFrom Reading.readSheet emptyRegisters Combining.folded Rules.outsideClip Rules.outsideView Rules.indexed Rules.rowMajor Rules.viewSizes Rules.viewStrides Rules.coordinates Rules.viewCoordinates Rules.weighted Rules.viewIndex Rules.spanCoordinates value taken negative Rules.turnedBack Rules.mirrored Rules.outside Rules.clamped Rules.part Rules.tensorIndex Rules.addressed Rules.reached Rules.located accesses.elementOutcome accesses.otherRank accesses.blocksOne accesses.storeBlocked accesses.firstRefused accesses.meets accesses.clashFrom accesses.clashRefusal accesses.elementsRefusal accesses.accessRefusal accesses.placedCount accesses.checkedElements Grids.blank Grids.block Reducing.reduced shapes.reduceRefusal transferred checks.accessCheck checks.checkedStep steps.withObject steps.loadDone steps.storeDone steps.performedStep checkedFrom checked checkedSheet performedFrom performed carried carriedMemory
 strips-right = refl

@@ -17,8 +17,8 @@ use Rattle.outcomes.specs.declared.Outcome.{Outcome}
 use Rattle.outcomes.specs.declared.Outcome.the-variants.{Skipped, Filled, Discarded, Placed}
 use Rattle.refusals.specs.Refusals.{tapeTooLong, refusalAt, notRefused}
 use Rattle.sheet.specs.Sizes.{matrixPlaces, memoryLimit}
-use Rattle.sheet.specs.Steps.{theStep}
-use Rattle.sheet.specs.Laws.Within.{Within}
+use Rattle.sheet_ranges.specs.Steps.{theStep}
+use Rattle.sheet_ranges.specs.Laws.Within.{Within}
 use Rattle.sheet.specs.declared.Object.{Object}
 use Rattle.sheet.specs.declared.Object.the-variants.{Kept, Register}
 use Rattle.sheet.specs.declared.Window.{Window}

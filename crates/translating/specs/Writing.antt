@@ -9,8 +9,8 @@ use lib.ListN.{length, getD}
 use lib.Seq.{sets}
 use Rattle.outcomes.specs.declared.Outcome.{Outcome}
 use Rattle.sheet.specs.Sizes.{memoryLimit}
-use Rattle.sheet.specs.Steps.{windowOk, stepOk}
-use Rattle.sheet.specs.Laws.Within.{TensorsWithin}
+use Rattle.sheet_ranges.specs.Steps.{windowOk, stepOk}
+use Rattle.sheet_ranges.specs.Laws.Within.{TensorsWithin}
 use Rattle.sheet.specs.declared.Window.{Window}
 use Rattle.sheet.specs.declared.Tensors.{Tensors}
 use Rattle.sheet.specs.declared.Step.{Step}

@@ -7,8 +7,8 @@ use borrow.Author.Tests.{le-leb, lt-leb}
 use borrow.Author.Needs.{needs}
 use Rattle.numbers.specs.All.{all}
 use Rattle.numbers.specs.Laws.All.{all-none, all-more, all-false}
-use Rattle.sheet.specs.Laws.Facts.{layout-most}
-use Rattle.sheet.specs.Layouts.{theDimension}
+use Rattle.tensor_ranges.specs.Laws.Facts.{layout-most}
+use Rattle.tensor_ranges.specs.Layouts.{theDimension}
 use Rattle.accesses.specs.Refusals.{blocksOne}
 use Rattle.accesses.proofs.blocks_one.Statement.{statement}
 use Rattle.accesses.proofs.blocks_one.Tie as tie

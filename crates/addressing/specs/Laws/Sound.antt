@@ -10,7 +10,7 @@ use lib.IntN.{ℤ, pos, negsuc, _+ℤ_}
 use lib.ListN.{getD}
 use borrow.Author.Tests.{leb-true}
 use Rattle.numbers.specs.Laws.Choice.{pick-case}
-use Rattle.sheet.specs.Layouts.{theDimension}
+use Rattle.tensor_ranges.specs.Layouts.{theDimension}
 use Rattle.sheet.specs.declared.ClampMode.{ClampMode}
 use Rattle.sheet.specs.declared.ClampMode.the-variants.{Undefined, Constant, ClampToEdge, Repeat, MirrorRepeat}
 use Rattle.sheet.specs.declared.Dimension.{Dimension}

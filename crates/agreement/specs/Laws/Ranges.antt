@@ -10,14 +10,14 @@ use Rattle.kinds.specs.Laws.Widths.{width-case, bytes-low}
 use Rattle.outcomes.specs.declared.Outcome.{Outcome}
 use Rattle.outcomes.specs.declared.Outcome.the-variants.{Skipped, Filled, Discarded, Placed}
 use Rattle.sheet.specs.Sizes.{registerCount, stepPlaces, memoryLimit}
-use Rattle.sheet.specs.Steps.{theStep, objectOk, stepOk}
+use Rattle.sheet_ranges.specs.Steps.{theStep, objectOk, stepOk}
 use Rattle.sheet.specs.declared.Object.{Object}
 use Rattle.sheet.specs.declared.Object.the-variants.{Kept, Register}
 use Rattle.sheet.specs.declared.Window.{Window}
 use Rattle.sheet.specs.declared.Sheet.{Sheet}
 use Rattle.sheet.specs.declared.Step.{Step}
 use Rattle.sheet.specs.declared.Step.the-variants.{Nothing, Load, Store, Whole}
-use Rattle.sheet.specs.Laws.Within.{Within, within-places}
+use Rattle.sheet_ranges.specs.Laws.Within.{Within, within-places}
 use Rattle.registers.specs.Types.{theType}
 use Rattle.registers.specs.Registers.{emptyRegisters}
 use Rattle.registers.specs.Sized.{SizedType, Sized}

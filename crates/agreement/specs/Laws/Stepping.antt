@@ -13,7 +13,7 @@ use Rattle.kinds.specs.Laws.Widths.{width-bytes}
 use Rattle.outcomes.specs.declared.Outcome.{Outcome}
 use Rattle.outcomes.specs.declared.Outcome.the-variants.{Skipped, Filled, Discarded, Placed}
 use Rattle.sheet.specs.Sizes.{registerCount}
-use Rattle.sheet.specs.Steps.{theStep, stepOk}
+use Rattle.sheet_ranges.specs.Steps.{theStep, stepOk}
 use Rattle.sheet.specs.declared.Object.{Object}
 use Rattle.sheet.specs.declared.Object.the-variants.{Kept, Register}
 use Rattle.sheet.specs.declared.Window.{Window}

@@ -13,7 +13,7 @@ use Rattle.numbers.specs.Laws.Choice.{both-true, taken}
 use Rattle.sheet.specs.Sizes.{memoryLimit}
 use Rattle.sheet.specs.declared.Sheet.{Sheet}
 use Rattle.sheet.specs.Editions.{limits}
-use Rattle.sheet.specs.Laws.Within.{Within}
+use Rattle.sheet_ranges.specs.Laws.Within.{Within}
 use Rattle.checking.specs.Checking.{checked}
 use Rattle.carrying.specs.Carrying.{performed, started}
 use Rattle.carrying.specs.Laws.Types.{started-formed}

@@ -9,8 +9,8 @@ use lib.ListN.{length}
 use Rattle.numbers.specs.Bytes.{AreBytes}
 use Rattle.numbers.specs.Laws.Lists.{length-line}
 use Rattle.sheet.specs.Sizes.{registerCount, matrixPlaces}
-use Rattle.sheet.specs.Steps.{theStep, stepOk}
-use Rattle.sheet.specs.Laws.Within.{Within}
+use Rattle.sheet_ranges.specs.Steps.{theStep, stepOk}
+use Rattle.sheet_ranges.specs.Laws.Within.{Within}
 use Rattle.sheet.specs.declared.Object.{Object}
 use Rattle.sheet.specs.declared.Object.the-variants.{Kept, Register}
 use Rattle.sheet.specs.declared.Tensors.{Tensors}

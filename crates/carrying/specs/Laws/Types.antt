@@ -8,7 +8,7 @@ use native.Mathlib.Omega.{arith}
 use lib.ListN.{length, length-replicate}
 use lib.Seq.{set-getD, getD-set-same}
 use Rattle.numbers.specs.Laws.Lists.{length-line}
-use Rattle.sheet.specs.Steps.{theStep, stepOk}
+use Rattle.sheet_ranges.specs.Steps.{theStep, stepOk}
 use Rattle.sheet.specs.Sizes.{registerCount, matrixPlaces, elementPlaces}
 use Rattle.sheet.specs.declared.Object.{Object}
 use Rattle.sheet.specs.declared.Object.the-variants.{Kept, Register}
@@ -16,7 +16,7 @@ use Rattle.sheet.specs.declared.Tensors.{Tensors}
 use Rattle.sheet.specs.declared.Sheet.{Sheet}
 use Rattle.sheet.specs.declared.Step.{Step}
 use Rattle.sheet.specs.declared.Step.the-variants.{Nothing, Load, Store, Whole}
-use Rattle.sheet.specs.Laws.Within.{Within}
+use Rattle.sheet_ranges.specs.Laws.Within.{Within}
 use Rattle.registers.specs.Types.{noType, theType, withType}
 use Rattle.registers.specs.Registers.{placeOf, elementOf, emptyRegisters}
 use Rattle.registers.specs.declared.Registers.{Registers}

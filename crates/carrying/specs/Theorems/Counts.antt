@@ -4,9 +4,9 @@ use mathlib.Core.List.{List}
 use Prim.Native.Nat.{ℕ, zero, suc, _+_, _≤_}
 use native.Mathlib.Omega.{arith}
 use lib.ListN.{length}
-use Rattle.sheet.specs.Steps.{theStep}
+use Rattle.sheet_ranges.specs.Steps.{theStep}
 use Rattle.sheet.specs.declared.Sheet.{Sheet}
-use Rattle.sheet.specs.Laws.Within.{Within}
+use Rattle.sheet_ranges.specs.Laws.Within.{Within}
 use Rattle.checking.specs.Checking.{checkedFrom, checked}
 use Rattle.checking.specs.Laws.Turns.{within-step}
 use Rattle.checking.specs.declared.CheckAnswer.{CheckAnswer}

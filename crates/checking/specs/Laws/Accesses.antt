@@ -12,11 +12,11 @@ use Rattle.kinds.specs.Widths.{bytesOf}
 use Rattle.kinds.specs.Laws.Widths.{bytes-size, bytes-low, bytes-high}
 use Rattle.refusals.specs.Refusals.{emptyRegister}
 use Rattle.sheet.specs.Sizes.{memoryLimit}
-use Rattle.sheet.specs.Steps.{viewingOk, windowOk}
-use Rattle.sheet.specs.Layouts.{theLayout}
-use Rattle.sheet.specs.Views.{viewOk}
+use Rattle.sheet_ranges.specs.Steps.{viewingOk, windowOk}
+use Rattle.tensor_ranges.specs.Layouts.{theLayout}
+use Rattle.tensor_ranges.specs.Views.{viewOk}
 use Rattle.sheet.specs.declared.View.{View}
-use Rattle.sheet.specs.Laws.Within.{TensorsWithin}
+use Rattle.sheet_ranges.specs.Laws.Within.{TensorsWithin}
 use Rattle.sheet.specs.declared.Viewing.{Viewing}
 use Rattle.sheet.specs.declared.Viewing.the-variants.{Plain, Through}
 use Rattle.sheet.specs.declared.Window.{Window}

@@ -5,7 +5,7 @@ use mathlib.Core.Bool.{true}
 use borrow.Author.Tests.{ltb-true}
 use Rattle.numbers.specs.Laws.Choice.{both-left, both-right}
 use Rattle.sheet.specs.Sizes.{registerCount}
-use Rattle.sheet.specs.Steps.{objectOk, viewingOk, windowOk, loadOk, storeOk}
+use Rattle.sheet_ranges.specs.Steps.{objectOk, viewingOk, windowOk, loadOk, storeOk}
 use Rattle.sheet.specs.declared.Object.{Object}
 use Rattle.sheet.specs.declared.Object.the-variants.{Kept, Register}
 use Rattle.sheet.specs.declared.Window.{Window}

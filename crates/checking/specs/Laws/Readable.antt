@@ -10,7 +10,7 @@ use Rattle.numbers.specs.Laws.Choice.{pick-case}
 use Rattle.sheet.specs.declared.Sheet.{Sheet}
 use Rattle.sheet_reader.specs.Reading.{readSheet}
 use Rattle.sheet.specs.Sizes.{memoryLimit}
-use Rattle.sheet.specs.Laws.Within.{Within}
+use Rattle.sheet_ranges.specs.Laws.Within.{Within}
 use Rattle.sheet_reader.specs.Laws.Growing.{read-within}
 use Rattle.checking.specs.Checking.{checked, checkedSheet, judgedSheet}
 use Rattle.checking.specs.declared.CheckAnswer.{CheckAnswer}

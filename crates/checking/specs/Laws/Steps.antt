@@ -10,7 +10,7 @@ use lib.ListN.{length, length-set}
 use Rattle.numbers.specs.Choice.{pick}
 use Rattle.numbers.specs.Laws.Choice.{pick-case}
 use Rattle.refusals.specs.declared.Stop.{Stop}
-use Rattle.sheet.specs.Steps.{stepOk}
+use Rattle.sheet_ranges.specs.Steps.{stepOk}
 use Rattle.sheet.specs.declared.Tensors.{Tensors}
 use Rattle.sheet.specs.declared.Step.{Step}
 use Rattle.sheet.specs.declared.Step.the-variants.{Nothing, Load, Store, Whole}

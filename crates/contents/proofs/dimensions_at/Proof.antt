@@ -3,7 +3,7 @@ use Rattle.numbers.specs.Laws.Lists.{line-start, line-step}
 use mathlib.Core.Path.{_≡_}
 use Prim.Native.Nat.{ℕ, _+_, _*_, _-_, _≤_}
 use lib.ListN.{replicate}
-use Rattle.sheet.specs.Layouts.{noDimension}
+use Rattle.tensor_ranges.specs.Layouts.{noDimension}
 use Rattle.contents.specs.Contents.{dimensionAt, dimensionsAt}
 use denote.Ref.{now}
 use borrow.Author.Needs.{needs}

@@ -4,7 +4,7 @@ use denote.Ref.{now}
 use mathlib.Core.Path.{_≡_}
 use Prim.Native.Nat.{ℕ, _+_, _*_, _-_, _≤_}
 use lib.ListN.{replicate}
-use Rattle.sheet.specs.Views.{noViewDimension}
+use Rattle.tensor_ranges.specs.Views.{noViewDimension}
 use Rattle.contents.specs.Contents.{viewDimensionAt, viewDimensionsAt}
 use borrow.Author.Needs.{needs}
 use native.Mathlib.Omega.{arith}

@@ -10,7 +10,7 @@ use borrow.Author.Tests.{eqb-true}
 use Rattle.numbers.specs.Choice.{pick}
 use Rattle.numbers.specs.Laws.Choice.{both-left, both-right, between-low, between-high, pick-inv}
 use Rattle.sheet.specs.Sizes.{rankPlaces, rankOk}
-use Rattle.sheet.specs.Views.{sizedRank}
+use Rattle.tensor_ranges.specs.Views.{sizedRank}
 use Rattle.contents.specs.Contents.{layoutLength, layoutLengthOk, layoutHeadOk, viewLength, viewLengthOk, viewHeadOk, hasDimensions}
 
 -- a layout's head

@@ -9,8 +9,8 @@ use lib.Dec.{ltb}
 use Rattle.numbers.specs.Choice.{pick, both}
 use Rattle.numbers.specs.Laws.Choice.{pick-case, both-right, by-order}
 use Rattle.sheet.specs.Sizes.{stepPlaces}
-use Rattle.sheet.specs.Steps.{theStep, stepOk, stepUnused}
-use Rattle.sheet.specs.Laws.Within.{Within, within-places}
+use Rattle.sheet_ranges.specs.Steps.{theStep, stepOk, stepUnused}
+use Rattle.sheet_ranges.specs.Laws.Within.{Within, within-places}
 use Rattle.sheet.specs.declared.Sheet.{Sheet}
 use Rattle.sheet.specs.declared.Step.{Step}
 use Rattle.sheet.specs.declared.Step.the-variants as step

@@ -11,8 +11,8 @@ use lib.IntN.{ℤ}
 use lib.ListN.{length}
 use Rattle.numbers.specs.Choice.{pick}
 use Rattle.numbers.specs.Laws.Choice.{pick-case}
-use Rattle.sheet.specs.Sheets.{emptySheet, noTensors, writable}
-use Rattle.sheet.specs.Steps.{theStep, stepOk}
+use Rattle.sheet_ranges.specs.Sheets.{emptySheet, noTensors, writable}
+use Rattle.sheet_ranges.specs.Steps.{theStep, stepOk}
 use Rattle.refusals.specs.declared.Refusal.{Refusal}
 use Rattle.sheet.specs.declared.Tensors.{Tensors}
 use Rattle.sheet.specs.declared.Sheet.{Sheet}
@@ -24,7 +24,7 @@ use Rattle.sheet_writer.specs.Bytes.{sheetBytes}
 use Rattle.sheet_writer.specs.Writing.{written}
 use Rattle.sheet_writer.specs.declared.WriteAnswer.{WriteAnswer}
 use Rattle.sheet.specs.Sizes.{sidePlaces, matrixPlaces, recordPlaces, memoryLimit}
-use Rattle.sheet.specs.Laws.Within.{Within, within, within-places}
+use Rattle.sheet_ranges.specs.Laws.Within.{Within, within, within-places}
 use Rattle.round_trip.specs.Laws.Sheets.{sheet-short}
 use Rattle.round_trip.specs.Laws.Growing.{reading}
 use Rattle.sheet_reader.specs.Laws.Growing.{read-within}

@@ -10,7 +10,7 @@ use Rattle.numbers.specs.Choice.{pick}
 use Rattle.numbers.specs.Laws.Choice.{by-place}
 use Rattle.sheet.specs.Sizes.{viewPlaces}
 use Rattle.sheet.specs.Codes.{clampCode, clampMode, reduceCode, reduceMode, combineCode, combineOf, memoryLayoutCode, memoryLayout, flagCode, none, objectCode, objectOf, viewingCode, viewingOf}
-use Rattle.sheet.specs.Steps.{objectOk, viewingOk}
+use Rattle.sheet_ranges.specs.Steps.{objectOk, viewingOk}
 use Rattle.sheet.specs.declared.ClampMode.{ClampMode}
 use Rattle.sheet.specs.declared.ClampMode.the-variants.{Undefined, Constant, ClampToEdge, Repeat, MirrorRepeat}
 use Rattle.sheet.specs.declared.ReduceMode.{ReduceMode}

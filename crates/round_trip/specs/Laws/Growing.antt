@@ -16,15 +16,16 @@ use Rattle.numbers.specs.Bytes.{AreBytes}
 use Rattle.refusals.specs.Refusals.{outOfOrder, unknownEdition}
 use Rattle.sheet.specs.Sizes.{rankPlaces, layoutPlaces, viewPlaces, stepPlaces}
 use Rattle.sheet.specs.Codes.{editionTag, layoutTag, viewTag, fillTag, lastStepTag}
-use Rattle.sheet.specs.Layouts.{noDimension, noLayout, theLayout}
-use Rattle.sheet.specs.Views.{noViewDimension, noClip, noView, theView}
-use Rattle.sheet.specs.Steps.{noCell}
-use Rattle.sheet.specs.Sheets.{noTensors, emptySheet}
+use Rattle.tensor_ranges.specs.Layouts.{noDimension, noLayout, theLayout}
+use Rattle.tensor_ranges.specs.Views.{noViewDimension, noClip, noView, theView}
+use Rattle.sheet_ranges.specs.Steps.{noCell}
+use Rattle.sheet_ranges.specs.Sheets.{noTensors, emptySheet}
 use Rattle.sheet.specs.Laws.Editions.{edition-some}
 use Rattle.sheet.specs.declared.ViewDimension.{ViewDimension}
 use Rattle.sheet.specs.declared.Cell.{Cell}
 use Rattle.sheet.specs.declared.Sheet.{Sheet}
-use Rattle.contents.specs.Contents.{layoutAt, viewAt, stepAt}
+use Rattle.contents.specs.Contents.{layoutAt, viewAt}
+use Rattle.step_contents.specs.Contents.{stepAt}
 use Rattle.sheet_reader.specs.Reading.{givenOf, layoutMayCome, viewMayCome, withEdition, moreLayout, moreView, withTensors, withStep, withField, refusedRead, acceptedRead, endRead, readSheet}
 use Rattle.sheet_reader.specs.Laws.Taken.{LayoutTaken, ViewTaken, StepTaken, Took, edition, layout, view, step, layout-place, view-place, step-place}
 use Rattle.sheet_reader.specs.Laws.Turns.{with-edition, with-layout, with-view, with-step}

@@ -14,8 +14,8 @@ use Rattle.numbers.specs.Laws.Places.{places-given, places-past, places-count, 
 use Rattle.numbers.specs.Bytes.{AreBytes}
 use Rattle.sheet.specs.Sizes.{rankPlaces}
 use Rattle.sheet.specs.Codes.{clampMode, clampCode, undefined}
-use Rattle.sheet.specs.Layouts.{noDimension, noLayout, theDimension, dimensionOk, dimensionUnused, dimensionAtOk, dimensionsOk, layoutOk, layoutUnused}
-use Rattle.sheet.specs.Laws.Facts.{layout-some, layout-most}
+use Rattle.tensor_ranges.specs.Layouts.{noDimension, noLayout, theDimension, dimensionOk, dimensionUnused, dimensionAtOk, dimensionsOk, layoutOk, layoutUnused}
+use Rattle.tensor_ranges.specs.Laws.Facts.{layout-some, layout-most}
 use Rattle.sheet.specs.declared.ClampMode.{ClampMode}
 use Rattle.sheet.specs.declared.ClampMode.the-variants.{Undefined, Constant, ClampToEdge, Repeat, MirrorRepeat}
 use Rattle.sheet.specs.declared.Dimension.{Dimension}

@@ -11,12 +11,13 @@ use lib.ListN.{length, getD}
 use Rattle.numbers.specs.Choice.{pick}
 use Rattle.numbers.specs.Little.{u16At, u32At}
 use Rattle.numbers.specs.Bytes.{AreBytes}
-use Rattle.sheet.specs.Sheets.{emptySheet}
+use Rattle.sheet_ranges.specs.Sheets.{emptySheet}
 use Rattle.sheet.specs.declared.Sheet.{Sheet}
 use Rattle.fields.specs.Fields.{fieldAt}
 use Rattle.fields.specs.declared.Cursor.{Cursor}
 use Rattle.fields.specs.declared.Field.the-variants.{Whole}
-use Rattle.contents.specs.Contents.{layoutAt, layoutHeadOk, viewAt, viewHeadOk, fillAt, windowAt, loadAt, storeAt, reduceAt, transposeAt, multiplyAt, vectorNumbers, vectorAt, stepAt}
+use Rattle.contents.specs.Contents.{layoutAt, layoutHeadOk, viewAt, viewHeadOk}
+use Rattle.step_contents.specs.Contents.{fillAt, windowAt, loadAt, storeAt, reduceAt, transposeAt, multiplyAt, vectorNumbers, vectorAt, stepAt}
 use Rattle.sheet_reader.specs.Reading.{givenOf, editionRefusal, layoutRefusal, viewRefusal, stepRefusal, fieldRefusal, withEdition, withField, refusedRead, Turn, over, on, turnField, turn, afterTurn, readFrom, readSheet}
 use Rattle.sheet_reader.specs.Laws.Taken.{Took, edition, layout, view, step, took}
 use Rattle.sheet_reader.specs.Laws.Turns.{with-edition, with-layout, with-view, with-step}

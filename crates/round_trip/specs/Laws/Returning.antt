@@ -17,18 +17,19 @@ use Rattle.numbers.specs.Laws.Places.{places-are}
 use Rattle.sheet.specs.Sizes.{layoutPlaces, viewPlaces, stepPlaces}
 use Rattle.sheet.specs.Editions.{limits}
 use Rattle.sheet.specs.Codes.{editionTag, layoutTag, viewTag}
-use Rattle.sheet.specs.Layouts.{noLayout, theLayout, layoutOk}
-use Rattle.sheet.specs.Views.{noView, theView, viewOk}
-use Rattle.sheet.specs.Steps.{noCell, theStep, stepOk}
-use Rattle.sheet.specs.Sheets.{noTensors, emptySheet}
+use Rattle.tensor_ranges.specs.Layouts.{noLayout, theLayout, layoutOk}
+use Rattle.tensor_ranges.specs.Views.{noView, theView, viewOk}
+use Rattle.sheet_ranges.specs.Steps.{noCell, theStep, stepOk}
+use Rattle.sheet_ranges.specs.Sheets.{noTensors, emptySheet}
 use Rattle.sheet.specs.Laws.Editions.{edition-some}
-use Rattle.sheet.specs.Laws.Within.{Within, within-places}
+use Rattle.sheet_ranges.specs.Laws.Within.{Within, within-places}
 use Rattle.sheet.specs.declared.Layout.{Layout}
 use Rattle.sheet.specs.declared.View.{View}
 use Rattle.sheet.specs.declared.Step.{Step}
 use Rattle.sheet.specs.declared.Sheet.{Sheet}
 use Rattle.fields.specs.Fields.{fieldAt}
-use Rattle.contents.specs.Contents.{layoutLengthOk, viewLengthOk, stepLength}
+use Rattle.contents.specs.Contents.{layoutLengthOk, viewLengthOk}
+use Rattle.step_contents.specs.Contents.{stepLength}
 use Rattle.sheet_reader.specs.Reading.{givenOf, layoutMayCome, viewMayCome, stepMayCome, editionRefusal, layoutRefusal, viewRefusal, stepRefusal, fieldRefusal, withEdition, moreLayout, moreView, withTensors, withStep, withField, acceptedRead, endRead, on, turnField, turn, afterTurn, readFrom, readSheet}
 use Rattle.sheet_reader.specs.Laws.Turns.{with-edition, with-layout, with-view, with-step}
 use Rattle.sheet_bytes.specs.Bytes.{fieldBytes, editionField, layoutBytes, layoutField, viewBytes, viewField}

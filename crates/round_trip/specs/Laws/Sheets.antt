@@ -8,11 +8,11 @@ use Rattle.numbers.specs.Lists.{each}
 use Rattle.numbers.specs.Laws.Lists.{each-none}
 use Rattle.numbers.specs.Laws.Joins.{each-set, each-short}
 use Rattle.sheet.specs.Codes.{layoutTag, viewTag}
-use Rattle.sheet.specs.Layouts.{theLayout}
-use Rattle.sheet.specs.Views.{theView}
-use Rattle.sheet.specs.Steps.{noCell, theStep}
-use Rattle.sheet.specs.Laws.Facts.{layout-most, view-most}
-use Rattle.sheet.specs.Laws.Within.{Within, within-places}
+use Rattle.tensor_ranges.specs.Layouts.{theLayout}
+use Rattle.tensor_ranges.specs.Views.{theView}
+use Rattle.sheet_ranges.specs.Steps.{noCell, theStep}
+use Rattle.tensor_ranges.specs.Laws.Facts.{layout-most, view-most}
+use Rattle.sheet_ranges.specs.Laws.Within.{Within, within-places}
 use Rattle.sheet.specs.declared.Layout.{Layout}
 use Rattle.sheet.specs.declared.View.{View}
 use Rattle.sheet.specs.declared.Step.{Step}

@@ -15,14 +15,14 @@ use Rattle.numbers.specs.Little.{u16Bytes, u32Bytes}
 use Rattle.sheet.specs.Sizes.{viewPlaces}
 use Rattle.sheet.specs.Editions.{hasVectors, tagKnown, fillLength}
 use Rattle.sheet.specs.Codes.{editionTag, layoutTag, viewTag, fillTag, loadTag, storeTag, reduceTag, transposeTag, multiplyTag, vectorTag, lastStepTag, reduceMode, reduceCode, combineOf, combineCode, memoryLayout, memoryLayoutCode, flagCode, objectOf, viewingOf}
-use Rattle.sheet.specs.Steps.{windowOk, loadOk, storeOk, vectorOk, wholeOk, stepOk, stepUnused}
+use Rattle.sheet_ranges.specs.Steps.{windowOk, loadOk, storeOk, vectorOk, wholeOk, stepOk, stepUnused}
 use Rattle.sheet.specs.declared.Window.{Window}
 use Rattle.sheet.specs.declared.Step.{Step}
 use Rattle.sheet.specs.declared.Step.the-variants.{Nothing, Load, Store, Whole}
 use Rattle.sheet.specs.declared.WholeStep.{WholeStep}
 use Rattle.sheet.specs.declared.WholeStep.the-variants.{Fill, Reduce, Transpose, MultiplyAdd, Vector}
 use Rattle.sheet.specs.declared.VectorStep.{VectorStep}
-use Rattle.contents.specs.Contents.{fillAt, windowAt, loadAt, storeAt, reduceAt, transposeAt, multiplyAt, vectorNumbers, vectorAt, stepAt, stepLength}
+use Rattle.step_contents.specs.Contents.{fillAt, windowAt, loadAt, storeAt, reduceAt, transposeAt, multiplyAt, vectorNumbers, vectorAt, stepAt, stepLength}
 use Rattle.sheet_reader.specs.Reading.{fieldRefusal, stepRefusal}
 use Rattle.sheet_reader.specs.declared.Given.{Given}
 use Rattle.step_bytes.specs.Bytes.{wholeTag, stepTag, windowBytes, vectorOperands, vectorPlaces, vectorBytes, wholeBytes, stepBytes}

@@ -16,8 +16,8 @@ use Rattle.numbers.specs.Laws.Places.{places-given, places-past, places-count, 
 use Rattle.numbers.specs.Bytes.{AreBytes}
 use Rattle.sheet.specs.Sizes.{rankPlaces, sizeOk}
 use Rattle.sheet.specs.Codes.{flagCode}
-use Rattle.sheet.specs.Views.{noViewDimension, noClip, noView, theViewDimension, entryOk, permutationOk, viewDimensionUnused, viewDimensionAtOk, viewDimensionsOk, sizedRank, viewOk, clipUnused, viewUnused}
-use Rattle.sheet.specs.Laws.Facts.{view-some, view-most}
+use Rattle.tensor_ranges.specs.Views.{noViewDimension, noClip, noView, theViewDimension, entryOk, permutationOk, viewDimensionUnused, viewDimensionAtOk, viewDimensionsOk, sizedRank, viewOk, clipUnused, viewUnused}
+use Rattle.tensor_ranges.specs.Laws.Facts.{view-some, view-most}
 use Rattle.sheet.specs.declared.ViewDimension.{ViewDimension}
 use Rattle.sheet.specs.declared.Clip.{Clip}
 use Rattle.sheet.specs.declared.View.{View}

@@ -17,11 +17,11 @@ use Rattle.kinds.specs.Interpretations.{packed, packedSigned, packedUnsigned, i
 use Rattle.sheet.specs.Sizes.{registerCount, layoutPlaces, viewPlaces, sizeLimit, sizeOk}
 use Rattle.sheet.specs.Editions.{newestEdition, editionOk, limits, sideOk}
 use Rattle.sheet.specs.Codes.{editionTag, layoutTag, viewTag, clampCode, flagCode}
-use Rattle.sheet.specs.Layouts.{theDimension, theLayout, dimensionOk, layoutOk}
-use Rattle.sheet.specs.Views.{theViewDimension, theView, sizedRank, viewOk}
-use Rattle.sheet.specs.Steps.{theStep, fillOk, windowOk, loadOk, storeOk, reduceOk, transposeOk, multiplyOk, vectorOk, wholeOk, stepOk}
-use Rattle.sheet.specs.Laws.Facts.{layout-most, view-most, view-entry}
-use Rattle.sheet.specs.Laws.Within.{Within}
+use Rattle.tensor_ranges.specs.Layouts.{theDimension, theLayout, dimensionOk, layoutOk}
+use Rattle.tensor_ranges.specs.Views.{theViewDimension, theView, sizedRank, viewOk}
+use Rattle.sheet_ranges.specs.Steps.{theStep, fillOk, windowOk, loadOk, storeOk, reduceOk, transposeOk, multiplyOk, vectorOk, wholeOk, stepOk}
+use Rattle.tensor_ranges.specs.Laws.Facts.{layout-most, view-most, view-entry}
+use Rattle.sheet_ranges.specs.Laws.Within.{Within}
 use Rattle.sheet.specs.declared.Dimension.{Dimension}
 use Rattle.sheet.specs.declared.Layout.{Layout}
 use Rattle.sheet.specs.declared.ViewDimension.{ViewDimension}

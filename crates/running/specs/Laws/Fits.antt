@@ -9,7 +9,7 @@ use lib.ListN.{length}
 use Rattle.numbers.specs.Laws.Orders.{in-order-keeps}
 use Rattle.kinds.specs.Widths.{bytesOf}
 use Rattle.sheet.specs.Sizes.{registerCount}
-use Rattle.sheet.specs.Laws.Within.{Within}
+use Rattle.sheet_ranges.specs.Laws.Within.{Within}
 use Rattle.sheet.specs.declared.Sheet.{Sheet}
 use Rattle.registers.specs.Types.{theType, isEmpty}
 use Rattle.registers.specs.Laws.Types.{filled-given}

@@ -10,9 +10,9 @@ use Rattle.numbers.specs.Choice.{pick}
 use Rattle.registers.specs.declared.MatrixType.{MatrixType}
 use Rattle.numbers.specs.Laws.Lists.{length-line}
 use Rattle.kinds.specs.Widths.{bytesOf}
-use Rattle.sheet.specs.Steps.{theStep}
+use Rattle.sheet_ranges.specs.Steps.{theStep}
 use Rattle.sheet.specs.declared.Sheet.{Sheet}
-use Rattle.sheet.specs.Laws.Within.{Within}
+use Rattle.sheet_ranges.specs.Laws.Within.{Within}
 use Rattle.memory.specs.Laws.Elements.{length-with}
 use Rattle.registers.specs.Types.{theType}
 use Rattle.sheet.specs.Sizes.{matrixPlaces}

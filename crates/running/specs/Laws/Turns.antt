@@ -10,7 +10,7 @@ use Rattle.numbers.specs.Laws.Choice.{pick-case}
 use Rattle.sheet.specs.Sizes.{matrixPlaces}
 use Rattle.sheet.specs.declared.Sheet.{Sheet}
 use Rattle.refusals.specs.declared.Refusal.{Refusal}
-use Rattle.sheet.specs.Laws.Within.{Within}
+use Rattle.sheet_ranges.specs.Laws.Within.{Within}
 use Rattle.checking.specs.Laws.Turns.{one-less}
 use Rattle.carrying.specs.Steps.{Machine}
 use Rattle.carrying.specs.Carrying.{started}

@@ -7,8 +7,8 @@ use native.Mathlib.Omega.{arith}
 use lib.ListN.{length, length-append}
 use Rattle.numbers.specs.Laws.Choice.{pick-case}
 use Rattle.numbers.specs.Laws.Lists.{length-each}
-use Rattle.sheet.specs.Layouts.{theDimension}
-use Rattle.sheet.specs.Views.{theViewDimension, sizedRank}
+use Rattle.tensor_ranges.specs.Layouts.{theDimension}
+use Rattle.tensor_ranges.specs.Views.{theViewDimension, sizedRank}
 use Rattle.sheet.specs.declared.Dimension.{Dimension}
 use Rattle.sheet.specs.declared.Layout.{Layout}
 use Rattle.sheet.specs.declared.ViewDimension.{ViewDimension}

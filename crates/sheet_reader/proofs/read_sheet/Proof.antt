@@ -10,13 +10,13 @@ use Rattle.numbers.specs.Laws.Choice.{taken, left, went-not, went-past}
 use Rattle.refusals.specs.Refusals.{beyondSizes}
 use Rattle.sheet.specs.Sizes.{stepPlaces}
 use Rattle.sheet.specs.Codes.{fillTag}
-use Rattle.sheet.specs.Steps.{stepOk}
+use Rattle.sheet_ranges.specs.Steps.{stepOk}
 use Rattle.sheet.specs.declared.Sheet.{Sheet}
 use Rattle.fields.specs.Fields.{fieldAt}
 use Rattle.fields.specs.declared.Cursor.{Cursor}
 use Rattle.fields.specs.declared.Field.the-variants.{Whole}
 use Rattle.fields.specs.Laws.Bounds.{FieldIn, field-in}
-use Rattle.contents.specs.Contents.{stepAt}
+use Rattle.step_contents.specs.Contents.{stepAt}
 use Rattle.contents.specs.Laws.Heads.{layout-room, view-room}
 use Rattle.sheet_reader.specs.Reading.{givenOf, fieldRefusal, withField, readFrom, readSheet}
 use Rattle.sheet_reader.specs.Heads.{headRefusal}

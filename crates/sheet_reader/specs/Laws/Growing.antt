@@ -16,17 +16,18 @@ use Rattle.sheet.specs.Sizes.{layoutPlaces, viewPlaces, stepPlaces}
 use Rattle.sheet.specs.Editions.{editionOk, limits}
 use Rattle.sheet.specs.Laws.Editions.{edition-some, limits-steps}
 use Rattle.sheet.specs.Codes.{editionTag}
-use Rattle.sheet.specs.Layouts.{noLayout, theLayout, layoutOk, layoutUnused, dimensionAtOk, dimensionUnused}
-use Rattle.sheet.specs.Views.{noView, theView, viewOk, viewUnused, entryOk, viewDimensionAtOk, viewDimensionUnused, clipUnused}
-use Rattle.sheet.specs.Steps.{noCell, stepOk, stepUnused}
-use Rattle.sheet.specs.Sheets.{noTensors, emptySheet}
-use Rattle.sheet.specs.Laws.Within.{StepsHeld, Within}
+use Rattle.tensor_ranges.specs.Layouts.{noLayout, theLayout, layoutOk, layoutUnused, dimensionAtOk, dimensionUnused}
+use Rattle.tensor_ranges.specs.Views.{noView, theView, viewOk, viewUnused, entryOk, viewDimensionAtOk, viewDimensionUnused, clipUnused}
+use Rattle.sheet_ranges.specs.Steps.{noCell, stepOk, stepUnused}
+use Rattle.sheet_ranges.specs.Sheets.{noTensors, emptySheet}
+use Rattle.sheet_ranges.specs.Laws.Within.{StepsHeld, Within}
 use Rattle.sheet.specs.declared.Layout.{Layout}
 use Rattle.sheet.specs.declared.View.{View}
 use Rattle.sheet.specs.declared.Step.{Step}
 use Rattle.sheet.specs.declared.Cell.{Cell}
 use Rattle.sheet.specs.declared.Sheet.{Sheet}
-use Rattle.contents.specs.Contents.{layoutAt, viewAt, stepAt}
+use Rattle.contents.specs.Contents.{layoutAt, viewAt}
+use Rattle.step_contents.specs.Contents.{stepAt}
 use Rattle.sheet_reader.specs.Reading.{givenOf, layoutMayCome, viewMayCome, stepMayCome, withEdition, moreLayout, moreView, withTensors, withStep, withField, refusedRead, acceptedRead, endRead, readSheet}
 use Rattle.sheet_reader.specs.Laws.Taken.{EditionTaken, Took, edition, layout, view, step, layout-place, view-place}
 use Rattle.sheet_reader.specs.Laws.Turns.{with-edition, with-layout, with-view, with-step}

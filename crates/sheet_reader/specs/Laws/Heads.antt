@@ -10,8 +10,8 @@ use Rattle.numbers.specs.Laws.Choice.{between-low, between-high, pick-case}
 use Rattle.refusals.specs.Refusals.{beyondSizes}
 use Rattle.sheet.specs.Editions.{tagKnown}
 use Rattle.sheet.specs.Codes.{editionTag, layoutTag, viewTag, fillTag, lastStepTag}
-use Rattle.sheet.specs.Steps.{stepOk}
-use Rattle.contents.specs.Contents.{stepAt, stepLength}
+use Rattle.sheet_ranges.specs.Steps.{stepOk}
+use Rattle.step_contents.specs.Contents.{stepAt, stepLength}
 use Rattle.sheet_reader.specs.Reading.{stepMayCome, stepRefusal, fieldRefusal}
 use Rattle.sheet_reader.specs.Heads.{stepHeadRefusal, headRefusal}
 use Rattle.sheet_reader.specs.Laws.Taken.{taken-way, Took, edition, layout, view, step, took}

@@ -13,10 +13,11 @@ use Rattle.sheet.specs.Sizes.{layoutPlaces, viewPlaces, stepPlaces}
 use Rattle.sheet.specs.Editions.{editionOk, tagKnown, limits}
 use Rattle.sheet.specs.Laws.Editions.{limits-steps}
 use Rattle.sheet.specs.Codes.{editionTag, layoutTag, viewTag, fillTag, lastStepTag}
-use Rattle.sheet.specs.Layouts.{layoutOk}
-use Rattle.sheet.specs.Views.{viewOk}
-use Rattle.sheet.specs.Steps.{stepOk}
-use Rattle.contents.specs.Contents.{layoutAt, layoutLengthOk, layoutHeadOk, viewAt, viewLengthOk, viewHeadOk, stepAt, stepLength}
+use Rattle.tensor_ranges.specs.Layouts.{layoutOk}
+use Rattle.tensor_ranges.specs.Views.{viewOk}
+use Rattle.sheet_ranges.specs.Steps.{stepOk}
+use Rattle.contents.specs.Contents.{layoutAt, layoutLengthOk, layoutHeadOk, viewAt, viewLengthOk, viewHeadOk}
+use Rattle.step_contents.specs.Contents.{stepAt, stepLength}
 use Rattle.sheet_reader.specs.Reading.{layoutMayCome, viewMayCome, stepMayCome, editionRefusal, layoutRefusal, viewRefusal, stepRefusal, fieldRefusal}
 use Rattle.sheet_reader.specs.declared.Given.{Given}
 

@@ -16,7 +16,8 @@ use Rattle.sheet.specs.declared.Sheet.{Sheet}
 use Rattle.fields.specs.Fields.{fieldAt}
 use Rattle.fields.specs.declared.Cursor.{Cursor}
 use Rattle.fields.specs.declared.Field.the-variants.{Whole, Short}
-use Rattle.contents.specs.Contents.{layoutAt, viewAt, stepAt}
+use Rattle.contents.specs.Contents.{layoutAt, viewAt}
+use Rattle.step_contents.specs.Contents.{stepAt}
 use Rattle.sheet_reader.specs.Reading.{givenOf, fieldRefusal, withEdition, moreLayout, moreView, withTensors, withStep, withField, refusedRead, endRead, over, on, turnField, turn, afterTurn, readFrom}
 use Rattle.sheet_reader.specs.declared.ReadAnswer.{ReadAnswer}
 

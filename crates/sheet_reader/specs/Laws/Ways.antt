@@ -11,7 +11,7 @@ use Rattle.numbers.specs.Choice.{pick}
 use Rattle.numbers.specs.Laws.Choice.{pick-case}
 use Rattle.numbers.specs.Little.{u16At}
 use Rattle.refusals.specs.Refusals.{cutShort, unknownEdition}
-use Rattle.sheet.specs.Sheets.{emptySheet}
+use Rattle.sheet_ranges.specs.Sheets.{emptySheet}
 use Rattle.sheet.specs.declared.Sheet.{Sheet}
 use Rattle.fields.specs.Fields.{fieldAt}
 use Rattle.fields.specs.declared.Field.{Field}

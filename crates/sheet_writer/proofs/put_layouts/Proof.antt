@@ -1,7 +1,7 @@
 use Prim.Native.Nat.{ℕ, _-_, _≤_}
 use borrow.Author.Needs.{needs}
-use Rattle.sheet.specs.Layouts.{theLayout}
-use Rattle.sheet.specs.Laws.Facts.{layout-most}
+use Rattle.tensor_ranges.specs.Layouts.{theLayout}
+use Rattle.tensor_ranges.specs.Laws.Facts.{layout-most}
 use Rattle.sheet_bytes.specs.Bytes.{layoutField}
 use Rattle.sheet_bytes.specs.Laws.Puts.{Turns, no-turns, one-turn, turn-fits, all-turns}
 use Rattle.sheet_writer.proofs.put_layouts.Statement.{statement}

@@ -4,7 +4,7 @@ use denote.Ref.{now}
 use borrow.Author.Needs.{needs}
 use lib.ListN.{length-append}
 use Rattle.numbers.specs.Laws.Lists.{puts-after}
-use Rattle.sheet.specs.Laws.Within.{within, within-places}
+use Rattle.sheet_ranges.specs.Laws.Within.{within, within-places}
 use Rattle.sheet_bytes.specs.Bytes.{fieldBytes, editionField}
 use Rattle.sheet_bytes.specs.Laws.Puts.{puts-at}
 use Rattle.sheet_writer.specs.Bytes.{layoutsBytes, viewsBytes, stepsBytes, sheetBytes}

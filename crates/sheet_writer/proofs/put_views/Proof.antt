@@ -1,7 +1,7 @@
 use Prim.Native.Nat.{ℕ, _-_, _≤_}
 use borrow.Author.Needs.{needs}
-use Rattle.sheet.specs.Views.{theView}
-use Rattle.sheet.specs.Laws.Facts.{view-most}
+use Rattle.tensor_ranges.specs.Views.{theView}
+use Rattle.tensor_ranges.specs.Laws.Facts.{view-most}
 use Rattle.sheet_bytes.specs.Bytes.{viewField}
 use Rattle.sheet_bytes.specs.Laws.Puts.{Turns, no-turns, one-turn, turn-fits, all-turns}
 use Rattle.sheet_writer.proofs.put_views.Statement.{statement}

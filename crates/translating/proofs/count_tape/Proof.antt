@@ -2,8 +2,8 @@ use mathlib.Core.Path.{_≡_, ap}
 use Prim.Native.Nat.{_+_, _-_, _*_, _≤_}
 use lib.ListN.{length, length-append}
 use Rattle.sheet.specs.Sizes.{matrixPlaces}
-use Rattle.sheet.specs.Steps.{theStep}
-use Rattle.sheet.specs.Laws.Within.{within-places}
+use Rattle.sheet_ranges.specs.Steps.{theStep}
+use Rattle.sheet_ranges.specs.Laws.Within.{within-places}
 use Rattle.checking.specs.Laws.Turns.{within-step, empty-types}
 use Rattle.translating.specs.Tapes.{stepRecords, tapeOf}
 use Rattle.translating.proofs.Laws.{recordsMost, step-few, step-records, tapeRest, Rest, rest-start, rest-step, rest-next, tape-start, tape-go, tape-end}

@@ -4,8 +4,8 @@ use Prim.Native.Nat.{_+_, _-_, _*_, _≤_}
 use lib.ListN.{length, length-append}
 use lib.Seq.{sets}
 use Rattle.sheet.specs.Sizes.{matrixPlaces}
-use Rattle.sheet.specs.Steps.{theStep}
-use Rattle.sheet.specs.Laws.Within.{within-places}
+use Rattle.sheet_ranges.specs.Steps.{theStep}
+use Rattle.sheet_ranges.specs.Laws.Within.{within-places}
 use Rattle.checking.specs.Steps.{stepTypes}
 use Rattle.checking.specs.Laws.Turns.{within-step, empty-types}
 use Rattle.records.specs.declared.Record.{Record}

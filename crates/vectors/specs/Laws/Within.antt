@@ -9,7 +9,7 @@ use Rattle.numbers.specs.Laws.Choice.{pick-case, both-left, both-right, between
 use Rattle.refusals.specs.declared.Stop.{Stop}
 use Rattle.sheet.specs.Sizes.{registerCount, sidePlaces, matrixPlaces}
 use Rattle.sheet.specs.Editions.{limits}
-use Rattle.sheet.specs.Steps.{vectorOk}
+use Rattle.sheet_ranges.specs.Steps.{vectorOk}
 use Rattle.sheet.specs.Laws.Editions.{limits-side}
 use Rattle.sheet.specs.declared.VectorStep.{VectorStep}
 use Rattle.registers.specs.Types.{isEmpty}

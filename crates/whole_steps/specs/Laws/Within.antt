@@ -9,7 +9,7 @@ use Rattle.numbers.specs.Laws.Choice.{both-left, both-right, between-low, betwe
 use Rattle.kinds.specs.Widths.{kindOk}
 use Rattle.sheet.specs.Sizes.{sidePlaces, matrixPlaces}
 use Rattle.sheet.specs.Editions.{limits, sideOk}
-use Rattle.sheet.specs.Steps.{fillOk, reduceOk, transposeOk, multiplyOk, wholeOk}
+use Rattle.sheet_ranges.specs.Steps.{fillOk, reduceOk, transposeOk, multiplyOk, wholeOk}
 use Rattle.sheet.specs.Laws.Editions.{limits-side}
 use Rattle.sheet.specs.declared.WholeStep.{WholeStep}
 use Rattle.sheet.specs.declared.WholeStep.the-variants.{Fill, Reduce, Transpose, MultiplyAdd, Vector}

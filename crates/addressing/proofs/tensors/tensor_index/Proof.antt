@@ -1,7 +1,7 @@
 use Rattle.addressing.proofs.Loops.{same-dimension, same-span, same-part, Summing, summing-start, summing-more, summing-stop, summing-end, next-stop}
 use native.Mathlib.Nat.{mod-lt}
 use Rattle.addressing.specs.declared.Clamped.the-variants.{Refused, Discarded, Filled}
-use Rattle.sheet.specs.Laws.Facts.{layout-most, layout-size, layout-block, layout-span}
+use Rattle.tensor_ranges.specs.Laws.Facts.{layout-most, layout-size, layout-block, layout-span}
 use Rattle.sheet.specs.Sizes.{rankPlaces}
 use mathlib.Core.Path.{refl, sym, _∙_}
 use Prim.Native.Nat.{_-_, _^_, _≤_, _<_}

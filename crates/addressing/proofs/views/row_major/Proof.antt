@@ -4,7 +4,7 @@ use mathlib.Core.Path.{_≡_, sym, _∙_}
 use native.Mathlib.Nat.{mul-le-mul, le-refl}
 use native.Mathlib.Omega.{arith}
 use borrow.Author.Needs.{needs}
-use Rattle.sheet.specs.Laws.Facts.{layout-some, layout-most, layout-span}
+use Rattle.tensor_ranges.specs.Laws.Facts.{layout-some, layout-most, layout-span}
 use Rattle.addressing.proofs.Laws.{row-major-past, row-major-more, row-major-end, row-major-most}
 use Rattle.addressing.specs.Rules.{rowMajor, spanOf}
 use Rattle.addressing.proofs.views.row_major.Statement.{statement}

@@ -1,7 +1,7 @@
 use Rattle.sheet.specs.Sizes.{sizeLimit}
 use Rattle.addressing.proofs.Loops.{Weighing, weighing-start, weighing-more, weighing-end, product-most}
 use Rattle.addressing.specs.Rules.{viewIndex, viewCoordinates}
-use Rattle.sheet.specs.Laws.Facts.{view-most, view-entry, view-apart}
+use Rattle.tensor_ranges.specs.Laws.Facts.{view-most, view-entry, view-apart}
 use lib.ListN.{getD}
 use mathlib.Core.Path.{_∙_}
 use Prim.Native.Nat.{_-_, _*_, _^_, _≤_}

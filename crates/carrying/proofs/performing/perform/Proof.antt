@@ -5,7 +5,7 @@ use native.Mathlib.Omega.{arith}
 use denote.Ref.{now}
 use lib.ListN.{length}
 use Rattle.sheet.specs.Sizes.{matrixPlaces}
-use Rattle.sheet.specs.Laws.Within.{within-places}
+use Rattle.sheet_ranges.specs.Laws.Within.{within-places}
 use Rattle.transfers.specs.Acts.{state}
 use Rattle.checking.specs.Laws.Turns.{within-step}
 use Rattle.carrying.specs.Steps.{machineOf}

@@ -1,7 +1,7 @@
 use Prim.Native.Nat.{_-_, _*_, _≤_}
 use mathlib.Core.Path.{_≡_, ap, _∙_}
 use Rattle.sheet.specs.Sizes.{matrixPlaces}
-use Rattle.sheet.specs.Laws.Within.{within-places}
+use Rattle.sheet_ranges.specs.Laws.Within.{within-places}
 use Rattle.registers.specs.Sized.{Sized}
 use Rattle.registers.specs.Laws.Sized.{sized-empty}
 use Rattle.accesses.specs.Marks.{Scratch}

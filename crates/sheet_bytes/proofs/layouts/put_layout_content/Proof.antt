@@ -7,7 +7,7 @@ use Rattle.numbers.specs.Lists.{each}
 use Rattle.numbers.specs.Laws.Lists.{puts-after}
 use Rattle.numbers.specs.Little.{u32Bytes}
 use Rattle.sheet.specs.Codes.{clampCode}
-use Rattle.sheet.specs.Layouts.{theDimension}
+use Rattle.tensor_ranges.specs.Layouts.{theDimension}
 use Rattle.sheet_bytes.specs.Bytes.{dimensionBytes, layoutBytes}
 use Rattle.sheet_bytes.specs.Laws.Puts.{puts-at}
 use Rattle.sheet_bytes.specs.Laws.Lengths.{length-layout, length-dimensions}

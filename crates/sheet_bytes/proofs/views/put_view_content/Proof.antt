@@ -4,7 +4,7 @@ use denote.Ref.{now}
 use borrow.Author.Needs.{needs}
 use lib.ListN.{length-append}
 use Rattle.numbers.specs.Laws.Lists.{puts-after}
-use Rattle.sheet.specs.Views.{sizedRank}
+use Rattle.tensor_ranges.specs.Views.{sizedRank}
 use Rattle.sheet_bytes.specs.Bytes.{entriesBytes, viewDimensionsBytes, clipBytes, viewBytes}
 use Rattle.sheet.specs.Codes.{flagCode}
 use Rattle.sheet_bytes.specs.Laws.Puts.{puts-at}

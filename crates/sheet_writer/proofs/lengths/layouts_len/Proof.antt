@@ -5,7 +5,7 @@ use borrow.Author.Needs.{needs}
 use lib.ListN.{length}
 use Rattle.numbers.specs.Lists.{each}
 use Rattle.numbers.specs.Laws.Lists.{length-each-more}
-use Rattle.sheet.specs.Layouts.{theLayout}
+use Rattle.tensor_ranges.specs.Layouts.{theLayout}
 use Rattle.sheet.specs.Codes.{layoutTag}
 use Rattle.sheet_bytes.specs.Bytes.{layoutBytes, layoutField}
 use Rattle.sheet_writer.specs.Bytes.{layoutsBytes}

@@ -1,6 +1,6 @@
 use native.Mathlib.Omega.{arith}
 use borrow.Author.Needs.{needs}
-use Rattle.sheet.specs.Laws.Within.{within, within-places}
+use Rattle.sheet_ranges.specs.Laws.Within.{within, within-places}
 use Rattle.sheet_writer.specs.Laws.Lengths.{length-sheet}
 use Rattle.sheet_writer.proofs.lengths.sheet_len.Statement.{statement}
 use Rattle.sheet_writer.proofs.lengths.sheet_len.Tie as tie

@@ -5,7 +5,7 @@ use borrow.Author.Needs.{needs}
 use lib.ListN.{length}
 use Rattle.numbers.specs.Lists.{each}
 use Rattle.numbers.specs.Laws.Lists.{length-each-more}
-use Rattle.sheet.specs.Steps.{theStep}
+use Rattle.sheet_ranges.specs.Steps.{theStep}
 use Rattle.step_bytes.specs.Bytes.{stepTag, stepBytes, stepField}
 use Rattle.sheet_writer.specs.Bytes.{stepsBytes}
 use Rattle.sheet_bytes.specs.Laws.Lengths.{length-field}

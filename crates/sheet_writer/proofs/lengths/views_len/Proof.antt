@@ -5,7 +5,7 @@ use borrow.Author.Needs.{needs}
 use lib.ListN.{length}
 use Rattle.numbers.specs.Lists.{each}
 use Rattle.numbers.specs.Laws.Lists.{length-each-more}
-use Rattle.sheet.specs.Views.{theView}
+use Rattle.tensor_ranges.specs.Views.{theView}
 use Rattle.sheet.specs.Codes.{viewTag}
 use Rattle.sheet_bytes.specs.Bytes.{viewBytes, viewField}
 use Rattle.sheet_writer.specs.Bytes.{viewsBytes}

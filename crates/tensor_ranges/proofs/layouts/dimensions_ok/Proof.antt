@@ -1,0 +1,57 @@
+use mathlib.Core.Path.{_≡_, sym}
+use mathlib.Core.Bool.{true}
+use Prim.Native.Nat.{_-_, _≤_}
+use Rattle.numbers.specs.Laws.Choice.{went-not, went-past}
+use Rattle.numbers.specs.All.{all}
+use Rattle.numbers.specs.Laws.All.{all-none, all-more, all-false}
+use Rattle.tensor_ranges.specs.Layouts.{dimensionAtOk}
+use borrow.Author.Needs.{needs}
+use native.Mathlib.Omega.{arith}
+use Rattle.tensor_ranges.proofs.layouts.dimensions_ok.Statement.{statement}
+use Rattle.tensor_ranges.proofs.layouts.dimensions_ok.Tie as tie
+
+abbrev Inv-loop : tie.InvT-loop
+Inv-loop rank ds k₀ k = (k ≤ 5) × (all k (dimensionAtOk rank ds) ≡ true)
+
+abbrev μ-loop : tie.MeasureT-loop
+μ-loop rank ds k₀ k = 5 - k
+
+loop-holds : tie.Need-loop-holds Inv-loop μ-loop
+loop-holds c = (search needs, all-none _)
+
+dimension-at-ok-requires : tie.Need-dimension-at-ok-requires Inv-loop μ-loop
+dimension-at-ok-requires c κs = search needs
+
+returns : tie.Need-returns Inv-loop μ-loop
+returns c =
+    sym (all-false 5 _ (c .before .before .before .loop .k) (c .before .before .loop-test .taken) (went-not (c .before .dimension-at-ok .ensures) (c .if1 .taken)))
+
+add-k : tie.Need-add-k Inv-loop μ-loop
+add-k c = search needs
+
+loop-less : tie.Need-loop-less Inv-loop μ-loop
+loop-less c = search needs
+
+loop-again : tie.Need-loop-again Inv-loop μ-loop
+loop-again c =
+    (search needs, all-more _ _ (c .before .before .before .loop .inv .1) (went-past (c .before .dimension-at-ok .ensures) (c .if1 .left)))
+
+returns-2 : tie.Need-returns-2 Inv-loop μ-loop
+returns-2 c =
+    let i = c .before .loop in
+    let e : i .k ≡ 5 = omega arith in
+    sym (rw e at (i .inv .1))
+
+pub dimensions-ok-spec : {M : Type 1} → statement M
+dimensions-ok-spec =
+    tie.close
+    (tie.spec
+    Inv-loop
+    μ-loop
+    loop-holds
+    dimension-at-ok-requires
+    returns
+    add-k
+    loop-less
+    loop-again
+    returns-2)

@@ -1,0 +1,3 @@
+pub mod Layouts
+pub mod Views
+pub mod Laws
