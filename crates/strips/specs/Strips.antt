@@ -7,9 +7,12 @@ use lib.ListN.{length, replicate}
 use Rattle.numbers.specs.Choice.{pick, both, between}
 use Rattle.numbers.specs.All.{all}
 use Rattle.numbers.specs.Lists.{line}
+use Rattle.numbers.specs.First.{firstFrom}
 use Rattle.numbers.specs.Little
 use Rattle.kinds.specs.Widths.{width, bytesOf, fits}
 use Rattle.kinds.specs.Values.{negative, taken, value}
+use Rattle.kinds.specs.Interpretations.{interpretationOk}
+use Rattle.kinds.specs.Sums.{sumZ}
 use Rattle.refusals.specs.Refusals.{indexTooLarge, outsideUndefined, byteTwice, refusalAt}
 use Rattle.refusals.specs.declared.Refusal.{Refusal}
 use Rattle.sheet.specs.Sizes
@@ -29,6 +32,11 @@ use Rattle.combines.specs.Combining
 use Rattle.registers.specs.Grids
 use Rattle.reduces.specs.Reducing
 use Rattle.reduces.specs.Shapes as shapes
+use Rattle.vectors.specs.Places
+use Rattle.vectors.specs.Refusals as vectors
+use Rattle.vectors.specs.Saturation
+use Rattle.vectors.specs.Components
+use Rattle.vectors.specs.Results
 use Rattle.addressing.specs.Rules
 use Rattle.accesses.specs.Refusals as accesses
 use Rattle.transfers.specs.Transfers.{transferred}
@@ -79,8 +87,11 @@ long x = word x ++ 0 ∷ 0 ∷ []
 field : ℕ → List ℕ → List ℕ
 field tag content = tag ∷ length content ∷ 0 ∷ content
 
+editionOf : ℕ → List ℕ
+editionOf number = field 0x01 (number ∷ [])
+
 edition : List ℕ
-edition = field 0x01 (1 ∷ [])
+edition = editionOf 1
 
 -- a layout of a clamp mode, a clamp value and dimensions
 layout : ℕ → ℕ → List (List ℕ) → List ℕ
@@ -109,6 +120,10 @@ load layout view base = field 0x21 (1 ∷ 0 ∷ layout ∷ view ∷ long base)
 -- a register stored by layout 0, no view, base 0
 store : ℕ → List ℕ
 store register = field 0x22 (register ∷ 0 ∷ 255 ∷ long 0)
+
+-- a vector step: result, its kind, input, interpretation, matrix, M, K and memory layout; stride, offset, bias and its offset
+vector : List ℕ → ℕ → ℕ → ℕ → ℕ → List ℕ
+vector operands stride offset bias at = field 0x26 (operands ++ word stride ++ long offset ++ bias ∷ long at)
 
 -- the modes
 Undefined : ℕ
@@ -160,6 +175,21 @@ edgeStrip layouts wanted = loadStrip layouts [] 255 1 8 8 wanted
 plain : ℕ → ℕ → List ℕ
 plain n stride = layout Undefined 0 (dimension 1 n stride 0 n ∷ [])
 
+-- six pixels, and two bytes that are not read; 4 by 6 weights of s8, a column a line; 3 by 4 weights of s16, a row a line; three biases
+network : List ℕ
+network =
+    10 ∷ 200 ∷ 30 ∷ 0 ∷ 255 ∷ 5 ∷ 238 ∷ 238
+    ∷ 1 ∷ 255 ∷ 0 ∷ 1
+    ∷ 0 ∷ 1 ∷ 255 ∷ 0
+    ∷ 0 ∷ 0 ∷ 2 ∷ 1
+    ∷ 0 ∷ 0 ∷ 5 ∷ 1
+    ∷ 1 ∷ 0 ∷ 0 ∷ 0
+    ∷ 0 ∷ 2 ∷ 0 ∷ 252
+    ∷ 2 ∷ 0 ∷ 255 ∷ 255 ∷ 7 ∷ 0 ∷ 10 ∷ 0
+    ∷ 255 ∷ 255 ∷ 1 ∷ 0 ∷ 3 ∷ 0 ∷ 1 ∷ 0
+    ∷ 44 ∷ 1 ∷ 212 ∷ 254 ∷ 1 ∷ 0 ∷ 24 ∷ 252
+    ∷ 246 ∷ 255 ∷ 255 ∷ 255 ∷ 232 ∷ 3 ∷ 0 ∷ 0 ∷ 244 ∷ 1 ∷ 0 ∷ 0 ∷ []
+
 pub strips : List Strip
 strips =
     -- 1: Constant 9
@@ -200,9 +230,21 @@ strips =
     }
     -- beside document 01's: blocks of 2, each coordinate divided and rounded down
     ∷ loadStrip (layout Undefined 0 (dimension 2 8 1 0 8 ∷ [])) [] 255 1 8 8 (accepted (0 ∷ 0 ∷ 1 ∷ 1 ∷ 2 ∷ 2 ∷ 3 ∷ 3 ∷ []))
+    -- document 02's T-01: a network of two layers, worked by hand in strips/13-two-layer-network
+    ∷ record {
+      sheet =
+          editionOf 2 ++ layout Undefined 0 (dimension 1 3 1 0 3 ∷ [])
+          ++ field 0x20 (0 ∷ 2 ∷ 1 ∷ 4 ∷ long 0)
+          ++ field 0x21 (0 ∷ 255 ∷ 0 ∷ 255 ∷ long 0)
+          ++ vector (1 ∷ 5 ∷ 0 ∷ 9 ∷ 1 ∷ 4 ∷ 6 ∷ 1 ∷ []) 4 8 0 0
+          ++ vector (2 ∷ 5 ∷ 1 ∷ 0 ∷ 3 ∷ 3 ∷ 4 ∷ 0 ∷ []) 8 32 1 56;
+      memory = network;
+      question = elements 2 3;
+      wanted = accepted (500 ∷ 965 ∷ 4294964296 ∷ []);
+    }
     ∷ []
 
 -- each strip gives what is wanted
 pub strips-right : map found strips ≡ map (λ (s : Strip). s .wanted) strips
-unfolding strips word long field edition layout dimension view fill load store Undefined Constant ClampToEdge Repeat MirrorRepeat countingFrom counting loadStrip storeStrip edged edgeStrip plain pick both between all line Little.u16At Little.u32At width bytesOf fits elementAt withElement Editions.tagKnown Editions.limits Editions.fillLength Sizes.offsetOk Codes.clampMode Codes.reduceMode Codes.combineOf Codes.objectOf Codes.viewingOf Layouts.noLayout Layouts.dimensionOk Layouts.dimensionUnused Layouts.dimensionAtOk Layouts.layoutOk Layouts.layoutUnused Views.noView Views.fresh Views.entryOk Views.viewDimensionUnused Views.viewDimensionAtOk Views.sizedRank Views.viewOk Views.clipUnused Views.viewUnused model.fillOk model.windowOk model.loadOk model.storeOk model.reduceOk model.transposeOk model.multiplyOk Sheets.noTensors Sheets.emptySheet Fields.fieldAt Contents.dimensionAt Contents.dimensionsAt Contents.layoutAt Contents.layoutLengthOk Contents.layoutHeadOk Contents.permutationAt Contents.viewDimensionAt Contents.viewDimensionsAt Contents.clipAt Contents.viewOf Contents.viewAt Contents.viewLengthOk Contents.viewHeadOk stepContents.fillAt stepContents.windowAt stepContents.loadAt stepContents.storeAt stepContents.reduceAt stepContents.transposeAt stepContents.multiplyAt stepContents.stepAt stepContents.stepLength Reading.layoutMayCome Reading.viewMayCome Reading.stepMayCome Reading.editionRefusal Reading.layoutRefusal Reading.viewRefusal Reading.stepRefusal Reading.fieldRefusal Reading.withField Reading.refusedRead Reading.acceptedRead Reading.endRead Reading.turnField Reading.turn Reading.afterTurn Reading.readFrom Reading.readSheet emptyRegisters Combining.folded Rules.outsideClip Rules.outsideView Rules.indexed Rules.rowMajor Rules.viewSizes Rules.viewStrides Rules.coordinates Rules.viewCoordinates Rules.weighted Rules.viewIndex Rules.spanCoordinates value taken negative Rules.turnedBack Rules.mirrored Rules.outside Rules.clamped Rules.part Rules.tensorIndex Rules.addressed Rules.reached Rules.located accesses.elementOutcome accesses.otherRank accesses.blocksOne accesses.storeBlocked accesses.firstRefused accesses.meets accesses.clashFrom accesses.clashRefusal accesses.elementsRefusal accesses.accessRefusal accesses.placedCount accesses.checkedElements Grids.blank Grids.block Reducing.reduced shapes.reduceRefusal transferred checks.accessCheck checks.checkedStep steps.withObject steps.loadDone steps.storeDone steps.performedStep checkedFrom checked checkedSheet performedFrom performed carried carriedMemory
+unfolding strips word long field editionOf edition layout dimension view fill load store vector network Undefined Constant ClampToEdge Repeat MirrorRepeat countingFrom counting loadStrip storeStrip edged edgeStrip plain pick both between all line Little.u16At Little.u32At width bytesOf fits elementAt withElement Editions.tagKnown Editions.limits Editions.fillLength Sizes.offsetOk Codes.clampMode Codes.reduceMode Codes.combineOf Codes.memoryLayout Codes.objectOf Codes.viewingOf Layouts.noLayout Layouts.dimensionOk Layouts.dimensionUnused Layouts.dimensionAtOk Layouts.layoutOk Layouts.layoutUnused Views.noView Views.fresh Views.entryOk Views.viewDimensionUnused Views.viewDimensionAtOk Views.sizedRank Views.viewOk Views.clipUnused Views.viewUnused model.fillOk model.windowOk model.loadOk model.storeOk model.reduceOk model.transposeOk model.multiplyOk model.biasOk model.vectorOk interpretationOk Sheets.noTensors Sheets.emptySheet Fields.fieldAt Contents.dimensionAt Contents.dimensionsAt Contents.layoutAt Contents.layoutLengthOk Contents.layoutHeadOk Contents.permutationAt Contents.viewDimensionAt Contents.viewDimensionsAt Contents.clipAt Contents.viewOf Contents.viewAt Contents.viewLengthOk Contents.viewHeadOk stepContents.fillAt stepContents.windowAt stepContents.loadAt stepContents.storeAt stepContents.reduceAt stepContents.transposeAt stepContents.multiplyAt stepContents.vectorNumbers stepContents.vectorAt stepContents.stepAt stepContents.stepLength Reading.layoutMayCome Reading.viewMayCome Reading.stepMayCome Reading.editionRefusal Reading.layoutRefusal Reading.viewRefusal Reading.stepRefusal Reading.fieldRefusal Reading.withField Reading.refusedRead Reading.acceptedRead Reading.endRead Reading.turnField Reading.turn Reading.afterTurn Reading.readFrom Reading.readSheet emptyRegisters Combining.folded Rules.outsideClip Rules.outsideView Rules.indexed Rules.rowMajor Rules.viewSizes Rules.viewStrides Rules.coordinates Rules.viewCoordinates Rules.weighted Rules.viewIndex Rules.spanCoordinates value taken negative Rules.turnedBack Rules.mirrored Rules.outside Rules.clamped Rules.part Rules.tensorIndex Rules.addressed Rules.reached Rules.located accesses.elementOutcome accesses.otherRank accesses.blocksOne accesses.storeBlocked accesses.firstRefused accesses.meets accesses.clashFrom accesses.clashRefusal accesses.elementsRefusal accesses.accessRefusal accesses.placedCount accesses.checkedElements Grids.blank Grids.block Reducing.reduced shapes.reduceRefusal firstFrom sumZ Places.rowStep Places.columnStep Places.elementsOf Places.endOf vectors.inputAgrees vectors.memoryRefusal vectors.vectorRefusal Saturation.below Saturation.above Saturation.saturated Components.packedKind Components.componentAt Results.biasAt Results.resultAt transferred checks.accessCheck checks.checkedStep steps.withObject steps.loadDone steps.storeDone steps.performedStep checkedFrom checked checkedSheet performedFrom performed carried carriedMemory
 strips-right = refl
