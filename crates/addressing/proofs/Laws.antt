@@ -1,16 +1,14 @@
 -- Laws of the rules' definitions.
-use Prim.Native.Nat.{ℕ, zero, suc, _+_, _-_, _*_, _/_, _%_, _^_, _<_, _≤_, zero-le}
+use Prim.Native.Nat.{ℕ, zero, suc, _+_, _-_, _*_, _/_, _%_, _^_, _<_, _≤_}
 use mathlib.Core.Path.{_≡_, refl, sym, ap, _∙_}
 use mathlib.Core.Bool.{Bool, true, false, true≢false}
-use mathlib.Core.Logic.{_⊎_, ⊎-elim}
-use native.Mathlib.Nat.{mul-le-mul, pow-suc, pow-le-pow-right, le-trans, not-suc-le-zero, div-le-self, div-add-mod', zero-mul, suc-mul}
-use native.Mathlib.Numerals.{add-one}
+use native.Mathlib.Nat.{mul-le-mul, not-suc-le-zero, div-le-self, div-add-mod', zero-mul, suc-mul}
 use native.Mathlib.Omega.{arith}
-use lib.Dec.{ltb, leb, eqb, lit<, lit≤}
+use lib.Dec.{ltb, leb, eqb}
 use lib.IntN.{ℤ, pos, negsuc, _+ℤ_}
-use lib.ListN.{getD, set}
-use mathlib.Core.List.{List, [], _∷_}
-use borrow.Author.Tests.{lt-ltb, le-ltb, le-leb, lt-leb, ltb-false, leb-true, leb-false, eqb-false}
+use lib.ListN.{getD}
+use mathlib.Core.List.{List}
+use borrow.Author.Tests.{le-leb, lt-leb, ltb-false, leb-true, leb-false, eqb-false}
 use Rattle.refusals.specs.Refusals.{indexTooLarge}
 use Rattle.numbers.specs.Choice.{pick}
 use Rattle.numbers.specs.Laws.Choice.{pick-case}
@@ -31,8 +29,11 @@ use Rattle.addressing.specs.declared.Access.{Access}
 use Rattle.addressing.specs.declared.Clamped.{Clamped}
 use Rattle.addressing.specs.declared.Clamped.the-variants.{Refused, Discarded, Filled, At}
 use Rattle.sheet.specs.Sizes.{rankPlaces, matrixPlaces, sizeLimit}
-use Rattle.addressing.specs.Plans.{dimensionNumbers, layoutNumbers, dimensionIn, sizesOf, stridesOf, planned}
-use Rattle.addressing.specs.Rules.{outsideClip, outsideView, clipWidth, five, rowMajor, viewSizes, viewStrides, coordinates, twos, turnedBack, mirrored, onLoad, onStore, outside, clamped, scaled, part, tensorIndex, spanOf, spanCoordinates, refused, settled, reached}
+use Rattle.view_indices.specs.Plans.{sizesOf, stridesOf}
+use Rattle.view_indices.specs.Laws.Indices.{five-at}
+use Rattle.addressing.specs.Plans.{dimensionNumbers, layoutNumbers, dimensionIn, planned}
+use Rattle.view_indices.specs.Indices.{viewSizes, viewStrides, spanOf}
+use Rattle.addressing.specs.Rules.{outsideClip, outsideView, clipWidth, twos, turnedBack, mirrored, onLoad, onStore, outside, clamped, scaled, part, tensorIndex, spanCoordinates, refused, settled, reached}
 
 -- Rule 1: inside the clip the offset can be subtracted
 pub clip-low : (c : Clip) (x : ℕ) → outsideClip c x ≡ false → c .offset ≤ x
@@ -66,67 +67,6 @@ column-few k n = omega (arith, div-add-mod' k n)
 pub columns-few : (rows n k : ℕ) → k < rows * n → n ≤ rows * n
 columns-few zero n k h = absurd (not-suc-le-zero (rw zero-mul at h))
 columns-few (suc rows) n k h = rw (suc-mul rows n) (omega arith)
-
--- Rule 2: the row-major stride of dimension i of n
-module _ (span : ℕ → ℕ) (i : ℕ) where
-  pub row-major-past : (n : ℕ) → n ≤ i + 1 → rowMajor span n i ≡ 1
-  unfolding rowMajor pick
-  row-major-past zero h = refl
-  row-major-past (suc n) h = let l : n ≤ i = omega arith in rw (le-ltb i n l)
-
-  pub row-major-more : (n : ℕ) → i < n → rowMajor span (n + 1) i ≡ rowMajor span n i * span n
-  unfolding rowMajor pick
-  row-major-more n h = rw (add-one, lt-ltb i n h)
-
-  -- a loop that went over the dimensions after i, up to j
-  pub row-major-end : (n j : ℕ) → n ≤ j → ((j ≤ n) ⊎ (j ≡ i + 1)) → rowMajor span j i ≡ rowMajor span n i
-  row-major-end n j h w =
-      ⊎-elim (λ l. let e : j ≡ n = omega arith in rw e)
-      (λ e. row-major-past j (omega arith) ∙ sym (row-major-past n (omega arith))) w
-
-  row-major-le : (n : ℕ) → ((k : ℕ) → k < suc n → span k ≤ sizeLimit) → rowMajor span (suc n) i ≤ sizeLimit ^ n
-  unfolding rowMajor
-  row-major-le zero h = pick-case (λ (x : ℕ). x ≤ 1) (ltb i 0) _ _ (λ t. absurd (true≢false (sym t ∙ le-ltb i 0 zero-le))) (λ t. lit≤ tt)
-  row-major-le (suc n) h =
-      pick-case (λ (x : ℕ). x ≤ sizeLimit ^ suc n) (ltb i (suc n)) _ _
-      (λ t. rw pow-suc (mul-le-mul (row-major-le n (λ k l. h k (omega arith))) (h (suc n) (omega arith))))
-      (λ t. pow-le-pow-right {n = sizeLimit} (lit< tt) {i = 0} {j = suc n} zero-le)
-
-  -- of at most five dimensions
-  pub row-major-most : (n : ℕ) → 0 < n → n ≤ rankPlaces → ((k : ℕ) → k < n → span k ≤ sizeLimit) → rowMajor span n i ≤ sizeLimit ^ 4
-  row-major-most zero p m h = absurd (not-suc-le-zero p)
-  row-major-most (suc n) p m h = le-trans (row-major-le n h) (pow-le-pow-right {n = sizeLimit} (lit< tt) {i = n} {j = 4} (omega arith))
-
--- each of five numbers is at most m
-pub five-most : (m : ℕ) {a b c d e : ℕ} → a ≤ m → b ≤ m → c ≤ m → d ≤ m → e ≤ m → (i : ℕ) → getD (a ∷ b ∷ c ∷ d ∷ e ∷ []) i 0 ≤ m
-five-most m p q r s t zero = p
-five-most m p q r s t (suc zero) = q
-five-most m p q r s t (suc (suc zero)) = r
-five-most m p q r s t (suc (suc (suc zero))) = s
-five-most m p q r s t (suc (suc (suc (suc zero)))) = t
-five-most m p q r s t (suc (suc (suc (suc (suc i))))) = zero-le
-
-pub five-at : (g : ℕ → ℕ) (i : ℕ) → i < rankPlaces → getD (five g) i 0 ≡ g i
-five-at g zero h = refl
-five-at g (suc zero) h = refl
-five-at g (suc (suc zero)) h = refl
-five-at g (suc (suc (suc zero))) h = refl
-five-at g (suc (suc (suc (suc zero)))) h = refl
-five-at g (suc (suc (suc (suc (suc i))))) h = absurd (omega arith)
-
--- Rules 2 and 3: a loop from dimension k - 1 on, and its end
-module _ (place size : ℕ → ℕ) where
-  pub coordinates-more : (k index : ℕ) (cs : List ℕ) → 0 < k
-      → coordinates place size (k - 1) (index / size (place (k - 1))) (set cs (place (k - 1)) (index % size (place (k - 1))))
-      ≡ coordinates place size k index cs
-  unfolding coordinates
-  coordinates-more zero index cs h = absurd (not-suc-le-zero h)
-  coordinates-more (suc k) index cs h = let e : suc k - 1 ≡ k = omega arith in rw e refl
-
-  pub coordinates-end : (k index : ℕ) (cs : List ℕ) → k ≤ 0 → cs ≡ coordinates place size k index cs
-  unfolding coordinates
-  coordinates-end zero index cs h = refl
-  coordinates-end (suc k) index cs h = absurd (not-suc-le-zero h)
 
 -- Rule 4: a coordinate that is there is below n
 abbrev Under : ℕ → Clamped → Type 0
@@ -177,6 +117,11 @@ pub part-is : (load : Bool) (mode : ClampMode) (d : Dimension) (s : ℕ) {x : Cl
     → clamped load mode (pos s +ℤ twos (d .offset)) (d .size) ≡ x → scaled d x ≡ part load mode d s
 unfolding part
 part-is load mode d s e = rw e
+
+-- the same by what its calls give: the offset and the dimension as wider numbers, the sum, and the sum clamped
+pub part-told : (load : Bool) (mode : ClampMode) (d : Dimension) (s : ℕ) {offset n : ℕ} {c : ℤ} {r x : Clamped}
+    → offset ≡ d .offset → c ≡ pos s +ℤ twos offset → n ≡ d .size → r ≡ clamped load mode c n → r ≡ x → scaled d x ≡ part load mode d s
+part-told load mode d s {x = x} e f g h i = part-is load mode d s {x = x} (rw (← e, ← f, ← g) (sym h ∙ i))
 
 pub scaled-le : {x n stride : ℕ} (block : ℕ) → x < n → n ≤ sizeLimit → stride < 65536 → x / block * stride ≤ 268435456
 scaled-le {x} block h m t = mul-le-mul {n₂ = sizeLimit} {m₂ = 65536} (omega (arith, div-le-self x block)) (omega arith)

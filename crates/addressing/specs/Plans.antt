@@ -1,20 +1,18 @@
 -- What the code finds out once for all elements of an access, and how it holds the numbers of the rules.
 use Prim.Native.Nat.{ℕ, _+_, _*_}
-use mathlib.Core.Bool.{Bool}
 use mathlib.Core.List.{List}
 use lib.ListN.{getD, set, replicate}
 use lib.IntN.{ℤ, pos, negsuc}
-use Rattle.numbers.specs.Choice.{pick}
 use Rattle.tensor_ranges.specs.Layouts.{theDimension}
 use Rattle.sheet.specs.declared.Dimension.{Dimension}
 use Rattle.sheet.specs.declared.Layout.{Layout}
-use Rattle.sheet.specs.declared.View.{View}
 use Rattle.addressing.specs.declared.Access.{Access}
 use Rattle.addressing.specs.declared.Plan.{Plan}
 use Rattle.addressing.specs.declared.Coordinate.{Coordinate}
 use Rattle.addressing.specs.declared.Coordinate.the-variants.{Below, At}
 use Rattle.sheet.specs.Sizes.{rankPlaces}
-use Rattle.addressing.specs.Rules.{elementsOf, clipWidth, lowBits, viewSizes, viewStrides}
+use Rattle.view_indices.specs.Plans.{sizesOf, stridesOf}
+use Rattle.addressing.specs.Rules.{elementsOf, clipWidth, lowBits}
 
 -- the integer that a coordinate of the code stands for
 abbrev pub integer : Coordinate → ℤ
@@ -47,13 +45,6 @@ dimensionPut l ns d = withDimension ns (dimensionNumbers * d) (theDimension (l .
 unfoldable pub layoutNumbers : Layout → List ℕ
 layoutNumbers l =
     dimensionPut l (dimensionPut l (dimensionPut l (dimensionPut l (dimensionPut l (replicate (rankPlaces * dimensionNumbers) 0) 0) 1) 2) 3) 4
-
--- rule 2's sizes and strides: zeros without a view
-unfoldable pub sizesOf : Bool → Layout → View → List ℕ
-sizesOf viewed l v = pick viewed (viewSizes l v) (replicate rankPlaces 0)
-
-unfoldable pub stridesOf : Bool → Layout → View → List ℕ
-stridesOf viewed l v = pick viewed (viewStrides l v) (replicate rankPlaces 0)
 
 -- what the elements of an access share
 unfoldable pub planned : Access → Plan

@@ -4,9 +4,9 @@ ghost use Prim.Native.Nat.{_≤_, _<_};
 ghost use mathlib.Core.Bool.{false};
 ghost use Rattle.sheet.specs.Sizes.{matrixPlaces};
 ghost use Rattle.addressing.specs.Rules.{outsideClip, outsideView, clipIndex};
-use super::wide;
 use sheet::Clip;
 use sheet::View;
+use view_indices::wide;
 
 fn outside_clip(c: Clip, x: u32) -> bool
     ensures { λ r. ⌜ r ≡ outsideClip c x ⌝ }

@@ -9,7 +9,6 @@ ghost use Rattle.addressing.specs.Valid.{ValidAccess, Planned};
 pub mod clamps;
 pub mod clips;
 pub mod tensors;
-pub mod views;
 
 use outcomes::Outcome;
 use refusals::INDEX_TOO_LARGE;
@@ -19,6 +18,7 @@ use sheet::Layout;
 use sheet::View;
 use sheet::sizes::RANK;
 use tensors::LAYOUT_NUMBERS;
+use view_indices::wide;
 
 // 2 to the 32nd, from which on an index gets 12.
 const INDEX_LIMIT: u64 = 4294967296;
@@ -54,12 +54,6 @@ pub enum Indexed {
     Index(u64),
 }
 
-// A number's remainder and quotient by another.
-pub struct Division {
-    pub rest: u32,
-    pub quotient: u32,
-}
-
 // An integer: At(a) is a, Below(a) is -1-a.
 pub enum Coordinate {
     Below(u32),
@@ -78,13 +72,6 @@ pub enum Clamped {
 pub struct Located {
     pub refusal: u8,
     pub outcome: Outcome,
-}
-
-// A 16-bit number as a wider one.
-fn wide(x: u16) -> u32
-    ensures { λ r. ⌜ (r ≡ x) × (r < 65536) ⌝ }
-{
-    x as u32
 }
 
 fn smaller(a: u32, b: u32) -> u32
@@ -116,8 +103,8 @@ pub fn plan_of(a: Access) -> Plan
     let v = a.view;
     let clip = v.columns;
     let count = (a.rows * a.columns) as usize;
-    let sizes = views::sizes_of(a.viewed, l, v);
-    let strides = views::strides_of(a.viewed, l, v);
+    let sizes = view_indices::sizes_of(a.viewed, l, v);
+    let strides = view_indices::strides_of(a.viewed, l, v);
     let numbers = tensors::layout_numbers(l);
     Plan {
         access: a,
@@ -162,23 +149,6 @@ fn address(a: Access, t: u32) -> Located
     }
 }
 
-// A quotient of 0 needs no division, which is the slowest part of an element.
-fn divide(x: u32, size: u32) -> Division
-    requires { ⌜ 0 < size ⌝ }
-    ensures { λ r. ⌜ (r .rest ≡ x % size) × (r .quotient ≡ x / size) ⌝ }
-{
-    if x < size {
-        return Division {
-            rest: x,
-            quotient: 0,
-        };
-    }
-    Division {
-        rest: x % size,
-        quotient: x / size,
-    }
-}
-
 // Refusal 12, then rules 3 to 5.
 fn reach(a: Access, numbers: &[u16; LAYOUT_NUMBERS], fill: u32, index: u64) -> Located
     requires { ⌜ ValidAccess a × (fill ≡ lowBits a) × (now numbers ≡ layoutNumbers (a .layout)) ⌝ }
@@ -217,7 +187,7 @@ fn index_of(
         return Indexed::Skipped;
     }
     let index = clips::clip_index(v, p.width, row, col);
-    Indexed::Index(views::view_index(v, permutation, sizes, strides, index))
+    Indexed::Index(view_indices::view_index(v, permutation, sizes, strides, index))
 }
 
 // Rules 1 to 5: element number k. The arrays are the plan's and its view's, lent so that they are not copied for each element.

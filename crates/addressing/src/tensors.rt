@@ -10,12 +10,12 @@ ghost use Rattle.addressing.specs.Rules.{spanCoordinates, part, tensorIn
 ghost use Rattle.addressing.specs.Valid.{AtMost};
 use super::Clamped;
 use super::clamps;
-use super::divide;
-use super::wide;
 use sheet::ClampMode;
 use sheet::Dimension;
 use sheet::Layout;
 use sheet::sizes::RANK;
+use view_indices::divide;
+use view_indices::wide;
 
 // Block size, dimension, stride, offset, span.
 const DIMENSION_NUMBERS: usize = 5;

@@ -1,7 +1,7 @@
 use Rattle.addressing.proofs.Laws.{reached-far, reached-is}
 use Rattle.addressing.specs.declared.Clamped.the-variants.{Refused, Discarded, Filled, At}
 use Rattle.sheet.specs.Sizes.{rankPlaces}
-use mathlib.Core.Path.{_∙_}
+use mathlib.Core.Path.{sym, _∙_}
 use Prim.Native.Nat.{_≤_, _*_, _^_}
 use borrow.Author.Needs.{needs}
 use Rattle.addressing.proofs.reach.Statement.{statement}
@@ -45,16 +45,16 @@ address-requires c κs = let m : c .before .t .given .0 .0 ≤ rankPlaces * 2 ^ 
     (c .before .before .before .before .before .pre .0, m)
 
 returns-2 : tie.Need-returns-2
-returns-2 c = c .refuse2 .ensures ∙ reached-is _ _ Refused (search needs) (cc)
+returns-2 c = c .refuse2 .ensures ∙ reached-is _ _ Refused (search needs) (sym (c .before .before .before .tensor-index .ensures .0) ∙ c .before .enum-told .given .1)
 
 returns-3 : tie.Need-returns-3
-returns-3 c = c .answer .ensures ∙ reached-is _ _ Discarded (search needs) (cc)
+returns-3 c = c .answer .ensures ∙ reached-is _ _ Discarded (search needs) (sym (c .before .before .before .tensor-index .ensures .0) ∙ c .before .enum-told2 .given .1)
 
 returns-4 : tie.Need-returns-4
-returns-4 c = c .answer2 .ensures ∙ rw (c .before .before .before .before .before .pre .1) (reached-is _ _ Filled (search needs) (cc))
+returns-4 c = c .answer2 .ensures ∙ rw (c .before .before .before .before .before .pre .1) (reached-is _ _ Filled (search needs) (sym (c .before .before .before .tensor-index .ensures .0) ∙ c .before .enum-told3 .given .1))
 
 returns-5 : tie.Need-returns-5
-returns-5 c = c .address .ensures ∙ reached-is _ _ (At (c .before .before .t .given .0 .0)) (search needs) (cc)
+returns-5 c = c .address .ensures ∙ reached-is _ _ (At (c .before .before .t .given .0 .0)) (search needs) (sym (c .before .before .before .before .tensor-index .ensures .0) ∙ c .before .before .t .given .1)
 
 pub reach-spec : {M : Type 1} → statement M
 reach-spec =

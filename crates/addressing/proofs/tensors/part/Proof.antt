@@ -1,5 +1,4 @@
-use Rattle.addressing.proofs.Laws.{clamped-lt, part-is, scaled-le}
-use Rattle.addressing.specs.declared.Clamped.the-variants.{Refused, Discarded, Filled, At}
+use Rattle.addressing.proofs.Laws.{clamped-lt, part-told, scaled-le}
 use mathlib.Core.Path.{sym, _∙_}
 use native.Mathlib.Omega.{arith}
 use borrow.Author.Needs.{needs}
@@ -48,17 +47,17 @@ mul-t13 c = rw (c .before .block-of .ensures)
     ))
 
 returns : tie.Need-returns
-returns c = (part-is _ _ _ _ {x = Refused} (cc), tt)
+returns c = let k = c .before .before in (part-told _ _ _ _ (k .before .before .before .wide .ensures .0) (k .before .before .shifted .ensures) (k .before .wide2 .ensures .0) (k .clamp .ensures) (c .enum-told .given .1), tt)
 
 returns-2 : tie.Need-returns-2
-returns-2 c = (part-is _ _ _ _ {x = Discarded} (cc), tt)
+returns-2 c = let k = c .before .before in (part-told _ _ _ _ (k .before .before .before .wide .ensures .0) (k .before .before .shifted .ensures) (k .before .wide2 .ensures .0) (k .clamp .ensures) (c .enum-told2 .given .1), tt)
 
 returns-3 : tie.Need-returns-3
-returns-3 c = (part-is _ _ _ _ {x = Filled} (cc), tt)
+returns-3 c = let k = c .before .before in (part-told _ _ _ _ (k .before .before .before .wide .ensures .0) (k .before .before .shifted .ensures) (k .before .wide2 .ensures .0) (k .clamp .ensures) (c .enum-told3 .given .1), tt)
 
 returns-4 : tie.Need-returns-4
 returns-4 c = rw (c .before .block-of .ensures) (
-  rw (c .before .before .wide3 .ensures .0, c .wide4 .ensures .0) (part-is _ _ _ _ {x = At (c .before .before .before .before .x .given .0 .0)} (cc)),
+  rw (c .before .before .wide3 .ensures .0, c .wide4 .ensures .0) (let k = c .before .before .before .before .before .before in part-told _ _ _ _ (k .before .before .before .wide .ensures .0) (k .before .before .shifted .ensures) (k .before .wide2 .ensures .0) (k .clamp .ensures) (c .before .before .before .before .x .given .1)),
   scaled-le (c .before .before .wide3 .result)
       (clamped-lt _ _ _ (c .before .before .before .before .before .before .before .wide2 .result) (omega arith) (sym (c .before .before .before .before .before .before .clamp .ensures) ∙ c .before .before .before .before .x .given .1)) (omega arith) (c .wide4 .ensures .1),
 )

@@ -1,19 +1,47 @@
-// Rule 2.
+// Rule 2: an index through a view (document 01, "Where an element goes").
 ghost use mathlib.Core.Path.{_≡_};
 ghost use mathlib.Core.Bool.{true};
-ghost use Prim.Native.Nat.{ℕ, _^_, _≤_, _<_};
+ghost use Prim.Native.Nat.{ℕ, _/_, _%_, _^_, _≤_, _<_};
 ghost use lib.ListN.{getD};
 ghost use Rattle.tensor_ranges.specs.Layouts.{layoutOk};
 ghost use Rattle.tensor_ranges.specs.Views.{theViewDimension, viewOk};
 ghost use Rattle.tensor_ranges.specs.Laws.Facts.{InSize};
 ghost use Rattle.sheet.specs.Sizes.{rankPlaces, sizeLimit};
-ghost use Rattle.addressing.specs.Plans.{sizesOf, stridesOf};
-ghost use Rattle.addressing.specs.Rules.{five, spanOf, rowMajor, viewSizes, viewStrides, viewIndex};
-use super::divide;
-use super::wide;
+ghost use Rattle.view_indices.specs.Plans.{sizesOf, stridesOf};
+ghost use Rattle.view_indices.specs.Indices.{five, spanOf, rowMajor, viewSizes, viewStrides, viewIndex};
 use sheet::Layout;
 use sheet::View;
 use sheet::sizes::RANK;
+
+// A number's remainder and quotient by another.
+pub struct Division {
+    pub rest: u32,
+    pub quotient: u32,
+}
+
+// A 16-bit number as a wider one.
+pub fn wide(x: u16) -> u32
+    ensures { λ r. ⌜ (r ≡ x) × (r < 65536) ⌝ }
+{
+    x as u32
+}
+
+// A quotient of 0 needs no division, which is the slowest part of an element.
+pub fn divide(x: u32, size: u32) -> Division
+    requires { ⌜ 0 < size ⌝ }
+    ensures { λ r. ⌜ (r .rest ≡ x % size) × (r .quotient ≡ x / size) ⌝ }
+{
+    if x < size {
+        return Division {
+            rest: x,
+            quotient: 0,
+        };
+    }
+    Division {
+        rest: x % size,
+        quotient: x / size,
+    }
+}
 
 fn span_at(l: Layout, k: usize) -> u32
     requires { ⌜ k < rankPlaces ⌝ }

@@ -1,14 +1,14 @@
 use Rattle.sheet.specs.Sizes.{sizeLimit}
-use Rattle.addressing.proofs.Loops.{Weighing, weighing-start, weighing-more, weighing-end, product-most}
-use Rattle.addressing.specs.Rules.{viewIndex, viewCoordinates}
+use Rattle.view_indices.proofs.Loops.{Weighing, weighing-start, weighing-more, weighing-end, product-most}
+use Rattle.view_indices.specs.Indices.{viewIndex, viewCoordinates}
 use Rattle.tensor_ranges.specs.Laws.Facts.{view-most, view-entry, view-apart}
 use lib.ListN.{getD}
 use mathlib.Core.Path.{_∙_}
 use Prim.Native.Nat.{_-_, _*_, _^_, _≤_}
 use borrow.Author.Needs.{needs}
 use native.Mathlib.Omega.{arith}
-use Rattle.addressing.proofs.views.view_index.Statement.{statement}
-use Rattle.addressing.proofs.views.view_index.Tie as tie
+use Rattle.view_indices.proofs.view_index.Statement.{statement}
+use Rattle.view_indices.proofs.view_index.Tie as tie
 
 abbrev Inv-loop : tie.InvT-loop
 Inv-loop permutation sizes strides index sum₀ left₀ k₀ sum left k = Weighing permutation sizes strides k₀ index k left sum

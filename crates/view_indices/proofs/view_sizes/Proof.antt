@@ -1,8 +1,8 @@
 use borrow.Author.Needs.{needs}
 use Rattle.numbers.specs.Laws.Choice.{taken, left}
-use Rattle.addressing.specs.Rules.{viewSizes}
-use Rattle.addressing.proofs.views.view_sizes.Statement.{statement}
-use Rattle.addressing.proofs.views.view_sizes.Tie as tie
+use Rattle.view_indices.specs.Indices.{viewSizes}
+use Rattle.view_indices.proofs.view_sizes.Statement.{statement}
+use Rattle.view_indices.proofs.view_sizes.Tie as tie
 
 size-at-requires : tie.Need-size-at-requires
 size-at-requires c κs = search needs

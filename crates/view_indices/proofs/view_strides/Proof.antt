@@ -2,10 +2,10 @@ use Prim.Native.Nat.{_^_}
 use borrow.Author.Needs.{needs}
 use Rattle.numbers.specs.Laws.Choice.{taken, left}
 use Rattle.sheet.specs.Sizes.{sizeLimit}
-use Rattle.addressing.proofs.Laws.{five-most}
-use Rattle.addressing.specs.Rules.{viewStrides}
-use Rattle.addressing.proofs.views.view_strides.Statement.{statement}
-use Rattle.addressing.proofs.views.view_strides.Tie as tie
+use Rattle.view_indices.proofs.Laws.{five-most}
+use Rattle.view_indices.specs.Indices.{viewStrides}
+use Rattle.view_indices.proofs.view_strides.Statement.{statement}
+use Rattle.view_indices.proofs.view_strides.Tie as tie
 
 stride-at-requires : tie.Need-stride-at-requires
 stride-at-requires c κs = search needs

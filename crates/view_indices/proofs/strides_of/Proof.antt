@@ -4,9 +4,9 @@ use borrow.Author.Needs.{needs}
 use Rattle.numbers.specs.Laws.Choice.{taken, left}
 use Rattle.numbers.specs.Laws.Places.{none-all}
 use Rattle.sheet.specs.Sizes.{rankPlaces, sizeLimit}
-use Rattle.addressing.specs.Plans.{stridesOf}
-use Rattle.addressing.proofs.views.strides_of.Statement.{statement}
-use Rattle.addressing.proofs.views.strides_of.Tie as tie
+use Rattle.view_indices.specs.Plans.{stridesOf}
+use Rattle.view_indices.proofs.strides_of.Statement.{statement}
+use Rattle.view_indices.proofs.strides_of.Tie as tie
 
 view-strides-requires : tie.Need-view-strides-requires
 view-strides-requires c κs = search needs

@@ -1,8 +1,8 @@
 use native.Mathlib.Nat.{mod-eq-of-lt, div-eq-of-lt}
 use mathlib.Core.Path.{sym}
 use borrow.Author.Needs.{needs}
-use Rattle.addressing.proofs.divide.Statement.{statement}
-use Rattle.addressing.proofs.divide.Tie as tie
+use Rattle.view_indices.proofs.divide.Statement.{statement}
+use Rattle.view_indices.proofs.divide.Tie as tie
 
 returns : tie.Need-returns
 returns c = let h = c .if1 .taken in (sym (mod-eq-of-lt h), sym (div-eq-of-lt h))

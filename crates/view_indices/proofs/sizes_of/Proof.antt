@@ -1,9 +1,9 @@
 use mathlib.Core.Path.{refl}
 use borrow.Author.Needs.{needs}
 use Rattle.numbers.specs.Laws.Choice.{taken, left}
-use Rattle.addressing.specs.Plans.{sizesOf}
-use Rattle.addressing.proofs.views.sizes_of.Statement.{statement}
-use Rattle.addressing.proofs.views.sizes_of.Tie as tie
+use Rattle.view_indices.specs.Plans.{sizesOf}
+use Rattle.view_indices.proofs.sizes_of.Statement.{statement}
+use Rattle.view_indices.proofs.sizes_of.Tie as tie
 
 view-sizes-requires : tie.Need-view-sizes-requires
 view-sizes-requires c κs = search needs

@@ -5,10 +5,10 @@ use native.Mathlib.Nat.{mul-le-mul, le-refl}
 use native.Mathlib.Omega.{arith}
 use borrow.Author.Needs.{needs}
 use Rattle.tensor_ranges.specs.Laws.Facts.{layout-some, layout-most, layout-span}
-use Rattle.addressing.proofs.Laws.{row-major-past, row-major-more, row-major-end, row-major-most}
-use Rattle.addressing.specs.Rules.{rowMajor, spanOf}
-use Rattle.addressing.proofs.views.row_major.Statement.{statement}
-use Rattle.addressing.proofs.views.row_major.Tie as tie
+use Rattle.view_indices.proofs.Laws.{row-major-past, row-major-more, row-major-end, row-major-most}
+use Rattle.view_indices.specs.Indices.{rowMajor, spanOf}
+use Rattle.view_indices.proofs.row_major.Statement.{statement}
+use Rattle.view_indices.proofs.row_major.Tie as tie
 
 abbrev Inv-loop : tie.InvT-loop
 Inv-loop l i rank product₀ j₀ product j = (i < j) × ((j ≤ l .rank) ⊎ (j ≡ i + 1)) × (product ≡ rowMajor (spanOf l) j i)

@@ -1,0 +1,3 @@
+pub mod Indices
+pub mod Plans
+pub mod Laws
