@@ -1,7 +1,7 @@
 use denote.Ref.{now}
 use lib.ListN.{length}
 use mathlib.Core.Path.{_≡_, refl, ap, _∙_}
-use Prim.Native.Nat.{ℕ, _+_, _-_, _≤_}
+use Prim.Native.Nat.{_-_, _≤_}
 use Rattle.numbers.specs.Orders.{inOrder}
 use Rattle.memory.specs.Laws.Elements.{length-with}
 use Rattle.counts.specs.Counts.{morePlaced}

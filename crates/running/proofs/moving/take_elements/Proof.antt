@@ -1,6 +1,6 @@
 use denote.Ref.{now}
 use mathlib.Core.Path.{_≡_}
-use Prim.Native.Nat.{ℕ, _+_, _-_, _≤_}
+use Prim.Native.Nat.{_-_, _≤_}
 use Rattle.numbers.specs.Orders.{inOrder}
 use Rattle.counts.specs.Counts.{morePlaced}
 use Rattle.counts.specs.declared.Counts.{Counts}
