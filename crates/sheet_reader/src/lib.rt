@@ -209,7 +209,7 @@ fn end_read(sheet: Sheet, place: usize) -> ReadAnswer
 }
 
 // The sheet that the bytes are, or the number and the place of the first refusal with an empty sheet. Each part is put in its place as
-// it is read, so that no field copies the sheet.
+// it is read, so that no field copies the sheet; a step is judged where it lies, so that it is decoded once and not copied.
 pub fn read_sheet(s: &[u8]) -> ReadAnswer
     ensures { λ r. ⌜ r ≡ readSheet (now (s .entry)) ⌝ }
 {
@@ -255,11 +255,14 @@ pub fn read_sheet(s: &[u8]) -> ReadAnswer
             tensors = more;
             continue;
         }
-        let found = step_contents::step_at(s, edition, tag, start);
+        step[count] = Cell {
+            step: step_contents::step_at(s, edition, tag, start),
+        };
+        let placed = step[count];
+        let found = placed.step;
         if !steps::step_ok(edition, given.layouts, given.views, found) {
             return refused_read(BEYOND_SIZES, at);
         }
-        step[count] = Cell { step: found };
         count += 1;
     }
     end_read(

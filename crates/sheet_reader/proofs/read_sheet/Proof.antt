@@ -2,7 +2,9 @@ use Prim.Native.Nat.{ℕ, suc, _+_, _-_, _≤_, _<_}
 use mathlib.Core.Path.{_≡_, refl, sym, ap, _∙_}
 use native.Mathlib.Omega.{arith}
 use denote.Ref.{now}
-use lib.ListN.{length}
+use lib.ListN.{length, length-set, length-replicate}
+use lib.Seq.{getD-set-same}
+use mathlib.Core.Bool.{Bool}
 use borrow.Author.Needs.{needs}
 use mathlib.Core.List.{List}
 use Rattle.numbers.specs.Choice.{pick}
@@ -10,8 +12,11 @@ use Rattle.numbers.specs.Laws.Choice.{taken, left, went-not, went-past}
 use Rattle.refusals.specs.Refusals.{beyondSizes}
 use Rattle.sheet.specs.Sizes.{stepPlaces}
 use Rattle.sheet.specs.Codes.{fillTag}
-use Rattle.sheet_ranges.specs.Steps.{stepOk}
+use Rattle.sheet_ranges.specs.Steps.{stepOk, noCell}
+use Rattle.sheet_ranges.specs.Sheets.{emptySheet}
 use Rattle.sheet.specs.declared.Sheet.{Sheet}
+use Rattle.sheet.specs.declared.Cell.{Cell}
+use Rattle.sheet.specs.declared.Step.{Step}
 use Rattle.fields.specs.Fields.{fieldAt}
 use Rattle.fields.specs.declared.Cursor.{Cursor}
 use Rattle.fields.specs.declared.Field.the-variants.{Whole}
@@ -28,7 +33,7 @@ use Rattle.sheet_reader.proofs.read_sheet.Tie as tie
 
 -- what is left to read, from a byte with the sheet so far, is the whole
 abbrev Left : List ℕ → ℕ → Sheet → Type 0
-Left s at sh = (at ≤ length s) × ((f : ℕ) × ((length s < at + f) × (readFrom f s at sh ≡ readSheet s)))
+Left s at sh = ((at ≤ length s) × (length (sh .step) ≡ stepPlaces)) × ((f : ℕ) × ((length s < at + f) × (readFrom f s at sh ≡ readSheet s)))
 
 abbrev Inv-loop : tie.InvT-loop
 Inv-loop s c₀ edition₀ tensors₀ count₀ step₀ c edition tensors count step =
@@ -41,11 +46,12 @@ empty-sheet-requires : tie.Need-empty-sheet-requires Inv-loop μ-loop
 empty-sheet-requires c κs = search needs
 
 loop-holds : tie.Need-loop-holds Inv-loop μ-loop
-unfolding readSheet
+unfolding readSheet emptySheet
 loop-holds c =
     let s = now (c .before .before .before .before .args .s) in
     let l = length s in
-    (omega arith, (suc l, (omega arith, ap (readFrom (suc l) s 0) (c .before .before .empty-sheet .ensures))))
+    let e = c .before .before .empty-sheet .ensures in
+    ((omega arith, ap (λ (sh : Sheet). length (sh .step)) e ∙ length-replicate stepPlaces noCell), (suc l, (omega arith, ap (readFrom (suc l) s 0) e)))
 
 -- the field that a turn takes: what it is, and where it lies
 module _ (c : tie.After-known-told Inv-loop μ-loop) where
@@ -135,12 +141,12 @@ module _ (c : tie.Else2 Inv-loop μ-loop) where
   its-way h = took _ _ _ _ _ (free h)
 
   -- reading goes on past it, with what it adds
-  goes-on : refusal (c .before .before) ≡ 0 → (sh : Sheet) → sh ≡ withField (s (c .before .before)) (tag (c .before .before)) (start (c .before .before)) (sofar (c .before .before)) → Left (s (c .before .before)) (next (c .before .before) .at) sh
-  goes-on r sh e =
+  goes-on : refusal (c .before .before) ≡ 0 → (sh : Sheet) → sh ≡ withField (s (c .before .before)) (tag (c .before .before)) (start (c .before .before)) (sofar (c .before .before)) → length (sh .step) ≡ stepPlaces → Left (s (c .before .before)) (next (c .before .before) .at) sh
+  goes-on r sh e n =
       let k = c .before .before in
       let i = c .before .before .before .before .before .before .before .before .loop in
       let p = its-place k in (
-        omega (arith, p),
+        (omega (arith, p), n),
         (
           i .inv .1 .0 - 1,
           (
@@ -152,6 +158,9 @@ module _ (c : tie.Else2 Inv-loop μ-loop) where
           ),
         ),
       )
+
+  long : length (sofar (c .before .before) .step) ≡ stepPlaces
+  long = c .before .before .before .before .before .before .before .before .loop .inv .0 .1
 
   further : length (s (c .before .before)) - next (c .before .before) .at < length (s (c .before .before)) - here (c .before .before)
   further = let p = its-place (c .before .before) in omega (arith, p, inside (c .before .before))
@@ -169,7 +178,7 @@ loop-again : tie.Need-loop-again Inv-loop μ-loop
 loop-again c =
     let e = c .before .if3 .taken in
     let k = c .before .before in
-    goes-on k (free k (omega (arith, e))) _ (with-edition _ _ _ (sofar (k .before .before)) e)
+    goes-on k (free k (omega (arith, e))) _ (with-edition _ _ _ (sofar (k .before .before)) e) (long k)
 
 layout-at-requires : tie.Need-layout-at-requires Inv-loop μ-loop
 layout-at-requires c κs =
@@ -189,7 +198,7 @@ loop-again-2 : tie.Need-loop-again-2 Inv-loop μ-loop
 loop-again-2 c =
     let e = c .before .before .if4 .taken in
     let k = c .before .before .before .before in
-    goes-on k (free k (omega (arith, e))) _ (with-layout _ _ _ (sofar (k .before .before)) e (c .before .layout-at .ensures) (c .more-layout .ensures))
+    goes-on k (free k (omega (arith, e))) _ (with-layout _ _ _ (sofar (k .before .before)) e (c .before .layout-at .ensures) (c .more-layout .ensures)) (long k)
 
 view-at-requires : tie.Need-view-at-requires Inv-loop μ-loop
 view-at-requires c κs =
@@ -209,7 +218,7 @@ loop-again-3 : tie.Need-loop-again-3 Inv-loop μ-loop
 loop-again-3 c =
     let e = c .before .before .if5 .taken in
     let k = c .before .before .before .before .before in
-    goes-on k (free k (omega (arith, e))) _ (with-view _ _ _ (sofar (k .before .before)) e (c .before .view-at .ensures) (c .more-view .ensures))
+    goes-on k (free k (omega (arith, e))) _ (with-view _ _ _ (sofar (k .before .before)) e (c .before .view-at .ensures) (c .more-view .ensures)) (long k)
 
 -- a field that is none of these is a step, and its content decides
 module _ (c : tie.Else5 Inv-loop μ-loop) where
@@ -228,43 +237,69 @@ module _ (c : tie.Else5 Inv-loop μ-loop) where
 step-at-requires : tie.Need-step-at-requires Inv-loop μ-loop
 step-at-requires c κs = omega (arith, its-place (field c), its-head c .long)
 
+mul-step : tie.Need-mul-step Inv-loop μ-loop
+mul-step c = omega (arith, step-room (c .before))
+
+array-set-from-step : tie.Need-array-set-from-step Inv-loop μ-loop
+array-set-from-step c = step-room (c .before)
+
+mul-placed : tie.Need-mul-placed Inv-loop μ-loop
+mul-placed c = omega (arith, step-room (c .before))
+
+array-copy-out-placed : tie.Need-array-copy-out-placed Inv-loop μ-loop
+array-copy-out-placed c = step-room (c .before)
+
 step-ok-requires : tie.Need-step-ok-requires Inv-loop μ-loop
 step-ok-requires c κs = search needs
+
+-- what is judged is the step that was put in its place
+module _ (c : tie.After-step-ok Inv-loop μ-loop) where
+  abbrev step-field : tie.Else5 Inv-loop μ-loop
+  step-field = c .before .before .before
+
+  abbrev before-it : Sheet
+  before-it = sofar (field step-field)
+
+  abbrev ok : Step → Bool
+  ok st = stepOk (before-it .edition) (before-it .tensors .layouts) (before-it .tensors .views) st
+
+  judged : c .step-ok .result ≡ ok (stepAt (s (field step-field)) (tag (field step-field)) (start (field step-field)))
+  judged =
+      let found = c .before .before .step-at in
+      let room = step-room step-field in
+      c .step-ok .ensures
+      ∙ ap (λ (x : Cell). ok (x .step)) (getD-set-same (before-it .step) (before-it .steps) (record { step = found .result }) noCell (omega (arith, room, long (step-field .before .before .before))))
+      ∙ ap ok (found .ensures)
 
 refused-read-requires-3 : tie.Need-refused-read-requires-3 Inv-loop μ-loop
 refused-read-requires-3 c κs = search needs
 
 returns-3 : tie.Need-returns-3 Inv-loop μ-loop
 returns-3 c =
-    let d = c .before .before .before .before in
+    let d = c .before .before .before .before .before in
     let k = field d in
     let i = k .before .before .before .before .before .before .loop in
-    let bad = rw (c .before .before .before .step-at .ensures) at (went-not (c .before .before .step-ok .ensures) (c .before .if6 .taken)) in
+    let bad = went-not (judged (c .before .before)) (c .before .if6 .taken) in
     c .refused-read3 .ensures
     ∙ sym
     (turn-over _ (i .c .at) _ (i .inv .1 .0) (omega (arith, i .inv, inside k))
     (turn-refused _ _ (sofar k) (inside k) (the-field k) (left 0 bad refl ∙ sym (decided d)) (omega arith)))
     ∙ i .inv .1 .1 .1
 
-mul-step : tie.Need-mul-step Inv-loop μ-loop
-mul-step c = omega (arith, step-room (c .before .before .before))
-
-array-set-from-step : tie.Need-array-set-from-step Inv-loop μ-loop
-array-set-from-step c = step-room (c .before .before .before)
-
 add-count : tie.Need-add-count Inv-loop μ-loop
-add-count c = omega (arith, step-room (c .before .before .before))
+add-count c = omega (arith, step-room (c .before .before .before .before))
 
 loop-less-4 : tie.Need-loop-less-4 Inv-loop μ-loop
-loop-less-4 c = further (c .before .before .before .before .before .before)
+loop-less-4 c = further (c .before .before .before .before .before .before .before)
 
 loop-again-4 : tie.Need-loop-again-4 Inv-loop μ-loop
 loop-again-4 c =
-    let d = c .before .before .before in
-    let found = c .before .before .step-at .ensures in
-    let good = rw found at (went-past (c .before .step-ok .ensures) (c .if6 .left)) in
+    let d = c .before .before .before .before in
+    let found = c .before .before .before .step-at .ensures in
+    let good = went-past (judged (c .before)) (c .if6 .left) in
     goes-on (d .before .before .before) (decided d ∙ sym (taken beyondSizes good refl)) _
     (with-step _ _ _ (sofar (field d)) (d .before .before .if3 .left) (d .before .if4 .left) (d .if5 .left) found)
+    (length-set (sofar (field d) .step) (sofar (field d) .steps) (record { step = c .before .before .before .step-at .result }) ∙ long (d .before .before .before))
 
 end-read-requires : tie.Need-end-read-requires Inv-loop μ-loop
 end-read-requires c κs = search needs
@@ -304,11 +339,13 @@ read-sheet-spec =
     loop-less-3
     loop-again-3
     step-at-requires
+    mul-step
+    array-set-from-step
+    mul-placed
+    array-copy-out-placed
     step-ok-requires
     refused-read-requires-3
     returns-3
-    mul-step
-    array-set-from-step
     add-count
     loop-less-4
     loop-again-4
