@@ -4,8 +4,17 @@ use mathlib.Core.Bool.{Bool}
 use lib.Dec.{ltb, leb}
 use Rattle.numbers.specs.Choice.{pick, between}
 
+abbrev pub u8 : ℕ
+u8 = 0
+
+abbrev pub s8 : ℕ
+s8 = 1
+
 abbrev pub s16 : ℕ
 s16 = 3
+
+abbrev pub u32 : ℕ
+u32 = 4
 
 abbrev pub s32 : ℕ
 s32 = 5
@@ -15,7 +24,7 @@ kindOk kind = leb kind 5
 
 -- the kinds of 32 bits, which sums of products are of
 abbrev pub wordKind : ℕ → Bool
-wordKind kind = between 4 5 kind
+wordKind kind = between u32 s32 kind
 
 -- the width of a kind in bits
 unfoldable pub width : ℕ → ℕ

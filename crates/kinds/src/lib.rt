@@ -8,6 +8,14 @@ ghost use Rattle.kinds.specs.Widths.{kindOk, wordKind, width, bytesOf, f
 ghost use Rattle.kinds.specs.Values.{signed, negative, taken, value};
 ghost use Rattle.numbers.specs.Remainders.{remainder};
 
+pub const U8: u8 = 0;
+
+pub const S8: u8 = 1;
+
+pub const U32: u8 = 4;
+
+const S32: u8 = 5;
+
 pub fn kind_ok(kind: u8) -> bool
     ensures { λ r. ⌜ r ≡ kindOk kind ⌝ }
 {
@@ -18,7 +26,7 @@ pub fn kind_ok(kind: u8) -> bool
 pub fn word_kind(kind: u8) -> bool
     ensures { λ r. ⌜ r ≡ wordKind kind ⌝ }
 {
-    numbers::between(4, 5, kind as usize)
+    numbers::between(U32 as usize, S32 as usize, kind as usize)
 }
 
 // The bytes of an element.

@@ -4,6 +4,7 @@ use Prim.Native.Nat.{ℕ, _/_, _%_}
 use lib.Dec.{eqb}
 use lib.IntN.{ℤ}
 use Rattle.numbers.specs.Choice.{pick}
+use Rattle.kinds.specs.Widths.{u8, s8}
 use Rattle.kinds.specs.Values.{value}
 use Rattle.kinds.specs.Interpretations.{packedSigned, packed}
 use Rattle.sheet.specs.declared.VectorStep.{VectorStep}
@@ -13,7 +14,7 @@ use Rattle.vectors.specs.Saturation.{saturated}
 
 -- the kind of a packed component: s8 or u8
 unfoldable pub packedKind : ℕ → ℕ
-packedKind interpretation = pick (eqb interpretation packedSigned) 1 0
+packedKind interpretation = pick (eqb interpretation packedSigned) s8 u8
 
 -- the raw bits of packed component c: four components a word, lowest first
 abbrev pub packedByte : List ℕ → VectorStep → ℕ → ℕ

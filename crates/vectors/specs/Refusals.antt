@@ -4,6 +4,7 @@ use Prim.Native.Nat.{ℕ, _+_, _/_}
 use lib.Dec.{eqb, ltb}
 use Rattle.numbers.specs.Choice.{pick, both}
 use Rattle.numbers.specs.First.{firstFrom}
+use Rattle.kinds.specs.Widths.{u32}
 use Rattle.kinds.specs.Interpretations.{packed}
 use Rattle.refusals.specs.Refusals.{emptyRegister, shapesDisagree, outsideMemory, stopAt}
 use Rattle.refusals.specs.declared.Stop.{Stop}
@@ -17,7 +18,7 @@ unfoldable pub inputAgrees : MatrixType → VectorStep → Bool
 inputAgrees t v =
     both (eqb (t .columns) 1)
     (pick (packed (v .interpretation))
-    (both (eqb (t .kind) 4) (eqb (t .rows) ((v .columns + 3) / 4)))
+    (both (eqb (t .kind) u32) (eqb (t .rows) ((v .columns + 3) / 4)))
     (eqb (t .rows) (v .columns)))
 
 -- the element's bytes don't all lie in memory

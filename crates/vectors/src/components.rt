@@ -71,9 +71,9 @@ fn packed_kind(interpretation: u8) -> u8
     ensures { λ r. ⌜ r ≡ packedKind interpretation ⌝ }
 {
     if interpretation == interpretations::PACKED_SIGNED {
-        return 1;
+        return kinds::S8;
     }
-    0
+    kinds::U8
 }
 
 // Component c of an input register of a kind.

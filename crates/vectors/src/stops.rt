@@ -19,7 +19,7 @@ pub fn input_agrees(t: MatrixType, v: VectorStep) -> bool
         return false;
     }
     if interpretations::is_packed(v.interpretation) {
-        if t.kind != 4 {
+        if t.kind != kinds::U32 {
             return false;
         }
         return t.rows as u16 == (v.columns as u16 + 3) / 4;
