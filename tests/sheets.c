@@ -98,7 +98,7 @@ static void try_diagnosis(const char *name, const struct bytes *sheet, size_t me
     }
 }
 
-/* A file is called NUMBER-MEMORY.sheet. */
+/* A file is called NUMBER-MEMORY-EDITION.sheet. */
 static void try_file(const char *folder, const char *name)
 {
     char path[512];
