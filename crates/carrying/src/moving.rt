@@ -12,7 +12,6 @@ ghost use Rattle.transfers.specs.Acts.{state};
 ghost use Rattle.checking.specs.Steps.{accessOf};
 ghost use Rattle.checking.specs.Clear.{Clear};
 ghost use Rattle.carrying.specs.Steps.{machineOf, loadDone, storeDone};
-use checking::windows;
 use counts::Counts;
 use registers::MatrixType;
 use sheet::Tensors;
@@ -39,7 +38,7 @@ pub fn perform_load(
     ensures { λ r. ⌜ machineOf types (state (now (elements .exit)) (now (memory .entry)) r) ≡ loadDone tensors register window (machineOf types (state (now (elements .entry)) (now (memory .entry)) counted)) ⌝ }
 {
     let t = registers::the_type(types, register);
-    let p = windows::plan_window(tensors, true, window, t, memory.len());
+    let p = accepted::plan_window(tensors, true, window, t, memory.len());
     transfers::load_elements(elements, memory, entries, p, register, counted)
 }
 
@@ -61,6 +60,6 @@ pub fn perform_store(
     ensures { λ r. ⌜ machineOf types (state (now (elements .entry)) (now (memory .exit)) r) ≡ storeDone tensors register window (machineOf types (state (now (elements .entry)) (now (memory .entry)) counted)) ⌝ }
 {
     let t = registers::the_type(types, register);
-    let p = windows::plan_window(tensors, false, window, t, memory.len());
+    let p = accepted::plan_window(tensors, false, window, t, memory.len());
     transfers::store_elements(elements, memory, entries, p, register, counted)
 }

@@ -1,4 +1,4 @@
-// The access of a load or a store: its matrix, its window and the memory; and its plan.
+// The access of a load or a store: its matrix, its window and the memory.
 ghost use mathlib.Core.Path.{_≡_};
 ghost use mathlib.Core.Bool.{true, false};
 ghost use Prim.Native.Nat.{_≤_};
@@ -7,12 +7,9 @@ ghost use Rattle.sheet_ranges.specs.Steps.{viewingOk, windowOk};
 ghost use Rattle.sheet_ranges.specs.Laws.Within.{TensorsWithin};
 ghost use Rattle.registers.specs.Types.{isEmpty};
 ghost use Rattle.registers.specs.Sized.{SizedType};
-ghost use Rattle.addressing.specs.Plans.{planned};
-ghost use Rattle.addressing.specs.Valid.{SizedAccess, Planned};
+ghost use Rattle.addressing.specs.Valid.{SizedAccess};
 ghost use Rattle.checking.specs.Steps.{isViewed, viewNamed, accessOf};
-ghost use Rattle.checking.specs.Clear.{Clear};
 use addressing::Access;
-use addressing::Plan;
 use registers::MatrixType;
 use sheet::Tensors;
 use sheet::View;
@@ -70,20 +67,4 @@ pub fn access_of(
         rows: t.rows as u32,
         columns: t.columns as u32,
     }
-}
-
-// The plan of a load or a store that its check accepts.
-pub fn plan_window(
-    tensors: Tensors,
-    load: bool,
-    window: Window,
-    t: MatrixType,
-    memory: usize,
-) -> Plan
-    requires { ⌜ TensorsWithin tensors × (windowOk (tensors .layouts) (tensors .views) window ≡ true) × (memory ≤ memoryLimit) ⌝ }
-    requires { ⌜ SizedType t × Clear t (accessOf tensors load window t memory) ⌝ }
-    ensures { λ p. ⌜ (p ≡ planned (accessOf tensors load window t memory)) × Planned p ⌝ }
-{
-    let a = access_of(tensors, load, window, t, memory);
-    addressing::plan_of(a)
 }

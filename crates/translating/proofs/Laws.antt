@@ -1,9 +1,8 @@
--- What translating keeps to: outcomes in range, the records of a step, the turns over the steps, and the answer.
-use Prim.Native.Nat.{ℕ, suc, _+_, _-_, _*_, _^_, _<_, _≤_}
+-- What translating keeps to: outcomes in range, the records of a step, and the answer.
+use Prim.Native.Nat.{ℕ, _+_, _-_, _*_, _^_, _<_, _≤_}
 use mathlib.Core.Path.{_≡_, refl, sym, ap, _∙_}
 use mathlib.Core.Bool.{Bool, true, false}
-use mathlib.Core.List.{List, [], _++_}
-use native.Mathlib.Nat.{sub-zero}
+use mathlib.Core.List.{List, _++_}
 use native.Mathlib.Omega.{arith}
 use borrow.Author.Tests.{eq-eqb, ne-eqb, eqb-false, ltb-true}
 use lib.Dec.{eqb, ltb}
@@ -16,9 +15,7 @@ use Rattle.numbers.specs.Laws.Lists.{puts-after}
 use Rattle.outcomes.specs.declared.Outcome.{Outcome}
 use Rattle.outcomes.specs.declared.Outcome.the-variants.{Skipped, Filled, Discarded, Placed}
 use Rattle.refusals.specs.Refusals.{tapeTooLong, refusalAt, notRefused}
-use Rattle.sheet.specs.Sizes.{matrixPlaces, memoryLimit}
-use Rattle.sheet_ranges.specs.Steps.{theStep}
-use Rattle.sheet_ranges.specs.Laws.Within.{Within}
+use Rattle.sheet.specs.Sizes.{matrixPlaces}
 use Rattle.sheet.specs.declared.Object.{Object}
 use Rattle.sheet.specs.declared.Object.the-variants.{Kept, Register}
 use Rattle.sheet.specs.declared.Window.{Window}
@@ -27,29 +24,19 @@ use Rattle.sheet.specs.declared.Sheet.{Sheet}
 use Rattle.sheet.specs.declared.Step.{Step}
 use Rattle.sheet.specs.declared.Step.the-variants.{Nothing, Load, Store, Whole}
 use Rattle.sheet_reader.specs.Reading.{readSheet}
-use Rattle.registers.specs.Registers.{emptyRegisters}
 use Rattle.registers.specs.Sized.{Sized}
-use Rattle.registers.specs.Laws.Sized.{sized-empty, sized-places}
-use Rattle.registers.specs.Types.{theType, withType}
+use Rattle.registers.specs.Laws.Sized.{sized-places}
+use Rattle.registers.specs.Types.{theType}
 use Rattle.registers.specs.declared.MatrixType.{MatrixType}
 use Rattle.addressing.specs.Rules.{elementsOf}
-use Rattle.addressing.specs.Laws.Plans.{planned-access, plan-count}
-use Rattle.addressing.specs.Plans.{planned}
-use Rattle.addressing.specs.Valid.{Planned}
 use Rattle.addressing.specs.declared.Access.{Access}
-use Rattle.addressing.specs.declared.Plan.{Plan}
-use Rattle.accesses.specs.Entries.{filledEntry, entryOutcome, Surveyed}
-use Rattle.accesses.specs.Laws.Surveys.{surveyed-outcome}
-use Rattle.accesses.specs.Refusals.{elementOutcome, accessRefusal}
-use Rattle.accesses.specs.declared.Tally.{Tally}
+use Rattle.accesses.specs.Entries.{filledEntry, entryOutcome}
 use Rattle.transfers.specs.Transfers.{outcomeOf}
-use Rattle.checking.specs.Steps.{accessOf, objectRegister, checkedStep, stepTypes}
-use Rattle.checking.specs.Checking.{checkedFrom, checked, checkedSheet}
-use Rattle.checking.specs.Laws.Accesses.{access-clear}
-use Rattle.checking.specs.Laws.Names.{load-window, store-window}
-use Rattle.checking.specs.Laws.Steps.{check-types, check-sized}
-use Rattle.checking.specs.Laws.Turns.{first-clear, rest-clear, one-less, within-step}
+use Rattle.checking.specs.Steps.{accessOf, objectRegister}
+use Rattle.checking.specs.Checking.{checkedSheet}
 use Rattle.checking.specs.declared.CheckAnswer.{CheckAnswer}
+use Rattle.accepted.specs.Accepted.{ClearWindow, entriesOutcome, Listed}
+use Rattle.accepted.specs.declared.Outcomes.{Outcomes}
 use Rattle.records.specs.Laws.Records.{length-tape, tape-append, fit-room}
 use Rattle.records.specs.Records.{recordLength, tapeNumbers}
 use Rattle.records.specs.Room.{recordsFit}
@@ -58,9 +45,9 @@ use Rattle.runs.specs.Ranges.{Fitting}
 use Rattle.runs.specs.Laws.RunRecords.{recordsOf, of-runs}
 use Rattle.runs.specs.Runs.{held, runs, runsRecords}
 use Rattle.runs.specs.Laws.Writing.{count-all, count-few, count-records, emit-one, runs-same}
-use Rattle.translating.specs.Tapes.{copyRecords, accessRecords, stepRecords, tapeFrom, tapeOf}
+use Rattle.translating.specs.Tapes.{copyRecords, accessRecords, stepRecords, tapeOf}
 use Rattle.translating.specs.Translating.{translateAnswer, fitsRoom, translated, translatedRoom}
-use Rattle.translating.specs.Writing.{ClearWindow, ClearStep, entriesOutcome, Room, Wrote}
+use Rattle.translating.specs.Writing.{Room, Wrote}
 
 -- ---- outcomes
 
@@ -72,44 +59,14 @@ entry-near fill h x =
     (λ e. pick-case Fitting (ltb x filledEntry) (Placed (x - 1)) _ (λ l. omega (arith, ltb-true x filledEntry l, eqb-false x 0 e))
     (λ l. pick-case Fitting (eqb x filledEntry) (Filled fill) Discarded (λ f. h) (λ f. tt)))
 
--- the runs of a survey are those of its access
-module _ (a : Access) {p : Plan} (so : p ≡ planned a) (ok : Planned p) {r : Tally} {entries : List ℕ} (v : Surveyed (elementOutcome (p .access)) (elementsOf (p .access)) r entries) (h : accessRefusal a .number ≡ 0) where
-  pub surveyed-runs : runs (entriesOutcome entries (p .fill)) (p .count) ≡ runs (outcomeOf a) (elementsOf a)
-  surveyed-runs =
-      let e = planned-access a so in
-      rw (← e, plan-count p ok) (runs-same _ _ (elementsOf (p .access)) (surveyed-outcome p ok v (rw e h)))
+-- the runs of an access are those that its entries say
+module _ {a : Access} {entries : List ℕ} {o : Outcomes} (l : Listed a entries o) where
+  pub listed-runs : runs (entriesOutcome entries (o .fill)) (o .count) ≡ runs (outcomeOf a) (elementsOf a)
+  listed-runs = rw (l .count) (runs-same _ _ (elementsOf a) (l .each))
 
-  pub surveyed-records : (load : Bool) (register : ℕ) → runsRecords load register (entriesOutcome entries (p .fill)) (p .count) ≡ runsRecords load register (outcomeOf a) (elementsOf a)
-  surveyed-records load register =
-      sym (of-runs load register _ (p .count)) ∙ ap (recordsOf load register) surveyed-runs ∙ of-runs load register _ (elementsOf a)
-
--- ---- a step that its check accepts
-
--- its load or store is accepted
-module _ {tensors : Tensors} {ts : List MatrixType} {len register : ℕ} {window : Window} where
-  pub load-clear : {object : Object} → ClearStep tensors ts len (Load register object window) → ClearWindow tensors true window (theType ts (objectRegister register object)) len
-  unfolding checkedStep
-  load-clear {object = object} s =
-      let t = theType ts (objectRegister register object) in
-      record {
-        within = s .within;
-        memory = s .memory;
-        ok = load-window _ _ _ _ _ (s .ok);
-        sized = s .sized .each (objectRegister register object);
-        clear = access-clear ts (withType ts register t) t (accessOf tensors true window t len) (s .clear);
-      }
-
-  pub store-clear : ClearStep tensors ts len (Store register window) → ClearWindow tensors false window (theType ts register) len
-  unfolding checkedStep
-  store-clear s =
-      let t = theType ts register in
-      record {
-        within = s .within;
-        memory = s .memory;
-        ok = store-window _ _ _ _ (s .ok);
-        sized = s .sized .each register;
-        clear = access-clear ts ts t (accessOf tensors false window t len) (s .clear);
-      }
+  pub listed-records : (load : Bool) (register : ℕ) → runsRecords load register (entriesOutcome entries (o .fill)) (o .count) ≡ runsRecords load register (outcomeOf a) (elementsOf a)
+  listed-records load register =
+      sym (of-runs load register _ (o .count)) ∙ ap (recordsOf load register) listed-runs ∙ of-runs load register _ (elementsOf a)
 
 -- ---- the records of a step
 
@@ -203,67 +160,6 @@ pub wrote-both : (out : List ℤ) (at : ℕ) (rs qs : List Record) {out₁ out�
     → Wrote out out₂ at (rs ++ qs) at₂
 wrote-both out at rs qs w v =
     record { next = omega (arith, w .next, v .next, length-append rs qs); numbers = v .numbers ∙ records-after out at rs qs w }
-
--- ---- the turns over the steps
-
--- the records of the steps from number k on
-abbrev pub tapeRest : Sheet → ℕ → ℕ → List MatrixType → List Record
-tapeRest sh len k ts = tapeFrom (sh .steps - k) sh len k ts
-
--- types from which the check of these steps refuses none
-pub record Rest (sh : Sheet) (len k : ℕ) (ts : List MatrixType) : Type 0 where
-  pub sized : Sized ts
-  pub counted : ℕ
-  pub clear : checkedFrom (sh .steps - k) sh len k ts counted .refusal .number ≡ 0
-
-pub rest-start : (sh : Sheet) (len : ℕ) → checked sh len .refusal .number ≡ 0 → Rest sh len 0 (emptyRegisters .types)
-unfolding checked
-rest-start sh len h = record { sized = sized-empty; counted = 0; clear = rw (sub-zero (sh .steps)) h }
-
-module _ (sh : Sheet) (w : Within sh) (len : ℕ) (few : len ≤ memoryLimit) (k : ℕ) (ts : List MatrixType) (h : k < sh .steps) (r : Rest sh len k ts) where
-  abbrev left : ℕ
-  left = sh .steps - (k + 1)
-
-  abbrev step : Step
-  step = theStep (sh .step) k
-
-  clear : checkedFrom (suc left) sh len k ts (r .counted) .refusal .number ≡ 0
-  clear = rw (one-less (sh .steps) k h) at (r .clear)
-
-  first : checkedStep (sh .edition) (sh .tensors) ts len step .stop .number ≡ 0
-  first = first-clear left sh len k ts (r .counted) clear
-
-  -- step k is accepted
-  pub rest-step : ClearStep (sh .tensors) ts len (theStep (sh .step) k)
-  rest-step =
-      record { within = w .tensors; memory = few; sized = r .sized; edition = sh .edition; ok = within-step sh w k h; clear = first }
-
-  module _ {after : List MatrixType} (so : after ≡ stepTypes ts (theStep (sh .step) k)) where
-    types : after ≡ checkedStep (sh .edition) (sh .tensors) ts len step .types
-    types = so ∙ sym (check-types (sh .edition) (sh .tensors) ts len step first)
-
-    -- so are those after it, from the types that it leaves
-    pub rest-next : Rest sh len (k + 1) after
-    rest-next =
-        rw types
-        (record {
-          sized = check-sized (sh .edition) (sh .tensors) ts len step (sh .edition) (sh .tensors .layouts) (sh .tensors .views) (within-step sh w k h) (r .sized);
-          counted = r .counted + checkedStep (sh .edition) (sh .tensors) ts len step .placed;
-          clear = rw (rest-clear left sh len k ts (r .counted) first) at clear;
-        })
-
-    -- its records, and the others
-    pub tape-go : tapeRest sh len k ts ≡ stepRecords (sh .tensors) ts len k (theStep (sh .step) k) ++ tapeRest sh len (k + 1) after
-    unfolding tapeFrom
-    tape-go = rw (one-less (sh .steps) k h, types) refl
-
-pub tape-end : (sh : Sheet) (len k : ℕ) (ts : List MatrixType) → sh .steps ≤ k → tapeRest sh len k ts ≡ []
-unfolding tapeFrom
-tape-end sh len k ts h = let e : sh .steps - k ≡ 0 = omega arith in rw e refl
-
-pub tape-start : (sh : Sheet) (len : ℕ) → tapeRest sh len 0 (emptyRegisters .types) ≡ tapeOf sh len
-unfolding tapeOf
-tape-start sh len = rw (sub-zero (sh .steps)) refl
 
 -- ---- the answer
 

@@ -1,8 +1,7 @@
 -- The tape of a sheet for a memory of a length: the list of records that document 01 gives.
-use Prim.Native.Nat.{ℕ, zero, suc, _+_}
+use Prim.Native.Nat.{ℕ}
 use mathlib.Core.List.{List, [], _∷_, _++_}
 use mathlib.Core.Bool.{true, false}
-use Rattle.sheet_ranges.specs.Steps.{theStep}
 use Rattle.sheet.specs.declared.Object.{Object}
 use Rattle.sheet.specs.declared.Object.the-variants.{Kept, Register}
 use Rattle.sheet.specs.declared.Tensors.{Tensors}
@@ -11,12 +10,12 @@ use Rattle.sheet.specs.declared.Step.{Step}
 use Rattle.sheet.specs.declared.Step.the-variants as step
 use Rattle.sheet.specs.declared.Step.the-variants.{Nothing, Load, Store}
 use Rattle.registers.specs.Types.{theType}
-use Rattle.registers.specs.Registers.{emptyRegisters}
 use Rattle.registers.specs.declared.MatrixType.{MatrixType}
 use Rattle.addressing.specs.Rules.{elementsOf}
 use Rattle.addressing.specs.declared.Access.{Access}
 use Rattle.transfers.specs.Transfers.{outcomeOf}
-use Rattle.checking.specs.Steps.{accessOf, objectRegister, checkedStep}
+use Rattle.checking.specs.Steps.{accessOf, objectRegister}
+use Rattle.accepted.specs.Passes.{passFrom, pass}
 use Rattle.records.specs.declared.Record.{Record}
 use Rattle.records.specs.declared.Record.the-variants.{Copy, Whole}
 use Rattle.runs.specs.Runs.{runsRecords}
@@ -39,12 +38,13 @@ stepRecords tensors ts len k (Load register object window) =
 stepRecords tensors ts len k (Store register window) = accessRecords (accessOf tensors false window (theType ts register) len) register
 stepRecords tensors ts len k (step.Whole whole) = Whole k ∷ []
 
+-- the same of a sheet for a memory of a length
+abbrev pub sheetRecords : Sheet → ℕ → List MatrixType → ℕ → Step → List Record
+sheetRecords sh len ts k step = stepRecords (sh .tensors) ts len k step
+
 -- n steps more, the next of which is number k
-unfoldable pub tapeFrom : ℕ → Sheet → ℕ → ℕ → List MatrixType → List Record
-tapeFrom zero sh len k ts = []
-tapeFrom (suc n) sh len k ts =
-    let step = theStep (sh .step) k in
-    stepRecords (sh .tensors) ts len k step ++ tapeFrom n sh len (k + 1) (checkedStep (sh .edition) (sh .tensors) ts len step .types)
+abbrev pub tapeFrom : ℕ → Sheet → ℕ → ℕ → List MatrixType → List Record
+tapeFrom n sh len k ts = passFrom (sheetRecords sh len) n sh len k ts
 
 unfoldable pub tapeOf : Sheet → ℕ → List Record
-tapeOf sh len = tapeFrom (sh .steps) sh len 0 (emptyRegisters .types)
+tapeOf sh len = pass (sheetRecords sh len) sh len

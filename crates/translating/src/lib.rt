@@ -12,13 +12,13 @@ ghost use Rattle.addressing.specs.Rules.{elementsOf};
 ghost use Rattle.transfers.specs.Transfers.{outcomeOf};
 ghost use Rattle.checking.specs.Steps.{accessOf};
 ghost use Rattle.checking.specs.Checking.{checked};
+ghost use Rattle.accepted.specs.Accepted.{ClearWindow, ClearStep, entriesOutcome};
 ghost use Rattle.records.specs.Records.{recordLength, tapeNumbers};
 ghost use Rattle.runs.specs.Runs.{runs, runsRecords};
 ghost use Rattle.translating.specs.Tapes.{copyRecords, accessRecords, stepRecords, tapeOf};
 ghost use Rattle.translating.specs.Translating.{translateAnswer, translated, translatedRoom};
-ghost use Rattle.translating.specs.Writing.{ClearWindow, ClearStep, entriesOutcome, Room, Wrote};
+ghost use Rattle.translating.specs.Writing.{Room, Wrote};
 use checking::checks;
-use checking::windows;
 use records::Record;
 use refusals::Refusal;
 use refusals::TAPE_TOO_LONG;
@@ -98,9 +98,8 @@ fn count_window(
     ensures { λ _. ⌜ length (now (entries .exit)) ≡ matrixPlaces ⌝ }
     ensures { λ r. ⌜ r ≡ length (runs (outcomeOf (accessOf tensors load window t memory)) (elementsOf (accessOf tensors load window t memory))) ⌝ }
 {
-    let p = windows::plan_window(tensors, load, window, t, memory);
-    accesses::survey(entries, p);
-    count_runs(entries, p.count, p.fill)
+    let o = accepted::survey_window(entries, tensors, load, window, t, memory);
+    count_runs(entries, o.count, o.fill)
 }
 
 // Writes them from record `at` of a tape on: the next record's number.
@@ -120,9 +119,8 @@ fn write_window(
     ensures { λ _. ⌜ length (now (entries .exit)) ≡ matrixPlaces ⌝ }
     ensures { λ r. ⌜ Wrote (now (tape .entry)) (now (tape .exit)) at (accessRecords (accessOf tensors load window t memory) register) r ⌝ }
 {
-    let p = windows::plan_window(tensors, load, window, t, memory);
-    accesses::survey(entries, p);
-    write_runs(tape, entries, p.count, p.fill, at, load, register)
+    let o = accepted::survey_window(entries, tensors, load, window, t, memory);
+    write_runs(tape, entries, o.count, o.fill, at, load, register)
 }
 
 // The copy of a load's object, none for its own register.

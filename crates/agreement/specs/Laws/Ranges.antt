@@ -29,6 +29,7 @@ use Rattle.checking.specs.Steps.{accessOf, objectRegister}
 use Rattle.checking.specs.Laws.Names.{load-register, load-object-ok, store-register}
 use Rattle.checking.specs.Laws.Steps.{check-sized}
 use Rattle.checking.specs.Laws.Turns.{within-step}
+use Rattle.accepted.specs.Passes.{passFrom}
 use Rattle.records.specs.Ranges.{AllInRange}
 use Rattle.records.specs.Laws.Records.{all-append}
 use Rattle.records.specs.Ranges as ranges
@@ -76,7 +77,7 @@ module _ (len : ℕ) (most : len ≤ memoryLimit) where
 
     module _ (w : Within sh) where
       from-within : (n k : ℕ) (ts : List MatrixType) → k + n ≤ sh .steps → Sized ts → AllInRange (tapeFrom n sh len k ts)
-      unfolding tapeFrom
+      unfolding passFrom
       from-within zero k ts l s = tt
       from-within (suc n) k ts l s =
           let st = theStep (sh .step) k in

@@ -9,6 +9,7 @@ use Rattle.sheet.specs.declared.Sheet.{Sheet}
 use Rattle.sheet_ranges.specs.Laws.Within.{Within}
 use Rattle.registers.specs.declared.MatrixType.{MatrixType}
 use Rattle.checking.specs.Laws.Turns.{typesFrom, within-step}
+use Rattle.accepted.specs.Passes.{passFrom}
 use Rattle.carrying.specs.Steps.{Machine, performedStep}
 use Rattle.carrying.specs.Carrying.{performedFrom}
 use Rattle.carrying.specs.Machines.{stepOn, AcceptedStep, Formed}
@@ -31,7 +32,7 @@ pub record Agree (n : ℕ) (sh : Sheet) (k : ℕ) (m : Machine) : Type 0 where
 
 module _ (sh : Sheet) (w : Within sh) where
   pub from-agree : (n k : ℕ) (m : Machine) (count : ℕ) → k + n ≤ sh .steps → checkFrom n sh k m count .refusal .number ≡ 0 → Formed m → Agree n sh k m
-  unfolding tapeFrom typesFrom performedFrom performAll
+  unfolding passFrom typesFrom performedFrom performAll
   from-agree zero k m count l h f = record { passes = none; same = refl }
   from-agree (suc n) k m count l h f =
       let st = theStep (sh .step) k in

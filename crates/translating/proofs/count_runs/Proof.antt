@@ -6,7 +6,7 @@ use Rattle.runs.specs.declared.Run.{Run}
 use Rattle.runs.specs.Runs.{held as theHeld, ended, emit}
 use Rattle.runs.specs.Laws.Ranges.{held-small}
 use Rattle.runs.specs.Laws.Writing.{held-none, held-more, ending-is, count-none, count-more, count-few, count-all, emit-one}
-use Rattle.translating.specs.Writing.{entriesOutcome}
+use Rattle.accepted.specs.Accepted.{entriesOutcome}
 use Rattle.translating.proofs.Laws.{entry-near}
 use borrow.Author.Needs.{needs}
 use native.Mathlib.Omega.{arith}

@@ -1,7 +1,8 @@
 use mathlib.Core.Path.{refl}
 use Rattle.checking.specs.Laws.Names.{load-object, store-register}
+use Rattle.accepted.specs.Laws.Clear.{load-clear, store-clear}
 use Rattle.translating.specs.Tapes.{stepRecords}
-use Rattle.translating.proofs.Laws.{load-clear, store-clear, copy-few, window-few, load-count, store-count}
+use Rattle.translating.proofs.Laws.{copy-few, window-few, load-count, store-count}
 use native.Mathlib.Omega.{arith}
 use borrow.Author.Needs.{needs}
 use Rattle.translating.proofs.count_step.Statement.{statement}

@@ -5,8 +5,10 @@ use Rattle.sheet.specs.Sizes.{matrixPlaces}
 use Rattle.sheet_ranges.specs.Steps.{theStep}
 use Rattle.sheet_ranges.specs.Laws.Within.{within-places}
 use Rattle.checking.specs.Laws.Turns.{within-step, empty-types}
-use Rattle.translating.specs.Tapes.{stepRecords, tapeOf}
-use Rattle.translating.proofs.Laws.{recordsMost, step-few, step-records, tapeRest, Rest, rest-start, rest-step, rest-next, tape-start, tape-go, tape-end}
+use Rattle.accepted.specs.Passes.{passRest}
+use Rattle.accepted.specs.Laws.Rests.{Rest, rest-start, rest-step, rest-next, pass-start, pass-go, pass-end}
+use Rattle.translating.specs.Tapes.{stepRecords, sheetRecords, tapeOf}
+use Rattle.translating.proofs.Laws.{recordsMost, step-few, step-records}
 use native.Mathlib.Omega.{arith}
 use borrow.Author.Needs.{needs}
 use Rattle.translating.proofs.count_tape.Statement.{statement}
@@ -15,7 +17,7 @@ use Rattle.translating.proofs.count_tape.Tie as tie
 abbrev Inv-loop : tie.InvT-loop
 Inv-loop entries₀ memory sheet tensors steps types₀ records₀ k₀ entries types records k =
     (k ≤ sheet .steps) × Rest sheet memory k types × (records ≤ k * recordsMost)
-    × (records + length (tapeRest sheet memory k types) ≡ length (tapeOf sheet memory)) × (length entries ≡ matrixPlaces)
+    × (records + length (passRest (sheetRecords sheet memory) sheet memory k types) ≡ length (tapeOf sheet memory)) × (length entries ≡ matrixPlaces)
 
 abbrev μ-loop : tie.MeasureT-loop
 μ-loop entries₀ memory sheet tensors steps types₀ records₀ k₀ entries types records k = sheet .steps - k
@@ -24,12 +26,13 @@ no-type-requires : tie.Need-no-type-requires Inv-loop μ-loop
 no-type-requires c κs = search needs
 
 loop-holds : tie.Need-loop-holds Inv-loop μ-loop
+unfolding tapeOf
 loop-holds c =
     let s = c .before .before in
     let a = s .args in
     let n = c .before .no-type in
     let e = empty-types (n .result) (n .ensures) in
-    let t = ap length (tape-start (a .t2) (a .memory)) in
+    let t = ap length (pass-start (sheetRecords (a .t2) (a .memory)) (a .t2) (a .memory)) in
     (omega arith, rw e (rest-start (a .t2) (a .memory) (s .pre .2)), omega arith, rw e (omega (arith, t)), s .pre .3)
 
 mul-c : tie.Need-mul-c Inv-loop μ-loop
@@ -74,8 +77,8 @@ loop-again c =
     let step = theStep (a .t2 .step) (l .k) in
     let few = step-few (a .t2 .tensors) (l .types) (a .memory) 0 step (l .inv .1 .sized) in
     let same = step-records (a .t2 .tensors) (l .types) (a .memory) (l .k) step in
-    let go = ap length (tape-go (a .t2) (s .pre .0) (a .memory) (s .pre .1) (l .k) (l .types) h (l .inv .1) (c .step-types .ensures)) in
-    let both = length-append (stepRecords (a .t2 .tensors) (l .types) (a .memory) (l .k) step) (tapeRest (a .t2) (a .memory) (l .k + 1) (c .step-types .result)) in (
+    let go = ap length (pass-go (a .t2) (s .pre .0) (a .memory) (s .pre .1) (l .k) (l .types) h (l .inv .1) (c .step-types .ensures) (sheetRecords (a .t2) (a .memory))) in
+    let both = length-append (stepRecords (a .t2 .tensors) (l .types) (a .memory) (l .k) step) (passRest (sheetRecords (a .t2) (a .memory)) (a .t2) (a .memory) (l .k + 1) (c .step-types .result)) in (
       omega (arith, h),
       rest-next (a .t2) (s .pre .0) (a .memory) (s .pre .1) (l .k) (l .types) h (l .inv .1) (c .step-types .ensures),
       omega (arith, l .inv .2, n .1, few),
@@ -87,7 +90,7 @@ returns : tie.Need-returns Inv-loop μ-loop
 returns c =
     let a = c .before .before .before .before .args in
     let l = c .before .loop in
-    let none = ap length (tape-end (a .t2) (a .memory) (l .k) (l .types) (c .loop-test .left)) in
+    let none = ap length (pass-end (sheetRecords (a .t2) (a .memory)) (a .t2) (a .memory) (l .k) (l .types) (c .loop-test .left)) in
     (l .inv .4, omega (arith, l .inv .3, none))
 
 pub count-tape-spec : {M : Type 1} → statement M

@@ -5,7 +5,7 @@ use lib.ListN.{getD}
 use Rattle.runs.specs.Runs.{held as theHeld}
 use Rattle.runs.specs.Laws.Ranges.{held-small, ending-within, held-within}
 use Rattle.runs.specs.Laws.Writing.{Written, held-none, held-more, ending-is, count-records, written-none, written-more, written-length, written-all, written-place, room-more, room-last}
-use Rattle.translating.specs.Writing.{entriesOutcome}
+use Rattle.accepted.specs.Accepted.{entriesOutcome}
 use Rattle.translating.proofs.Laws.{entry-near}
 use borrow.Author.Needs.{needs}
 use native.Mathlib.Omega.{arith}

@@ -10,9 +10,11 @@ use Rattle.checking.specs.Steps.{stepTypes}
 use Rattle.checking.specs.Laws.Turns.{within-step, empty-types}
 use Rattle.records.specs.declared.Record.{Record}
 use Rattle.records.specs.Records.{recordLength, tapeNumbers}
-use Rattle.translating.specs.Tapes.{stepRecords, tapeOf}
+use Rattle.accepted.specs.Passes.{passRest}
+use Rattle.accepted.specs.Laws.Rests.{Rest, rest-start, rest-step, rest-next, pass-start, pass-go, pass-end}
+use Rattle.translating.specs.Tapes.{stepRecords, sheetRecords, tapeOf}
 use Rattle.translating.specs.Writing.{Room}
-use Rattle.translating.proofs.Laws.{tapeRest, Rest, rest-start, rest-step, rest-next, tape-start, tape-go, tape-end, records-after}
+use Rattle.translating.proofs.Laws.{records-after}
 use native.Mathlib.Omega.{arith}
 use borrow.Author.Needs.{needs}
 use Rattle.translating.proofs.write_tape.Statement.{statement}
@@ -20,8 +22,8 @@ use Rattle.translating.proofs.write_tape.Tie as tie
 
 abbrev Inv-loop : tie.InvT-loop
 Inv-loop tape₀ entries₀ memory sheet tensors steps types₀ at₀ k₀ tape entries types at k =
-    (k ≤ sheet .steps) × Rest sheet memory k types × (length tape ≡ length tape₀) × Room tape₀ at (tapeRest sheet memory k types)
-    × (sets tape (at * recordLength) (tapeNumbers (tapeRest sheet memory k types)) ≡ sets tape₀ 0 (tapeNumbers (tapeOf sheet memory))) × (length entries ≡ matrixPlaces)
+    (k ≤ sheet .steps) × Rest sheet memory k types × (length tape ≡ length tape₀) × Room tape₀ at (passRest (sheetRecords sheet memory) sheet memory k types)
+    × (sets tape (at * recordLength) (tapeNumbers (passRest (sheetRecords sheet memory) sheet memory k types)) ≡ sets tape₀ 0 (tapeNumbers (tapeOf sheet memory))) × (length entries ≡ matrixPlaces)
 
 abbrev μ-loop : tie.MeasureT-loop
 μ-loop tape₀ entries₀ memory sheet tensors steps types₀ at₀ k₀ tape entries types at k = sheet .steps - k
@@ -30,12 +32,13 @@ no-type-requires : tie.Need-no-type-requires Inv-loop μ-loop
 no-type-requires c κs = search needs
 
 loop-holds : tie.Need-loop-holds Inv-loop μ-loop
+unfolding tapeOf
 loop-holds c =
     let s = c .before .before in
     let a = s .args in
     let n = c .before .no-type in
     let e = empty-types (n .result) (n .ensures) in
-    let t = tape-start (a .t3) (a .memory) in (
+    let t = pass-start (sheetRecords (a .t3) (a .memory)) (a .t3) (a .memory) in (
       omega arith,
       rw e (rest-start (a .t3) (a .memory) (s .pre .0 .2)),
       refl,
@@ -59,8 +62,8 @@ write-step-requires c κs =
     let h = c .before .before .before .loop-test .taken in
     let step = theStep (a .t3 .step) (l .k) in
     let after = stepTypes (l .types) step in
-    let go = ap length (tape-go (a .t3) (q .0) (a .memory) (q .1) (l .k) (l .types) h (l .inv .1) {after = after} refl) in
-    let both = length-append (stepRecords (a .t3 .tensors) (l .types) (a .memory) (l .k) step) (tapeRest (a .t3) (a .memory) (l .k + 1) after) in (
+    let go = ap length (pass-go (a .t3) (q .0) (a .memory) (q .1) (l .k) (l .types) h (l .inv .1) {after = after} refl (sheetRecords (a .t3) (a .memory))) in
+    let both = length-append (stepRecords (a .t3 .tensors) (l .types) (a .memory) (l .k) step) (passRest (sheetRecords (a .t3) (a .memory)) (a .t3) (a .memory) (l .k + 1) after) in (
       (rest-step (a .t3) (q .0) (a .memory) (q .1) (l .k) (l .types) h (l .inv .1), l .inv .5),
       (omega (arith, h, within-places (q .0)), omega (arith, l .inv .3, l .inv .2, go, both)),
     )
@@ -86,8 +89,8 @@ loop-again c =
     let h = c .before .before .before .before .before .before .loop-test .taken in
     let w = c .before .before .write-step in
     let rs = stepRecords (a .t3 .tensors) (l .types) (a .memory) (l .k) (theStep (a .t3 .step) (l .k)) in
-    let rest = tapeRest (a .t3) (a .memory) (l .k + 1) (c .step-types .result) in
-    let go = tape-go (a .t3) (q .0) (a .memory) (q .1) (l .k) (l .types) h (l .inv .1) (c .step-types .ensures) in
+    let rest = passRest (sheetRecords (a .t3) (a .memory)) (a .t3) (a .memory) (l .k + 1) (c .step-types .result) in
+    let go = pass-go (a .t3) (q .0) (a .memory) (q .1) (l .k) (l .types) h (l .inv .1) (c .step-types .ensures) (sheetRecords (a .t3) (a .memory)) in
     let n = ap length go in
     let both = length-append rs rest in (
       omega (arith, h),
@@ -107,7 +110,7 @@ returns : tie.Need-returns Inv-loop μ-loop
 returns c =
     let a = c .before .before .before .before .args in
     let l = c .before .loop in
-    let none = tape-end (a .t3) (a .memory) (l .k) (l .types) (c .loop-test .left) in
+    let none = pass-end (sheetRecords (a .t3) (a .memory)) (a .t3) (a .memory) (l .k) (l .types) (c .loop-test .left) in
     rw none at (l .inv .4)
 
 pub write-tape-spec : {M : Type 1} → statement M

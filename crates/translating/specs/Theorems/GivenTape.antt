@@ -14,6 +14,7 @@ use Rattle.registers.specs.Registers.{emptyRegisters}
 use Rattle.registers.specs.declared.MatrixType.{MatrixType}
 use Rattle.addressing.specs.declared.Access.{Access}
 use Rattle.checking.specs.Steps.{accessOf, objectRegister, checkedStep}
+use Rattle.accepted.specs.Passes.{passFrom}
 use Rattle.records.specs.Records.{tapeNumbers}
 use Rattle.records.specs.Laws.Records.{tape-append}
 use Rattle.runs.specs.Theorems.Unique.{stretches}
@@ -59,7 +60,7 @@ module _ (tensors : Tensors) (ts : List MatrixType) (len k : ℕ) where
 
 module _ (sh : Sheet) (len : ℕ) where
   from-one : (n k : ℕ) (ts : List MatrixType) → NumbersFrom sh len n k ts (tapeNumbers (tapeFrom n sh len k ts))
-  unfolding tapeFrom
+  unfolding passFrom
   from-one zero k ts = none
   from-one (suc n) k ts =
       let step = theStep (sh .step) k in
@@ -68,7 +69,7 @@ module _ (sh : Sheet) (len : ℕ) where
       (more (tapeNumbers (stepRecords (sh .tensors) ts len k step)) (tapeNumbers (tapeFrom n sh len (k + 1) next)) (step-one (sh .tensors) ts len k step) (from-one n (k + 1) next))
 
   from-only : {n k : ℕ} {ts : List MatrixType} {xs : List ℤ} → NumbersFrom sh len n k ts xs → xs ≡ tapeNumbers (tapeFrom n sh len k ts)
-  unfolding tapeFrom
+  unfolding passFrom
   from-only none = refl
   from-only (more {n = n} {k = k} {ts = ts} xs ys h hs) =
       let step = theStep (sh .step) k in
