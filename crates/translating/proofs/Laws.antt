@@ -1,19 +1,14 @@
--- What translating keeps to: outcomes in range, the records of a step, and the answer.
-use Prim.Native.Nat.{ℕ, _+_, _-_, _*_, _^_, _<_, _≤_}
+-- What translating keeps to: the records of a step, and the answer.
+use Prim.Native.Nat.{ℕ, _+_, _*_, _<_, _≤_}
 use mathlib.Core.Path.{_≡_, refl, sym, ap, _∙_}
 use mathlib.Core.Bool.{Bool, true, false}
 use mathlib.Core.List.{List, _++_}
 use native.Mathlib.Omega.{arith}
-use borrow.Author.Tests.{eq-eqb, ne-eqb, eqb-false, ltb-true}
-use lib.Dec.{eqb, ltb}
+use borrow.Author.Tests.{eq-eqb, ne-eqb}
 use lib.IntN.{ℤ}
 use lib.ListN.{length, length-append}
 use lib.Seq.{sets}
 use Rattle.numbers.specs.Choice.{pick}
-use Rattle.numbers.specs.Laws.Choice.{pick-case}
-use Rattle.numbers.specs.Laws.Lists.{puts-after}
-use Rattle.outcomes.specs.declared.Outcome.{Outcome}
-use Rattle.outcomes.specs.declared.Outcome.the-variants.{Skipped, Filled, Discarded, Placed}
 use Rattle.refusals.specs.Refusals.{tapeTooLong, refusalAt, notRefused}
 use Rattle.sheet.specs.Sizes.{matrixPlaces}
 use Rattle.sheet.specs.declared.Object.{Object}
@@ -30,52 +25,22 @@ use Rattle.registers.specs.Types.{theType}
 use Rattle.registers.specs.declared.MatrixType.{MatrixType}
 use Rattle.addressing.specs.Rules.{elementsOf}
 use Rattle.addressing.specs.declared.Access.{Access}
-use Rattle.accesses.specs.Entries.{filledEntry, entryOutcome}
 use Rattle.transfers.specs.Transfers.{outcomeOf}
 use Rattle.checking.specs.Steps.{accessOf, objectRegister}
 use Rattle.checking.specs.Checking.{checkedSheet}
 use Rattle.checking.specs.declared.CheckAnswer.{CheckAnswer}
-use Rattle.accepted.specs.Accepted.{ClearWindow, entriesOutcome, Listed}
-use Rattle.accepted.specs.declared.Outcomes.{Outcomes}
-use Rattle.records.specs.Laws.Records.{length-tape, tape-append, fit-room}
+use Rattle.records.specs.Laws.Records.{fit-room}
 use Rattle.records.specs.Records.{recordLength, tapeNumbers}
 use Rattle.records.specs.Room.{recordsFit}
-use Rattle.records.specs.declared.Record.{Record}
-use Rattle.runs.specs.Ranges.{Fitting}
-use Rattle.runs.specs.Laws.RunRecords.{recordsOf, of-runs}
-use Rattle.runs.specs.Runs.{held, runs, runsRecords}
-use Rattle.runs.specs.Laws.Writing.{count-all, count-few, count-records, emit-one, runs-same}
-use Rattle.translating.specs.Tapes.{copyRecords, accessRecords, stepRecords, tapeOf}
+use Rattle.runs.specs.Runs.{runs}
+use Rattle.runs.specs.Laws.Writing.{count-records}
+use Rattle.access_tapes.specs.Accesses.{accessRecords}
+use Rattle.access_tapes.specs.Writing.{Room}
+use Rattle.access_tapes.specs.Laws.Few.{access-few}
+use Rattle.translating.specs.Tapes.{copyRecords, stepRecords, tapeOf}
 use Rattle.translating.specs.Translating.{translateAnswer, fitsRoom, translated, translatedRoom}
-use Rattle.translating.specs.Writing.{Room, Wrote}
-
--- ---- outcomes
-
--- an entry is of a byte of memory, and the bits that fill an element are 32
-pub entry-near : (fill : ℕ) → fill < 2 ^ 32 → (x : ℕ) → Fitting (entryOutcome fill x)
-unfolding entryOutcome
-entry-near fill h x =
-    pick-case Fitting (eqb x 0) Skipped _ (λ e. tt)
-    (λ e. pick-case Fitting (ltb x filledEntry) (Placed (x - 1)) _ (λ l. omega (arith, ltb-true x filledEntry l, eqb-false x 0 e))
-    (λ l. pick-case Fitting (eqb x filledEntry) (Filled fill) Discarded (λ f. h) (λ f. tt)))
-
--- the runs of an access are those that its entries say
-module _ {a : Access} {entries : List ℕ} {o : Outcomes} (l : Listed a entries o) where
-  pub listed-runs : runs (entriesOutcome entries (o .fill)) (o .count) ≡ runs (outcomeOf a) (elementsOf a)
-  listed-runs = rw (l .count) (runs-same _ _ (elementsOf a) (l .each))
-
-  pub listed-records : (load : Bool) (register : ℕ) → runsRecords load register (entriesOutcome entries (o .fill)) (o .count) ≡ runsRecords load register (outcomeOf a) (elementsOf a)
-  listed-records load register =
-      sym (of-runs load register _ (o .count)) ∙ ap (recordsOf load register) listed-runs ∙ of-runs load register _ (elementsOf a)
 
 -- ---- the records of a step
-
--- the runs of a matrix are few
-runs-few : (f : ℕ → Outcome) (n : ℕ) → length (runs f n) ≤ n + 1
-runs-few f n = omega (arith, count-all f n, count-few f n, emit-one (held f n))
-
-access-few : (a : Access) (register : ℕ) → length (accessRecords a register) ≤ elementsOf a + 1
-access-few a register = rw (count-records (a .load) register (outcomeOf a) (elementsOf a)) (runs-few (outcomeOf a) (elementsOf a))
 
 pub copy-few : (register : ℕ) (object : Object) → length (copyRecords register object) ≤ 1
 copy-few register Kept = omega arith
@@ -105,13 +70,6 @@ step-records tensors ts len k Nothing = refl
 step-records tensors ts len k (Load register object window) = refl
 step-records tensors ts len k (Store register window) = refl
 step-records tensors ts len k (Whole whole) = refl
-
--- the runs of a load or a store are few
-pub window-few : {tensors : Tensors} {load : Bool} {window : Window} {t : MatrixType} {len : ℕ} → ClearWindow tensors load window t len
-    → length (runs (outcomeOf (accessOf tensors load window t len)) (elementsOf (accessOf tensors load window t len))) ≤ matrixPlaces + 1
-window-few {tensors} {load} {window} {t} {len} w =
-    let a = accessOf tensors load window t len in
-    omega (arith, runs-few (outcomeOf a) (elementsOf a), sized-places t (w .sized))
 
 module _ (tensors : Tensors) (ts : List MatrixType) (len k register : ℕ) (window : Window) where
   pub store-records : stepRecords tensors ts len k (Store register window) ≡ accessRecords (accessOf tensors false window (theType ts register) len) register
@@ -147,19 +105,6 @@ module _ (tensors : Tensors) (ts : List MatrixType) (len k register : ℕ) (wind
       pub runs-room : (tape₁ : List ℤ) {at₁ : ℕ} → length tape₁ ≡ length tape → at₁ ≡ at + length (copyRecords register object)
           → Room tape₁ at₁ (accessRecords (accessOf tensors true window (theType ts (objectRegister register object)) len) register)
       runs-room tape₁ e f = omega (arith, room, load-length, e, f)
-
--- ---- records written one after the other
-
-pub records-after : (out : List ℤ) (at : ℕ) (rs qs : List Record) {out₁ : List ℤ} {at₁ : ℕ} → Wrote out out₁ at rs at₁
-    → sets out₁ (at₁ * recordLength) (tapeNumbers qs) ≡ sets out (at * recordLength) (tapeNumbers (rs ++ qs))
-records-after out at rs qs {out₁} {at₁} w =
-    let here : at₁ * recordLength ≡ at * recordLength + length (tapeNumbers rs) = omega (arith, length-tape rs, w .next) in
-    rw (tape-append rs qs, here) (puts-after out (at * recordLength) (tapeNumbers rs) (tapeNumbers qs) (w .numbers) refl)
-
-pub wrote-both : (out : List ℤ) (at : ℕ) (rs qs : List Record) {out₁ out₂ : List ℤ} {at₁ at₂ : ℕ} → Wrote out out₁ at rs at₁ → Wrote out₁ out₂ at₁ qs at₂
-    → Wrote out out₂ at (rs ++ qs) at₂
-wrote-both out at rs qs w v =
-    record { next = omega (arith, w .next, v .next, length-append rs qs); numbers = v .numbers ∙ records-after out at rs qs w }
 
 -- ---- the answer
 

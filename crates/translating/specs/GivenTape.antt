@@ -13,19 +13,14 @@ use Rattle.sheet.specs.declared.Step.the-variants as step
 use Rattle.registers.specs.declared.MatrixType.{MatrixType}
 use Rattle.registers.specs.Types.{theType}
 use Rattle.registers.specs.Registers.{emptyRegisters}
-use Rattle.addressing.specs.Rules.{elementsOf}
 use Rattle.addressing.specs.declared.Access.{Access}
-use Rattle.transfers.specs.Transfers.{outcomeOf}
 use Rattle.checking.specs.Steps.{accessOf, objectRegister, checkedStep}
 use Rattle.records.specs.Records.{tapeNumbers, recordNumbers}
 use Rattle.records.specs.declared.Record.the-variants.{Whole}
-use Rattle.runs.specs.Even.{Stretch, Given}
+use Rattle.runs.specs.Even.{Stretch}
 use Rattle.runs.specs.RunRecords.{runNumbers}
+use Rattle.access_tapes.specs.Given.{AccessGiven}
 use Rattle.translating.specs.Tapes.{copyRecords}
-
--- the list of runs that document 01 gives for a load or a store
-abbrev pub AccessGiven : Access → List Stretch → Type 0
-AccessGiven a rs = Given (outcomeOf a) (elementsOf a) rs
 
 -- the runs of a load or a store, as numbers
 pub record AccessNumbers (a : Access) (register : ℕ) (xs : List ℤ) : Type 0 where

@@ -11,25 +11,18 @@ use Rattle.sheet.specs.declared.Step.the-variants as step
 use Rattle.sheet.specs.declared.Step.the-variants.{Nothing, Load, Store}
 use Rattle.registers.specs.Types.{theType}
 use Rattle.registers.specs.declared.MatrixType.{MatrixType}
-use Rattle.addressing.specs.Rules.{elementsOf}
-use Rattle.addressing.specs.declared.Access.{Access}
-use Rattle.transfers.specs.Transfers.{outcomeOf}
 use Rattle.checking.specs.Steps.{accessOf, objectRegister}
 use Rattle.accepted.specs.Passes.{passFrom, pass}
 use Rattle.records.specs.declared.Record.{Record}
 use Rattle.records.specs.declared.Record.the-variants.{Copy, Whole}
-use Rattle.runs.specs.Runs.{runsRecords}
+use Rattle.access_tapes.specs.Accesses.{accessRecords}
 
--- a load becomes a copy, none where its register is its own object ..
+-- the copy of a load, none where its register is its own object
 abbrev pub copyRecords : ℕ → Object → List Record
 copyRecords register Kept = []
 copyRecords register (Register object) = Copy register object ∷ []
 
--- .. and its runs, a store its runs
-abbrev pub accessRecords : Access → ℕ → List Record
-accessRecords a register = runsRecords (a .load) register (outcomeOf a) (elementsOf a)
-
--- step k of a sheet, at the types that the steps before left; a whole step becomes one op 4
+-- step k of a sheet, at the types that the steps before left: a load becomes a copy and its runs, a store its runs, a whole step one op 4
 unfoldable pub stepRecords : Tensors → List MatrixType → ℕ → ℕ → Step → List Record
 stepRecords tensors ts len k Nothing = []
 stepRecords tensors ts len k (Load register object window) =

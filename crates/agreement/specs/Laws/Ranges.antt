@@ -35,7 +35,8 @@ use Rattle.records.specs.Laws.Records.{all-append}
 use Rattle.records.specs.Ranges as ranges
 use Rattle.runs.specs.Ranges.{Fitting}
 use Rattle.runs.specs.Laws.Ranges.{runs-within}
-use Rattle.translating.specs.Tapes.{copyRecords, accessRecords, stepRecords, tapeFrom, tapeOf}
+use Rattle.access_tapes.specs.Accesses.{accessRecords}
+use Rattle.translating.specs.Tapes.{copyRecords, stepRecords, tapeFrom, tapeOf}
 use Rattle.agreement.specs.Laws.InRange.{Passable}
 use Rattle.agreement.specs.Laws.Stepping.{access-passable}
 

@@ -40,7 +40,8 @@ use Rattle.carrying.specs.Laws.Types.{object-type}
 use Rattle.records.specs.declared.Record.{Record}
 use Rattle.records.specs.declared.Record.the-variants.{Whole}
 use Rattle.runs.specs.Laws.States.{performAll, performAll-append}
-use Rattle.translating.specs.Tapes.{copyRecords, accessRecords, stepRecords}
+use Rattle.access_tapes.specs.Accesses.{accessRecords}
+use Rattle.translating.specs.Tapes.{copyRecords, stepRecords}
 use Rattle.judging.specs.Records.{wholeRecordOk, recordOk}
 use Rattle.running.specs.Records.{ranRecordWith, ranRecord}
 use Rattle.agreement.specs.Laws.Passing.{Passes, none, more, passes-append, ranAll}

@@ -1,8 +1,9 @@
 use mathlib.Core.Path.{refl}
 use Rattle.checking.specs.Laws.Names.{load-object, store-register}
 use Rattle.accepted.specs.Laws.Clear.{load-clear, store-clear}
+use Rattle.access_tapes.specs.Laws.Few.{window-few}
 use Rattle.translating.specs.Tapes.{stepRecords}
-use Rattle.translating.proofs.Laws.{copy-few, window-few, load-count, store-count}
+use Rattle.translating.proofs.Laws.{copy-few, load-count, store-count}
 use native.Mathlib.Omega.{arith}
 use borrow.Author.Needs.{needs}
 use Rattle.translating.proofs.count_step.Statement.{statement}

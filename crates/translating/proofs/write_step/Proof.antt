@@ -2,8 +2,9 @@ use denote.Ref.{now}
 use mathlib.Core.Path.{refl}
 use Rattle.checking.specs.Laws.Names.{load-register, load-object-ok, load-object, store-register}
 use Rattle.accepted.specs.Laws.Clear.{load-clear, store-clear}
+use Rattle.access_tapes.specs.Laws.Writing.{wrote-both}
 use Rattle.translating.specs.Tapes.{stepRecords}
-use Rattle.translating.proofs.Laws.{load-records, store-records, copy-room, runs-room, wrote-both}
+use Rattle.translating.proofs.Laws.{load-records, store-records, copy-room, runs-room}
 use native.Mathlib.Omega.{arith}
 use borrow.Author.Needs.{needs}
 use Rattle.translating.proofs.write_step.Statement.{statement}

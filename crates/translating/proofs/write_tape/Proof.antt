@@ -12,9 +12,9 @@ use Rattle.records.specs.declared.Record.{Record}
 use Rattle.records.specs.Records.{recordLength, tapeNumbers}
 use Rattle.accepted.specs.Passes.{passRest}
 use Rattle.accepted.specs.Laws.Rests.{Rest, rest-start, rest-step, rest-next, pass-start, pass-go, pass-end}
+use Rattle.access_tapes.specs.Laws.Writing.{records-after}
 use Rattle.translating.specs.Tapes.{stepRecords, sheetRecords, tapeOf}
-use Rattle.translating.specs.Writing.{Room}
-use Rattle.translating.proofs.Laws.{records-after}
+use Rattle.access_tapes.specs.Writing.{Room}
 use native.Mathlib.Omega.{arith}
 use borrow.Author.Needs.{needs}
 use Rattle.translating.proofs.write_tape.Statement.{statement}

@@ -18,8 +18,9 @@ use Rattle.accepted.specs.Passes.{passFrom}
 use Rattle.records.specs.Records.{tapeNumbers}
 use Rattle.records.specs.Laws.Records.{tape-append}
 use Rattle.runs.specs.Theorems.Unique.{stretches}
-use Rattle.translating.specs.Tapes.{copyRecords, accessRecords, stepRecords, tapeFrom, tapeOf}
-use Rattle.translating.specs.Theorems.Longest.{accessRuns, access-given, access-numbers}
+use Rattle.access_tapes.specs.Accesses.{accessRecords}
+use Rattle.access_tapes.specs.Theorems.{accessRuns, access-given, access-numbers}
+use Rattle.translating.specs.Tapes.{copyRecords, stepRecords, tapeFrom, tapeOf}
 use Rattle.translating.specs.GivenTape.{AccessNumbers, StepNumbers, NumbersFrom, none, more, GivenTape}
 
 -- ---- there is one

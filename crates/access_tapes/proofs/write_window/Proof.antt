@@ -1,7 +1,7 @@
-use Rattle.translating.proofs.Laws.{listed-records}
+use Rattle.access_tapes.proofs.Laws.{listed-records}
 use borrow.Author.Needs.{needs}
-use Rattle.translating.proofs.write_window.Statement.{statement}
-use Rattle.translating.proofs.write_window.Tie as tie
+use Rattle.access_tapes.proofs.write_window.Statement.{statement}
+use Rattle.access_tapes.proofs.write_window.Tie as tie
 
 survey-window-requires : tie.Need-survey-window-requires
 survey-window-requires c κs = search needs

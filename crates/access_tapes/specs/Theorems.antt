@@ -14,8 +14,8 @@ use Rattle.runs.specs.Theorems.Longest.{LongestRun, AllRuns, runs-longest}
 use Rattle.runs.specs.Theorems.Unique.{runOf, stretches, runs-given}
 use Rattle.runs.specs.RunRecords.{runNumbers}
 use Rattle.runs.specs.Laws.RunRecords.{recordsOf, of-runs, given-records, given-numbers}
-use Rattle.translating.specs.Tapes.{accessRecords}
-use Rattle.translating.specs.GivenTape.{AccessGiven}
+use Rattle.access_tapes.specs.Accesses.{accessRecords}
+use Rattle.access_tapes.specs.Given.{AccessGiven}
 
 -- the runs of a load or a store
 abbrev pub accessRuns : Access → List Run

@@ -6,11 +6,11 @@ use Rattle.runs.specs.Runs.{held as theHeld}
 use Rattle.runs.specs.Laws.Ranges.{held-small, ending-within, held-within}
 use Rattle.runs.specs.Laws.Writing.{Written, held-none, held-more, ending-is, count-records, written-none, written-more, written-length, written-all, written-place, room-more, room-last}
 use Rattle.accepted.specs.Accepted.{entriesOutcome}
-use Rattle.translating.proofs.Laws.{entry-near}
+use Rattle.access_tapes.proofs.Laws.{entry-near}
 use borrow.Author.Needs.{needs}
 use native.Mathlib.Omega.{arith}
-use Rattle.translating.proofs.write_runs.Statement.{statement}
-use Rattle.translating.proofs.write_runs.Tie as tie
+use Rattle.access_tapes.proofs.write_runs.Statement.{statement}
+use Rattle.access_tapes.proofs.write_runs.Tie as tie
 
 abbrev Inv-loop : tie.InvT-loop
 Inv-loop tape₀ entries n fill start load register held₀ at₀ k₀ tape held at k =

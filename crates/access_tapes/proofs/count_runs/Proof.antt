@@ -7,11 +7,11 @@ use Rattle.runs.specs.Runs.{held as theHeld, ended, emit}
 use Rattle.runs.specs.Laws.Ranges.{held-small}
 use Rattle.runs.specs.Laws.Writing.{held-none, held-more, ending-is, count-none, count-more, count-few, count-all, emit-one}
 use Rattle.accepted.specs.Accepted.{entriesOutcome}
-use Rattle.translating.proofs.Laws.{entry-near}
+use Rattle.access_tapes.proofs.Laws.{entry-near}
 use borrow.Author.Needs.{needs}
 use native.Mathlib.Omega.{arith}
-use Rattle.translating.proofs.count_runs.Statement.{statement}
-use Rattle.translating.proofs.count_runs.Tie as tie
+use Rattle.access_tapes.proofs.count_runs.Statement.{statement}
+use Rattle.access_tapes.proofs.count_runs.Tie as tie
 
 abbrev Inv-loop : tie.InvT-loop
 Inv-loop entries n fill held₀ records₀ k₀ held records k =

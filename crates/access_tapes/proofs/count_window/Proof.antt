@@ -1,9 +1,9 @@
 use mathlib.Core.Path.{ap, _∙_}
 use lib.ListN.{length}
-use Rattle.translating.proofs.Laws.{listed-runs}
+use Rattle.access_tapes.proofs.Laws.{listed-runs}
 use borrow.Author.Needs.{needs}
-use Rattle.translating.proofs.count_window.Statement.{statement}
-use Rattle.translating.proofs.count_window.Tie as tie
+use Rattle.access_tapes.proofs.count_window.Statement.{statement}
+use Rattle.access_tapes.proofs.count_window.Tie as tie
 
 survey-window-requires : tie.Need-survey-window-requires
 survey-window-requires c κs = search needs

@@ -1,0 +1,5 @@
+pub mod Accesses
+pub mod Given
+pub mod Writing
+pub mod Laws
+pub mod Theorems
