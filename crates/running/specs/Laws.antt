@@ -1,4 +1,3 @@
-pub mod Elements
 pub mod Records
 pub mod Turns
 pub mod Answers

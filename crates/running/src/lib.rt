@@ -1,6 +1,4 @@
 // A tape run with its sheet: every record's range first, then the records, which cannot fail.
-pub mod moving;
-
 ghost use mathlib.Core.Path.{_≡_};
 ghost use mathlib.Core.Bool.{true};
 ghost use Prim.Native.Nat.{ℕ, _+_, _*_, _<_, _≤_, _^_};
@@ -91,7 +89,7 @@ fn run_record(
             up,
             down,
         } => {
-            moving::take(
+            moves::take(
                 types,
                 elements,
                 memory,
@@ -115,7 +113,7 @@ fn run_record(
             up,
             down,
         } => {
-            moving::put(
+            moves::put(
                 types,
                 elements,
                 memory,
@@ -137,7 +135,7 @@ fn run_record(
             count,
             value,
         } => {
-            moving::fill(types, elements, register, first, count, value);
+            moves::fill(types, elements, register, first, count, value);
             Stepped {
                 types,
                 counts: counted,

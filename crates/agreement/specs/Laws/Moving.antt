@@ -19,7 +19,8 @@ use Rattle.records.specs.Records.{moved}
 use Rattle.runs.specs.Runs.{runsRecords}
 use Rattle.runs.specs.Acts.{Act, one, spread, pour, meet, give}
 use Rattle.runs.specs.Laws.States.{fold, elementwise, fold-append, same-records}
-use Rattle.running.specs.Records.{onElements, ranRecordWith, ranRecord}
+use Rattle.moves.specs.Elements.{onElements}
+use Rattle.running.specs.Records.{ranRecordWith, ranRecord}
 use Rattle.judging.specs.Laws.Bytes.{byte-natural}
 use Rattle.agreement.specs.Laws.Passing.{ranAll}
 

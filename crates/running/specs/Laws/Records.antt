@@ -30,10 +30,10 @@ use Rattle.judging.specs.Records.{recordOk, recordTypes, elementsOk, stepPlace}
 use Rattle.judging.specs.Judging.{placeNamed, decodedOk, decodedTypes}
 use Rattle.judging.specs.Laws.Elements.{elements-fit, bytes-elements, fill-elements}
 use Rattle.judging.specs.Laws.Records.{whole-named, record-sized, record-registers}
+use Rattle.moves.specs.Elements.{taking, putting, filling}
+use Rattle.moves.specs.Laws.Elements.{order-keeps, order-counts}
 use Rattle.running.specs.Records.{ranRecordWith, ranRecord}
 use Rattle.running.specs.Running.{ranDecodedWith, ranDecoded}
-use Rattle.running.specs.Elements.{taking, putting, filling}
-use Rattle.running.specs.Laws.Elements.{order-keeps, order-counts}
 
 module _ (sh : Sheet) where
   pub record-types : (r : Record) (m : Machine) (len : ℕ) → recordOk sh (m .registers .types) len r ≡ true

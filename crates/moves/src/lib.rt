@@ -1,4 +1,4 @@
-// The elements of a take, a put and a fill.
+// Takes, puts and fills: elements moved as a record says.
 ghost use mathlib.Core.Path.{_≡_};
 ghost use mathlib.Core.Bool.{true};
 ghost use mathlib.Core.List.{List};
@@ -15,8 +15,7 @@ ghost use Rattle.transfers.specs.Acts.{state};
 ghost use Rattle.carrying.specs.Steps.{machineOf};
 ghost use Rattle.records.specs.Ranges.{Elements, Bytes};
 ghost use Rattle.judging.specs.Records.{byteAt, bytesInside, bytesRecordOk, fillRecordOk};
-ghost use Rattle.running.specs.Records.{onElements};
-ghost use Rattle.running.specs.Elements.{taking, putting, filling};
+ghost use Rattle.moves.specs.Elements.{taking, putting, filling, onElements};
 use registers::MatrixType;
 use sheet::sizes::ELEMENTS;
 use sheet::sizes::REGISTERS;

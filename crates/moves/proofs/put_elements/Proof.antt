@@ -7,13 +7,13 @@ use Rattle.memory.specs.Laws.Elements.{length-with}
 use Rattle.counts.specs.Counts.{morePlaced}
 use Rattle.counts.specs.declared.Counts.{Counts}
 use Rattle.transfers.specs.Acts.{state}
-use Rattle.running.specs.Elements.{putting}
-use Rattle.running.specs.Laws.Elements.{order-start, put-turn}
+use Rattle.moves.specs.Elements.{putting}
+use Rattle.moves.specs.Laws.Elements.{order-start, put-turn}
 use Rattle.judging.specs.Laws.Elements.{inside-lies}
 use borrow.Author.Needs.{needs}
 use native.Mathlib.Omega.{arith}
-use Rattle.running.proofs.moving.put_elements.Statement.{statement}
-use Rattle.running.proofs.moving.put_elements.Tie as tie
+use Rattle.moves.proofs.put_elements.Statement.{statement}
+use Rattle.moves.proofs.put_elements.Tie as tie
 
 abbrev Inv-loop : tie.InvT-loop
 Inv-loop elements memory₀ size register first count byte up down i₀ memory i = (i ≤ count) × (length memory ≡ length memory₀) × ((c : Counts) → state elements memory (morePlaced c i) ≡ inOrder (putting size register first byte up down) i (state elements memory₀ c))

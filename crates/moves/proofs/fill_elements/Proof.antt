@@ -5,12 +5,12 @@ use Prim.Native.Nat.{ℕ, _-_, _≤_}
 use Rattle.numbers.specs.Orders.{inOrder}
 use Rattle.counts.specs.declared.Counts.{Counts}
 use Rattle.transfers.specs.Acts.{state}
-use Rattle.running.specs.Elements.{filling}
-use Rattle.running.specs.Laws.Elements.{order-none, fill-turn}
+use Rattle.moves.specs.Elements.{filling}
+use Rattle.moves.specs.Laws.Elements.{order-none, fill-turn}
 use borrow.Author.Needs.{needs}
 use native.Mathlib.Omega.{arith}
-use Rattle.running.proofs.moving.fill_elements.Statement.{statement}
-use Rattle.running.proofs.moving.fill_elements.Tie as tie
+use Rattle.moves.proofs.fill_elements.Statement.{statement}
+use Rattle.moves.proofs.fill_elements.Tie as tie
 
 abbrev Inv-loop : tie.InvT-loop
 Inv-loop elements₀ register first count value i₀ elements i = (i ≤ count) × ((m : List ℕ) (c : Counts) → state elements m c ≡ inOrder (filling register first value) i (state elements₀ m c))

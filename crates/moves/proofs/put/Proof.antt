@@ -8,11 +8,11 @@ use Rattle.registers.specs.Types.{theType}
 use Rattle.registers.specs.declared.MatrixType.{MatrixType}
 use Rattle.transfers.specs.Acts.{state}
 use Rattle.carrying.specs.Steps.{machineOf}
-use Rattle.running.specs.Elements.{putting}
+use Rattle.moves.specs.Elements.{putting}
 use Rattle.judging.specs.Laws.Elements.{elements-fit, bytes-elements, bytes-inside}
 use borrow.Author.Needs.{needs}
-use Rattle.running.proofs.moving.put.Statement.{statement}
-use Rattle.running.proofs.moving.put.Tie as tie
+use Rattle.moves.proofs.put.Statement.{statement}
+use Rattle.moves.proofs.put.Tie as tie
 
 the-type-requires : tie.Need-the-type-requires
 the-type-requires c κs = c .before .pre .0 .1 .register

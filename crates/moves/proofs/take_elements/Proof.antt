@@ -5,13 +5,13 @@ use Rattle.numbers.specs.Orders.{inOrder}
 use Rattle.counts.specs.Counts.{morePlaced}
 use Rattle.counts.specs.declared.Counts.{Counts}
 use Rattle.transfers.specs.Acts.{state}
-use Rattle.running.specs.Elements.{taking}
-use Rattle.running.specs.Laws.Elements.{order-start, take-turn}
+use Rattle.moves.specs.Elements.{taking}
+use Rattle.moves.specs.Laws.Elements.{order-start, take-turn}
 use Rattle.judging.specs.Laws.Elements.{inside-lies}
 use borrow.Author.Needs.{needs}
 use native.Mathlib.Omega.{arith}
-use Rattle.running.proofs.moving.take_elements.Statement.{statement}
-use Rattle.running.proofs.moving.take_elements.Tie as tie
+use Rattle.moves.proofs.take_elements.Statement.{statement}
+use Rattle.moves.proofs.take_elements.Tie as tie
 
 abbrev Inv-loop : tie.InvT-loop
 Inv-loop elements₀ memory size register first count byte up down i₀ elements i = (i ≤ count) × ((c : Counts) → state elements memory (morePlaced c i) ≡ inOrder (taking size register first byte up down) i (state elements₀ memory c))

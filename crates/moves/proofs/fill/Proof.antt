@@ -2,8 +2,8 @@ use mathlib.Core.Path.{ap}
 use Rattle.registers.specs.Types.{theType}
 use Rattle.carrying.specs.Steps.{machineOf}
 use Rattle.judging.specs.Laws.Elements.{elements-fit, fill-elements}
-use Rattle.running.proofs.moving.fill.Statement.{statement}
-use Rattle.running.proofs.moving.fill.Tie as tie
+use Rattle.moves.proofs.fill.Statement.{statement}
+use Rattle.moves.proofs.fill.Tie as tie
 
 fill-elements-requires : tie.Need-fill-elements-requires
 fill-elements-requires c κs =

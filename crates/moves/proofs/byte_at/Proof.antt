@@ -2,8 +2,8 @@ use Rattle.judging.specs.Laws.Elements.{stride-small}
 use Rattle.judging.specs.Laws.Bytes.{byte-natural}
 use native.Mathlib.Omega.{arith}
 use borrow.Author.Needs.{needs}
-use Rattle.running.proofs.moving.byte_at.Statement.{statement}
-use Rattle.running.proofs.moving.byte_at.Tie as tie
+use Rattle.moves.proofs.byte_at.Statement.{statement}
+use Rattle.moves.proofs.byte_at.Tie as tie
 
 mul-result : tie.Need-mul-result
 mul-result c = omega (arith, stride-small _ _ (c .pre .1) (c .pre .0 .up))

@@ -1,5 +1,5 @@
 -- The turns over the elements of a take, a put and a fill.
-use Prim.Native.Nat.{ℕ, zero, suc, _+_, _<_, _≤_}
+use Prim.Native.Nat.{ℕ, zero, suc, _+_, _≤_}
 use mathlib.Core.Path.{_≡_, refl, sym, ap, _∙_}
 use mathlib.Core.List.{List}
 use native.Mathlib.Numerals.{add-one}
@@ -13,7 +13,7 @@ use Rattle.counts.specs.declared.Counts.{Counts}
 use Rattle.transfers.specs.Acts.{State, state}
 use Rattle.transfers.specs.Laws.Elements.{took-counted, put-counted}
 use Rattle.judging.specs.Records.{byteAt}
-use Rattle.running.specs.Elements.{taking, putting, filling}
+use Rattle.moves.specs.Elements.{taking, putting, filling}
 
 module _ (act : ℕ → State → State) where
   pub order-none : (s : State) → inOrder act 0 s ≡ s

@@ -8,11 +8,11 @@ use Rattle.registers.specs.Types.{theType}
 use Rattle.registers.specs.declared.MatrixType.{MatrixType}
 use Rattle.transfers.specs.Acts.{state}
 use Rattle.carrying.specs.Steps.{machineOf}
-use Rattle.running.specs.Elements.{taking}
+use Rattle.moves.specs.Elements.{taking}
 use Rattle.judging.specs.Laws.Elements.{elements-fit, bytes-elements, bytes-inside}
 use borrow.Author.Needs.{needs}
-use Rattle.running.proofs.moving.take.Statement.{statement}
-use Rattle.running.proofs.moving.take.Tie as tie
+use Rattle.moves.proofs.take.Statement.{statement}
+use Rattle.moves.proofs.take.Tie as tie
 
 the-type-requires : tie.Need-the-type-requires
 the-type-requires c κs = c .before .pre .0 .1 .register
