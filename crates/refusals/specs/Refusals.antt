@@ -1,4 +1,4 @@
--- Document 01's refusal numbers by name, in its table's order, and a refusal with its place.
+-- Refusal numbers by name, document 01's in its table's order and then document 02's, and a refusal with its place.
 use Prim.Native.Nat.{ℕ}
 use Rattle.refusals.specs.declared.Refusal.{Refusal}
 use Rattle.refusals.specs.declared.Stop.{Stop}
@@ -59,6 +59,9 @@ memoryTooLarge = 18
 
 abbrev pub roomTooShort : ℕ
 roomTooShort = 19
+
+abbrev pub notAfter : ℕ
+notAfter = 26
 
 -- the number and its place; a place that is not named is 0
 abbrev pub refusalAt : ℕ → ℕ → ℕ → Refusal

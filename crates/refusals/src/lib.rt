@@ -1,4 +1,4 @@
-// Refusals: document 01's numbers by name, and where one was given.
+// Refusals: the documents' numbers by name, and where one was given. Document 01 has 1 to 19, document 02 the later ones.
 ghost use mathlib.Core.Path.{_≡_};
 ghost use Rattle.refusals.specs.Refusals.{refusalAt, notRefused, stopAt};
 
@@ -46,6 +46,9 @@ pub const RECORD_OUT_OF_RANGE: u8 = 17;
 pub const MEMORY_TOO_LARGE: u8 = 18;
 
 pub const ROOM_TOO_SHORT: u8 = 19;
+
+// A field of a trace is not after the one before.
+pub const NOT_AFTER: u8 = 26;
 
 // A number and its place, document 01's two numbers: the byte, step or record, and the element. All zero: not refused.
 pub struct Refusal {
