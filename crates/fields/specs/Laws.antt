@@ -1,2 +1,5 @@
 -- What is proved of the definitions.
 pub mod Bounds
+pub mod Lengths
+pub mod Puts
+pub mod Stretches

@@ -1,8 +1,13 @@
-// A cursor over a sheet's bytes, by value, that steps over a field and hands itself back with the field's bounds.
+// Tagged fields in bytes. A cursor, by value, steps over a field and hands itself back with the field's bounds.
 ghost use mathlib.Core.Path.{_≡_};
 ghost use Prim.Native.Nat.{_≤_};
 ghost use lib.ListN.{length};
 ghost use Rattle.fields.specs.Fields.{fieldAt};
+
+pub mod writing;
+
+// The bytes of a field before its content: a tag and a length.
+pub const HEAD: usize = 3;
 
 pub struct Cursor {
     pub at: usize,
@@ -26,12 +31,12 @@ impl Cursor {
         ensures { λ r. ⌜ r ≡ fieldAt (now (s .entry)) (self .at) ⌝ }
     {
         let at = self.at;
-        if s.len() - at < 3 {
+        if s.len() - at < HEAD {
             return Field::Short;
         }
         let tag = s[at];
         let len = numbers::u16_at(s, at + 1) as usize;
-        let start = at + 3;
+        let start = at + HEAD;
         if len <= s.len() - start {
             Field::Whole {
                 tag,

@@ -1,5 +1,4 @@
 -- What is proved on the way to the theorems.
-pub mod Stretches
 pub mod Codes
 pub mod Layouts
 pub mod Views

@@ -21,7 +21,7 @@ use Rattle.sheet_writer.specs.Bytes.{sheetBytes}
 use Rattle.sheet_writer.specs.Writing.{written, writtenRoom}
 use Rattle.round_trip.specs.Typed.{Typed}
 use Rattle.round_trip.specs.Longest.{longest, enough}
-use Rattle.round_trip.specs.Laws.Stretches.{has-all}
+use Rattle.fields.specs.Laws.Stretches.{has-all}
 use Rattle.round_trip.specs.Laws.Sheets.{sheet-short}
 use Rattle.round_trip.specs.Laws.Growing.{GrownFrom, reading}
 use Rattle.round_trip.specs.Laws.Returning.{reads-back}

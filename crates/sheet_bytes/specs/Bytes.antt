@@ -1,9 +1,10 @@
 -- The bytes of fields, by the table of "The sheet": the edition, layouts and views.
 use Prim.Native.Nat.{ℕ}
 use mathlib.Core.List.{List, [], _∷_, _++_}
-use lib.ListN.{length, getD}
+use lib.ListN.{getD}
 use Rattle.numbers.specs.Little.{u16Bytes, u32Bytes}
 use Rattle.numbers.specs.Lists.{each}
+use Rattle.fields.specs.Bytes.{fieldBytes}
 use Rattle.sheet.specs.Codes.{editionTag, layoutTag, viewTag, clampCode, flagCode}
 use Rattle.tensor_ranges.specs.Layouts.{theDimension}
 use Rattle.tensor_ranges.specs.Views.{theViewDimension, sizedRank}
@@ -12,13 +13,6 @@ use Rattle.sheet.specs.declared.Layout.{Layout}
 use Rattle.sheet.specs.declared.ViewDimension.{ViewDimension}
 use Rattle.sheet.specs.declared.Clip.{Clip}
 use Rattle.sheet.specs.declared.View.{View}
-
--- a field: a one-byte tag, a two-byte length, then the content
-abbrev pub headBytes : ℕ → ℕ → List ℕ
-headBytes tag len = (tag ∷ []) ++ u16Bytes len
-
-unfoldable pub fieldBytes : ℕ → List ℕ → List ℕ
-fieldBytes tag content = headBytes tag (length content) ++ content
 
 abbrev pub editionField : ℕ → List ℕ
 editionField edition = fieldBytes editionTag (edition ∷ [])

@@ -5,8 +5,8 @@ ghost use lib.ListN.{length};
 ghost use lib.Seq.{sets};
 ghost use Rattle.sheet.specs.Sizes.{rankPlaces};
 ghost use Rattle.sheet_bytes.specs.Bytes.{dimensionBytes, dimensionsBytes, layoutBytes, layoutField};
-use super::fields;
-use super::fields::HEAD;
+use fields::HEAD;
+use fields::writing;
 use sheet::Dimension;
 use sheet::Layout;
 use sheet::codes;
@@ -27,8 +27,8 @@ fn put_dimension(out: &mut [u8], at: usize, d: Dimension)
     requires { ⌜ at + 10 ≤ length (now out) ⌝ }
     ensures { λ _. ⌜ now (out .exit) ≡ sets (now (out .entry)) at (dimensionBytes d) ⌝ }
 {
-    fields::put_u16s(out, at, d.block, d.size);
-    fields::put_u16s(out, at + 4, d.stride, d.offset);
+    writing::put_u16s(out, at, d.block, d.size);
+    writing::put_u16s(out, at + 4, d.stride, d.offset);
     numbers::put_u16(out, at + 8, d.span);
 }
 
@@ -54,7 +54,7 @@ fn put_layout_content(out: &mut [u8], at: usize, l: Layout)
     let rank = l.rank;
     let mode = l.mode;
     let ds = l.dimensions;
-    fields::put_pair(out, at, rank, codes::clamp_code(mode));
+    writing::put_pair(out, at, rank, codes::clamp_code(mode));
     numbers::put_u32(out, at + 2, l.clamp);
     put_dimensions(out, at + START, rank, ds);
 }
@@ -65,7 +65,7 @@ pub fn put_layout(out: &mut [u8], at: usize, l: Layout) -> usize
     ensures { λ r. ⌜ (r ≡ at + length (layoutField l)) × (now (out .exit) ≡ sets (now (out .entry)) at (layoutField l)) ⌝ }
 {
     let content = layout_len(l);
-    fields::put_head(out, at, codes::LAYOUT_TAG, content);
+    writing::put_head(out, at, codes::LAYOUT_TAG, content);
     put_layout_content(out, at + HEAD, l);
-    at + fields::field_len(content)
+    at + writing::field_len(content)
 }

@@ -6,8 +6,8 @@ ghost use lib.ListN.{length};
 ghost use lib.Seq.{sets};
 ghost use Rattle.sheet.specs.Sizes.{rankPlaces};
 ghost use Rattle.sheet_bytes.specs.Bytes.{entriesBytes, viewDimensionsBytes, clipBytes, viewBytes, viewField};
-use super::fields;
-use super::fields::HEAD;
+use fields::HEAD;
+use fields::writing;
 use sheet::Clip;
 use sheet::View;
 use sheet::ViewDimension;
@@ -53,7 +53,7 @@ fn put_view_dimensions(out: &mut [u8], at: usize, count: u8, ds: [ViewDimension;
     let mut k = 0;
     while k < n {
         let d = ds[k];
-        fields::put_u16s(out, p, d.size, d.stride);
+        writing::put_u16s(out, p, d.size, d.stride);
         p += DIMENSION;
         k += 1;
     }
@@ -63,8 +63,8 @@ fn put_clips(out: &mut [u8], at: usize, rows: Clip, columns: Clip)
     requires { ⌜ at + 8 ≤ length (now out) ⌝ }
     ensures { λ _. ⌜ now (out .exit) ≡ sets (now (out .entry)) at (clipBytes rows ++ clipBytes columns) ⌝ }
 {
-    fields::put_u16s(out, at, rows.offset, rows.span);
-    fields::put_u16s(out, at + CLIP, columns.offset, columns.span);
+    writing::put_u16s(out, at, rows.offset, rows.span);
+    writing::put_u16s(out, at + CLIP, columns.offset, columns.span);
 }
 
 fn put_view_content(out: &mut [u8], at: usize, v: View)
@@ -77,7 +77,7 @@ fn put_view_content(out: &mut [u8], at: usize, v: View)
     let ds = v.dimensions;
     let rows = v.rows;
     let columns = v.columns;
-    fields::put_pair(out, at, rank, codes::flag_code(v.sized));
+    writing::put_pair(out, at, rank, codes::flag_code(v.sized));
     put_permutation(out, at + START, rank, permutation);
     let dimensions = at + START + rank as usize;
     put_view_dimensions(out, dimensions, own, ds);
@@ -90,7 +90,7 @@ pub fn put_view(out: &mut [u8], at: usize, v: View) -> usize
     ensures { λ r. ⌜ (r ≡ at + length (viewField v)) × (now (out .exit) ≡ sets (now (out .entry)) at (viewField v)) ⌝ }
 {
     let content = view_len(v);
-    fields::put_head(out, at, codes::VIEW_TAG, content);
+    writing::put_head(out, at, codes::VIEW_TAG, content);
     put_view_content(out, at + HEAD, v);
-    at + fields::field_len(content)
+    at + writing::field_len(content)
 }

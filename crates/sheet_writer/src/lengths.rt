@@ -6,6 +6,7 @@ ghost use lib.ListN.{length};
 ghost use Rattle.sheet.specs.Sizes.{layoutPlaces, viewPlaces, stepPlaces};
 ghost use Rattle.sheet_ranges.specs.Sheets.{writable};
 ghost use Rattle.sheet_writer.specs.Bytes.{layoutsBytes, viewsBytes, stepsBytes, sheetBytes};
+use fields::writing;
 use sheet::Cell;
 use sheet::Layout;
 use sheet::Sheet;
@@ -13,7 +14,7 @@ use sheet::View;
 use sheet::sizes::LAYOUTS;
 use sheet::sizes::STEPS;
 use sheet::sizes::VIEWS;
-use sheet_bytes::fields;
+use sheet_bytes::edition::EDITION_LEN;
 use sheet_bytes::layouts;
 use sheet_bytes::views;
 
@@ -25,7 +26,7 @@ fn layouts_len(count: usize, ls: [Layout; LAYOUTS]) -> usize
     let mut k = 0;
     while k < count {
         let l = ls[k];
-        total += fields::field_len(layouts::layout_len(l));
+        total += writing::field_len(layouts::layout_len(l));
         k += 1;
     }
     total
@@ -39,7 +40,7 @@ fn views_len(count: usize, vs: [View; VIEWS]) -> usize
     let mut k = 0;
     while k < count {
         let v = vs[k];
-        total += fields::field_len(views::view_len(v));
+        total += writing::field_len(views::view_len(v));
         k += 1;
     }
     total
@@ -54,7 +55,7 @@ fn steps_len(edition: u8, count: usize, cs: [Cell; STEPS]) -> usize
     while k < count {
         let c = cs[k];
         let s = c.step;
-        total += fields::field_len(step_bytes::step_len(edition, s));
+        total += writing::field_len(step_bytes::step_len(edition, s));
         k += 1;
     }
     total
@@ -68,7 +69,7 @@ pub fn sheet_len(model: Sheet) -> usize
     let ls = t.layout;
     let vs = t.view;
     let cs = model.step;
-    fields::EDITION_LEN
+    EDITION_LEN
         + layouts_len(t.layouts, ls)
         + views_len(t.views, vs)
         + steps_len(model.edition, model.steps, cs)

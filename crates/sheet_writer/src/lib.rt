@@ -17,7 +17,7 @@ use sheet::View;
 use sheet::sizes::LAYOUTS;
 use sheet::sizes::STEPS;
 use sheet::sizes::VIEWS;
-use sheet_bytes::fields;
+use sheet_bytes::edition;
 use sheet_bytes::layouts;
 use sheet_bytes::views;
 use sheet_ranges::sheets;
@@ -90,8 +90,8 @@ fn put_sheet(out: &mut [u8], model: Sheet) -> usize
     let ls = t.layout;
     let vs = t.view;
     let cs = model.step;
-    fields::put_edition(out, model.edition);
-    let views_at = put_layouts(out, fields::EDITION_LEN, t.layouts, ls);
+    edition::put_edition(out, model.edition);
+    let views_at = put_layouts(out, edition::EDITION_LEN, t.layouts, ls);
     let steps_at = put_views(out, views_at, t.views, vs);
     put_steps(out, steps_at, model.edition, model.steps, cs)
 }

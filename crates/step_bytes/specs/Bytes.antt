@@ -9,7 +9,7 @@ use Rattle.sheet.specs.declared.Step.the-variants.{Nothing, Load, Store, Whole}
 use Rattle.sheet.specs.declared.WholeStep.{WholeStep}
 use Rattle.sheet.specs.declared.WholeStep.the-variants.{Fill, Reduce, Transpose, MultiplyAdd, Vector}
 use Rattle.sheet.specs.declared.VectorStep.{VectorStep}
-use Rattle.sheet_bytes.specs.Bytes.{fieldBytes}
+use Rattle.fields.specs.Bytes.{fieldBytes}
 
 abbrev pub wholeTag : WholeStep → ℕ
 wholeTag (Fill register rows columns kind value) = fillTag

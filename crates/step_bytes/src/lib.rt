@@ -7,6 +7,8 @@ ghost use lib.Seq.{sets};
 ghost use Rattle.numbers.specs.Little.{u32Bytes};
 ghost use Rattle.sheet.specs.Codes.{reduceCode, combineCode, objectCode};
 ghost use Rattle.step_bytes.specs.Bytes.{wholeTag, stepTag, windowBytes, vectorOperands, vectorPlaces, vectorBytes, wholeBytes, stepBytes, stepField};
+use fields::HEAD;
+use fields::writing;
 use sheet::Combine;
 use sheet::Object;
 use sheet::ReduceMode;
@@ -16,8 +18,6 @@ use sheet::WholeStep;
 use sheet::Window;
 use sheet::codes;
 use sheet::editions;
-use sheet_bytes::fields;
-use sheet_bytes::fields::HEAD;
 
 fn whole_tag(s: WholeStep) -> u8
     ensures { λ r. ⌜ r ≡ wholeTag s ⌝ }
@@ -127,8 +127,8 @@ fn put_four(out: &mut [u8], at: usize, a: u8, b: u8, c: u8, d: u8)
     requires { ⌜ at + 4 ≤ length (now out) ⌝ }
     ensures { λ _. ⌜ now (out .exit) ≡ sets (now (out .entry)) at (a ∷ b ∷ c ∷ d ∷ []) ⌝ }
 {
-    fields::put_pair(out, at, a, b);
-    fields::put_pair(out, at + 2, c, d);
+    writing::put_pair(out, at, a, b);
+    writing::put_pair(out, at + 2, c, d);
 }
 
 fn put_fill(out: &mut [u8], at: usize, register: u8, rows: u8, columns: u8, kind: u8, value: u32)
@@ -144,7 +144,7 @@ fn put_window(out: &mut [u8], at: usize, w: Window)
     ensures { λ _. ⌜ now (out .exit) ≡ sets (now (out .entry)) at (windowBytes w) ⌝ }
 {
     let view = w.view;
-    fields::put_pair(out, at, w.layout, codes::viewing_code(view));
+    writing::put_pair(out, at, w.layout, codes::viewing_code(view));
     numbers::put_u32(out, at + 2, w.base);
 }
 
@@ -152,7 +152,7 @@ fn put_load(out: &mut [u8], at: usize, register: u8, object: Object, window: Win
     requires { ⌜ at + 8 ≤ length (now out) ⌝ }
     ensures { λ _. ⌜ now (out .exit) ≡ sets (now (out .entry)) at ((register ∷ objectCode object ∷ []) ++ windowBytes window) ⌝ }
 {
-    fields::put_pair(out, at, register, codes::object_code(object));
+    writing::put_pair(out, at, register, codes::object_code(object));
     put_window(out, at + 2, window);
 }
 
@@ -160,7 +160,7 @@ fn put_store(out: &mut [u8], at: usize, register: u8, window: Window)
     requires { ⌜ at + 7 ≤ length (now out) ⌝ }
     ensures { λ _. ⌜ now (out .exit) ≡ sets (now (out .entry)) at ((register ∷ []) ++ windowBytes window) ⌝ }
 {
-    fields::put_byte(out, at, register);
+    writing::put_byte(out, at, register);
     put_window(out, at + 1, window);
 }
 
@@ -178,7 +178,7 @@ fn put_reduce(
     ensures { λ _. ⌜ now (out .exit) ≡ sets (now (out .entry)) at (result ∷ source ∷ rows ∷ columns ∷ reduceCode mode ∷ combineCode combine ∷ []) ⌝ }
 {
     put_four(out, at, result, source, rows, columns);
-    fields::put_pair(
+    writing::put_pair(
         out,
         at + 4,
         codes::reduce_code(mode),
@@ -210,7 +210,7 @@ fn put_vector_places(out: &mut [u8], at: usize, v: VectorStep)
 {
     numbers::put_u16(out, at, v.stride);
     numbers::put_u32(out, at + 2, v.offset);
-    fields::put_byte(out, at + 6, codes::flag_code(v.biased));
+    writing::put_byte(out, at + 6, codes::flag_code(v.biased));
     numbers::put_u32(out, at + 7, v.bias);
 }
 
@@ -242,7 +242,7 @@ fn put_whole_content(out: &mut [u8], at: usize, edition: u8, s: WholeStep)
             mode,
             combine,
         } => put_reduce(out, at, result, source, rows, columns, mode, combine),
-        WholeStep::Transpose { result, source } => fields::put_pair(out, at, result, source),
+        WholeStep::Transpose { result, source } => writing::put_pair(out, at, result, source),
         WholeStep::MultiplyAdd { result, a, b, c } => put_four(out, at, result, a, b, c),
         WholeStep::Vector(v) => put_vector(out, at, v),
     }
@@ -270,7 +270,7 @@ pub fn put_step(out: &mut [u8], at: usize, edition: u8, s: Step) -> usize
     ensures { λ r. ⌜ (r ≡ at + length (stepField edition s)) × (now (out .exit) ≡ sets (now (out .entry)) at (stepField edition s)) ⌝ }
 {
     let content = step_len(edition, s);
-    fields::put_head(out, at, step_tag(s), content);
+    writing::put_head(out, at, step_tag(s), content);
     put_step_content(out, at + HEAD, edition, s);
-    at + fields::field_len(content)
+    at + writing::field_len(content)
 }

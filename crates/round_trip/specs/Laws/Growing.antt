@@ -33,13 +33,14 @@ use Rattle.sheet_reader.specs.Laws.Ways.{tagAt, lengthAt, nextAt, Ways, reads}
 use Rattle.sheet_reader.specs.Laws.Growing.{Grown, edition-grown, layout-grown, view-grown, step-grown, first-edition}
 use Rattle.sheet_reader.specs.declared.Given.{Given}
 use Rattle.sheet_reader.specs.declared.ReadAnswer.{ReadAnswer}
-use Rattle.sheet_bytes.specs.Bytes.{fieldBytes, layoutBytes, viewBytes}
-use Rattle.sheet_bytes.specs.Laws.Lengths.{length-field}
+use Rattle.fields.specs.Bytes.{fieldBytes}
+use Rattle.sheet_bytes.specs.Bytes.{layoutBytes, viewBytes}
+use Rattle.fields.specs.Laws.Lengths.{length-field}
 use Rattle.step_bytes.specs.Bytes.{stepTag, stepBytes}
 use Rattle.sheet_writer.specs.Bytes.{sheetBytes}
 use Rattle.round_trip.specs.Typed.{U16, DimensionFits, ClipFits, LayoutArrays, LayoutFits, ViewArrays, ViewFits, StepFits, SheetFits}
 use Rattle.round_trip.specs.Longest.{longest}
-use Rattle.round_trip.specs.Laws.Stretches.{Has, has-at, has-back, has-join, low-at, high-at}
+use Rattle.fields.specs.Laws.Stretches.{Has, has-at, has-back, has-join, low-at, high-at}
 use Rattle.round_trip.specs.Laws.Layouts.{layout-at-shaped, layout-at-long, has-layout, layout-at-fits}
 use Rattle.round_trip.specs.Laws.Views.{view-at-shaped, view-at-long, has-view, view-at-fits}
 use Rattle.round_trip.specs.Laws.Steps.{step-read}

@@ -24,7 +24,7 @@ use Rattle.contents.specs.Contents.{dimensionAt, dimensionsAt, layoutAt, layout
 use Rattle.contents.specs.Laws.Heads.{layout-head}
 use Rattle.sheet_bytes.specs.Bytes.{dimensionBytes, dimensionsBytes, layoutBytes}
 use Rattle.sheet_bytes.specs.Laws.Lengths.{length-dimension, length-layout}
-use Rattle.round_trip.specs.Laws.Stretches.{Has, has-shift, has-back, has-rows-at, has-rows, u16-of, u32-of, low-at, high-at, u16-below, u32-below, has-u32}
+use Rattle.fields.specs.Laws.Stretches.{Has, has-shift, has-back, has-rows-at, has-rows, u16-of, u32-of, low-at, high-at, u16-below, u32-below, has-u32}
 use Rattle.round_trip.specs.Laws.Codes.{clamp-mode-of, clamp-code-small, clamp-code-of}
 use Rattle.round_trip.specs.Typed.{DimensionFits, LayoutFits, LayoutArrays}
 

@@ -26,7 +26,7 @@ use Rattle.sheet_reader.specs.declared.Given.{Given}
 use Rattle.sheet_reader.specs.declared.ReadAnswer.{ReadAnswer}
 use Rattle.sheet_bytes.specs.Bytes.{layoutBytes, viewBytes}
 use Rattle.round_trip.specs.Longest.{longest, enough}
-use Rattle.round_trip.specs.Laws.Stretches.{has-same, u16-below}
+use Rattle.fields.specs.Laws.Stretches.{has-same, u16-below}
 use Rattle.round_trip.specs.Laws.Layouts.{layout-at-shaped, layout-at-long, layout-of, has-layout}
 use Rattle.round_trip.specs.Laws.Views.{view-at-shaped, view-at-long, view-of, has-view}
 use Rattle.round_trip.specs.Laws.Sheets.{sheet-short}

@@ -32,12 +32,14 @@ use Rattle.contents.specs.Contents.{layoutLengthOk, viewLengthOk}
 use Rattle.step_contents.specs.Contents.{stepLength}
 use Rattle.sheet_reader.specs.Reading.{givenOf, layoutMayCome, viewMayCome, stepMayCome, editionRefusal, layoutRefusal, viewRefusal, stepRefusal, fieldRefusal, withEdition, moreLayout, moreView, withTensors, withStep, withField, acceptedRead, endRead, on, turnField, turn, afterTurn, readFrom, readSheet}
 use Rattle.sheet_reader.specs.Laws.Turns.{with-edition, with-layout, with-view, with-step}
-use Rattle.sheet_bytes.specs.Bytes.{fieldBytes, editionField, layoutBytes, layoutField, viewBytes, viewField}
-use Rattle.sheet_bytes.specs.Laws.Lengths.{length-field, length-layout, length-view}
+use Rattle.fields.specs.Bytes.{fieldBytes}
+use Rattle.sheet_bytes.specs.Bytes.{editionField, layoutBytes, layoutField, viewBytes, viewField}
+use Rattle.fields.specs.Laws.Lengths.{length-field}
+use Rattle.sheet_bytes.specs.Laws.Lengths.{length-layout, length-view}
 use Rattle.step_bytes.specs.Bytes.{stepTag, stepBytes, stepField}
 use Rattle.sheet_writer.specs.Bytes.{layoutsBytes, viewsBytes, stepsBytes, sheetBytes}
 use Rattle.round_trip.specs.Typed.{LayoutArrays, ViewArrays, SheetArrays}
-use Rattle.round_trip.specs.Laws.Stretches.{Has, has-at, has-shift, has-left, has-right, has-self, u16-of}
+use Rattle.fields.specs.Laws.Stretches.{Has, has-at, has-shift, has-left, has-right, has-self, u16-of}
 use Rattle.round_trip.specs.Laws.Layouts.{layout-shaped, layout-of, layout-length-ok, layout-head-ok, no-layout}
 use Rattle.round_trip.specs.Laws.Views.{view-shaped, view-of, view-length-ok, view-head-ok, no-view}
 use Rattle.round_trip.specs.Laws.Steps.{step-of, step-long, tag-range, tag-known, tag-judged, no-step}

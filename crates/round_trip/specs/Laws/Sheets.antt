@@ -20,7 +20,8 @@ use Rattle.sheet.specs.declared.Cell.{Cell}
 use Rattle.sheet.specs.declared.Sheet.{Sheet}
 use Rattle.sheet_reader.specs.Reading.{moreLayout, moreView, withTensors, withStep}
 use Rattle.sheet_bytes.specs.Bytes.{editionField, layoutBytes, layoutField, viewBytes, viewField}
-use Rattle.sheet_bytes.specs.Laws.Lengths.{length-field, length-layout, length-view, sized-within}
+use Rattle.fields.specs.Laws.Lengths.{length-field}
+use Rattle.sheet_bytes.specs.Laws.Lengths.{length-layout, length-view, sized-within}
 use Rattle.step_bytes.specs.Bytes.{stepTag, stepBytes, stepField}
 use Rattle.sheet_writer.specs.Bytes.{layoutsBytes, viewsBytes, stepsBytes, sheetBytes}
 use Rattle.sheet_writer.specs.Laws.Lengths.{length-sheet}

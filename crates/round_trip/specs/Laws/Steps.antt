@@ -27,7 +27,7 @@ use Rattle.sheet_reader.specs.Reading.{fieldRefusal, stepRefusal}
 use Rattle.sheet_reader.specs.declared.Given.{Given}
 use Rattle.step_bytes.specs.Bytes.{wholeTag, stepTag, windowBytes, vectorOperands, vectorPlaces, vectorBytes, wholeBytes, stepBytes}
 use Rattle.round_trip.specs.Typed.{VectorFits, StepFits}
-use Rattle.round_trip.specs.Laws.Stretches.{Has, has-shift, has-back, has-append, u16-of, u32-of, u16-below, u32-below, has-u16, has-u32}
+use Rattle.fields.specs.Laws.Stretches.{Has, has-shift, has-back, has-append, u16-of, u32-of, u16-below, u32-below, has-u16, has-u32}
 use Rattle.round_trip.specs.Laws.Codes.{one-of, reduce-mode-of, reduce-code-between, reduce-code-of, combine-of, combine-code-small, combine-code-of, memory-layout-of, memory-layout-code-small, memory-layout-code-of, flag-of, flag-code-small, flag-code-of, object-of, object-code-of, viewing-of, viewing-code-of}
 
 -- from the bytes to the step

@@ -25,7 +25,7 @@ use Rattle.contents.specs.Contents.{permutationAt, viewDimensionAt, viewDimensi
 use Rattle.contents.specs.Laws.Heads.{sized-few, view-head}
 use Rattle.sheet_bytes.specs.Bytes.{entriesBytes, viewDimensionBytes, viewDimensionsBytes, clipBytes, viewBytes}
 use Rattle.sheet_bytes.specs.Laws.Lengths.{length-entries, length-view-dimension, length-view-dimensions, length-clip, length-view}
-use Rattle.round_trip.specs.Laws.Stretches.{Has, has-at, has-shift, has-back, has-left, has-right, has-join, has-rows-at, has-rows, u16-of, low-at, high-at, u16-below}
+use Rattle.fields.specs.Laws.Stretches.{Has, has-at, has-shift, has-back, has-left, has-right, has-join, has-rows-at, has-rows, u16-of, low-at, high-at, u16-below}
 use Rattle.round_trip.specs.Laws.Codes.{one-of, flag-of, flag-code-small, flag-code-of}
 use Rattle.round_trip.specs.Typed.{U16, ClipFits, ViewFits, ViewArrays}
 

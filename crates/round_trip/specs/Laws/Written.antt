@@ -34,7 +34,8 @@ use Rattle.sheet.specs.declared.WholeStep.{WholeStep}
 use Rattle.sheet.specs.declared.WholeStep.the-variants.{Fill, Reduce, Transpose, MultiplyAdd, Vector}
 use Rattle.sheet.specs.declared.VectorStep.{VectorStep}
 use Rattle.sheet.specs.declared.Sheet.{Sheet}
-use Rattle.sheet_bytes.specs.Bytes.{headBytes, fieldBytes, editionField, dimensionBytes, dimensionsBytes, layoutBytes, layoutField, entriesBytes, viewDimensionBytes, viewDimensionsBytes, clipBytes, viewBytes, viewField}
+use Rattle.fields.specs.Bytes.{headBytes, fieldBytes}
+use Rattle.sheet_bytes.specs.Bytes.{editionField, dimensionBytes, dimensionsBytes, layoutBytes, layoutField, entriesBytes, viewDimensionBytes, viewDimensionsBytes, clipBytes, viewBytes, viewField}
 use Rattle.sheet_bytes.specs.Laws.Lengths.{length-layout, length-view, sized-within}
 use Rattle.step_bytes.specs.Bytes.{stepTag, windowBytes, vectorOperands, vectorPlaces, vectorBytes, wholeBytes, stepBytes, stepField}
 use Rattle.sheet_writer.specs.Bytes.{layoutsBytes, viewsBytes, stepsBytes, sheetBytes}

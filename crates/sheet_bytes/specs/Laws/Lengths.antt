@@ -1,4 +1,4 @@
--- How many bytes each field takes.
+-- How many bytes the content of each field takes.
 use Prim.Native.Nat.{ℕ, _+_, _*_, _≤_}
 use mathlib.Core.Path.{_≡_, refl}
 use mathlib.Core.Bool.{Bool}
@@ -14,11 +14,7 @@ use Rattle.sheet.specs.declared.Layout.{Layout}
 use Rattle.sheet.specs.declared.ViewDimension.{ViewDimension}
 use Rattle.sheet.specs.declared.Clip.{Clip}
 use Rattle.sheet.specs.declared.View.{View}
-use Rattle.sheet_bytes.specs.Bytes.{fieldBytes, dimensionBytes, dimensionsBytes, layoutBytes, entriesBytes, viewDimensionBytes, viewDimensionsBytes, clipBytes, viewBytes}
-
-pub length-field : (tag : ℕ) (content : List ℕ) → length (fieldBytes tag content) ≡ 3 + length content
-unfolding fieldBytes
-length-field tag content = omega arith
+use Rattle.sheet_bytes.specs.Bytes.{dimensionBytes, dimensionsBytes, layoutBytes, entriesBytes, viewDimensionBytes, viewDimensionsBytes, clipBytes, viewBytes}
 
 pub length-dimension : (d : Dimension) → length (dimensionBytes d) ≡ 10
 unfolding dimensionBytes

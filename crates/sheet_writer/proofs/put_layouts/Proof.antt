@@ -3,7 +3,7 @@ use borrow.Author.Needs.{needs}
 use Rattle.tensor_ranges.specs.Layouts.{theLayout}
 use Rattle.tensor_ranges.specs.Laws.Facts.{layout-most}
 use Rattle.sheet_bytes.specs.Bytes.{layoutField}
-use Rattle.sheet_bytes.specs.Laws.Puts.{Turns, no-turns, one-turn, turn-fits, all-turns}
+use Rattle.fields.specs.Laws.Puts.{Turns, no-turns, one-turn, turn-fits, all-turns}
 use Rattle.sheet_writer.proofs.put_layouts.Statement.{statement}
 use Rattle.sheet_writer.proofs.put_layouts.Tie as tie
 

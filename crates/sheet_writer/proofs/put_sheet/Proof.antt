@@ -5,8 +5,9 @@ use borrow.Author.Needs.{needs}
 use lib.ListN.{length-append}
 use Rattle.numbers.specs.Laws.Lists.{puts-after}
 use Rattle.sheet_ranges.specs.Laws.Within.{within, within-places}
-use Rattle.sheet_bytes.specs.Bytes.{fieldBytes, editionField}
-use Rattle.sheet_bytes.specs.Laws.Puts.{puts-at}
+use Rattle.fields.specs.Bytes.{fieldBytes}
+use Rattle.sheet_bytes.specs.Bytes.{editionField}
+use Rattle.fields.specs.Laws.Puts.{puts-at}
 use Rattle.sheet_writer.specs.Bytes.{layoutsBytes, viewsBytes, stepsBytes, sheetBytes}
 use Rattle.sheet_writer.specs.Laws.Lengths.{length-sheet}
 use Rattle.sheet_writer.proofs.put_sheet.Statement.{statement}

@@ -2,7 +2,7 @@ use Prim.Native.Nat.{ℕ, _-_, _≤_}
 use borrow.Author.Needs.{needs}
 use Rattle.sheet_ranges.specs.Steps.{theStep}
 use Rattle.step_bytes.specs.Bytes.{stepField}
-use Rattle.sheet_bytes.specs.Laws.Puts.{Turns, no-turns, one-turn, turn-fits, all-turns}
+use Rattle.fields.specs.Laws.Puts.{Turns, no-turns, one-turn, turn-fits, all-turns}
 use Rattle.sheet_writer.proofs.put_steps.Statement.{statement}
 use Rattle.sheet_writer.proofs.put_steps.Tie as tie
 

@@ -3,7 +3,7 @@ use borrow.Author.Needs.{needs}
 use Rattle.tensor_ranges.specs.Views.{theView}
 use Rattle.tensor_ranges.specs.Laws.Facts.{view-most}
 use Rattle.sheet_bytes.specs.Bytes.{viewField}
-use Rattle.sheet_bytes.specs.Laws.Puts.{Turns, no-turns, one-turn, turn-fits, all-turns}
+use Rattle.fields.specs.Laws.Puts.{Turns, no-turns, one-turn, turn-fits, all-turns}
 use Rattle.sheet_writer.proofs.put_views.Statement.{statement}
 use Rattle.sheet_writer.proofs.put_views.Tie as tie
 

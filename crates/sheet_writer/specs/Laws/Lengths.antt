@@ -6,7 +6,7 @@ use native.Mathlib.Omega.{arith}
 use lib.ListN.{length, length-append}
 use Rattle.sheet.specs.Codes.{editionTag}
 use Rattle.sheet.specs.declared.Sheet.{Sheet}
-use Rattle.sheet_bytes.specs.Laws.Lengths.{length-field}
+use Rattle.fields.specs.Laws.Lengths.{length-field}
 use Rattle.sheet_writer.specs.Bytes.{layoutsBytes, viewsBytes, stepsBytes, sheetBytes}
 
 pub length-sheet :

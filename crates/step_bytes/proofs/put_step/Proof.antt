@@ -2,8 +2,8 @@ use native.Mathlib.Omega.{arith}
 use denote.Ref.{now}
 use borrow.Author.Needs.{needs}
 use Rattle.step_bytes.specs.Bytes.{stepBytes, stepTag}
-use Rattle.sheet_bytes.specs.Laws.Puts.{field-put}
-use Rattle.sheet_bytes.specs.Laws.Lengths.{length-field}
+use Rattle.fields.specs.Laws.Puts.{field-put}
+use Rattle.fields.specs.Laws.Lengths.{length-field}
 use Rattle.step_bytes.proofs.put_step.Statement.{statement}
 use Rattle.step_bytes.proofs.put_step.Tie as tie
 

@@ -3,7 +3,7 @@ use native.Mathlib.Omega.{arith}
 use borrow.Author.Needs.{needs}
 use Rattle.tensor_ranges.specs.Layouts.{theDimension}
 use Rattle.sheet_bytes.specs.Bytes.{dimensionBytes}
-use Rattle.sheet_bytes.specs.Laws.Puts.{Turns, no-turns, one-turn, turn-fits, all-turns}
+use Rattle.fields.specs.Laws.Puts.{Turns, no-turns, one-turn, turn-fits, all-turns}
 use Rattle.sheet_bytes.specs.Laws.Lengths.{length-dimension}
 use Rattle.sheet_bytes.proofs.layouts.put_dimensions.Statement.{statement}
 use Rattle.sheet_bytes.proofs.layouts.put_dimensions.Tie as tie

@@ -9,7 +9,7 @@ use Rattle.numbers.specs.Little.{u32Bytes}
 use Rattle.sheet.specs.Codes.{clampCode}
 use Rattle.tensor_ranges.specs.Layouts.{theDimension}
 use Rattle.sheet_bytes.specs.Bytes.{dimensionBytes, layoutBytes}
-use Rattle.sheet_bytes.specs.Laws.Puts.{puts-at}
+use Rattle.fields.specs.Laws.Puts.{puts-at}
 use Rattle.sheet_bytes.specs.Laws.Lengths.{length-layout, length-dimensions}
 use Rattle.sheet_bytes.proofs.layouts.put_layout_content.Statement.{statement}
 use Rattle.sheet_bytes.proofs.layouts.put_layout_content.Tie as tie

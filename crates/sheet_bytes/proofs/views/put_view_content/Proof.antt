@@ -7,7 +7,7 @@ use Rattle.numbers.specs.Laws.Lists.{puts-after}
 use Rattle.tensor_ranges.specs.Views.{sizedRank}
 use Rattle.sheet_bytes.specs.Bytes.{entriesBytes, viewDimensionsBytes, clipBytes, viewBytes}
 use Rattle.sheet.specs.Codes.{flagCode}
-use Rattle.sheet_bytes.specs.Laws.Puts.{puts-at}
+use Rattle.fields.specs.Laws.Puts.{puts-at}
 use Rattle.sheet_bytes.specs.Laws.Lengths.{length-view, length-entries, length-view-dimensions, sized-within}
 use Rattle.sheet_bytes.proofs.views.put_view_content.Statement.{statement}
 use Rattle.sheet_bytes.proofs.views.put_view_content.Tie as tie

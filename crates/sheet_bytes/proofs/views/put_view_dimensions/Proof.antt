@@ -3,7 +3,7 @@ use native.Mathlib.Omega.{arith}
 use borrow.Author.Needs.{needs}
 use Rattle.tensor_ranges.specs.Views.{theViewDimension}
 use Rattle.sheet_bytes.specs.Bytes.{viewDimensionBytes}
-use Rattle.sheet_bytes.specs.Laws.Puts.{Turns, no-turns, one-turn, turn-fits, all-turns}
+use Rattle.fields.specs.Laws.Puts.{Turns, no-turns, one-turn, turn-fits, all-turns}
 use Rattle.sheet_bytes.specs.Laws.Lengths.{length-view-dimension}
 use Rattle.sheet_bytes.proofs.views.put_view_dimensions.Statement.{statement}
 use Rattle.sheet_bytes.proofs.views.put_view_dimensions.Tie as tie

@@ -9,7 +9,7 @@ use Rattle.tensor_ranges.specs.Layouts.{theLayout}
 use Rattle.sheet.specs.Codes.{layoutTag}
 use Rattle.sheet_bytes.specs.Bytes.{layoutBytes, layoutField}
 use Rattle.sheet_writer.specs.Bytes.{layoutsBytes}
-use Rattle.sheet_bytes.specs.Laws.Lengths.{length-field}
+use Rattle.fields.specs.Laws.Lengths.{length-field}
 use Rattle.sheet_writer.proofs.lengths.layouts_len.Statement.{statement}
 use Rattle.sheet_writer.proofs.lengths.layouts_len.Tie as tie
 

@@ -8,7 +8,7 @@ use Rattle.numbers.specs.Laws.Lists.{length-each-more}
 use Rattle.sheet_ranges.specs.Steps.{theStep}
 use Rattle.step_bytes.specs.Bytes.{stepTag, stepBytes, stepField}
 use Rattle.sheet_writer.specs.Bytes.{stepsBytes}
-use Rattle.sheet_bytes.specs.Laws.Lengths.{length-field}
+use Rattle.fields.specs.Laws.Lengths.{length-field}
 use Rattle.sheet_writer.proofs.lengths.steps_len.Statement.{statement}
 use Rattle.sheet_writer.proofs.lengths.steps_len.Tie as tie
 

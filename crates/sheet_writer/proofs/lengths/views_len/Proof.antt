@@ -9,7 +9,7 @@ use Rattle.tensor_ranges.specs.Views.{theView}
 use Rattle.sheet.specs.Codes.{viewTag}
 use Rattle.sheet_bytes.specs.Bytes.{viewBytes, viewField}
 use Rattle.sheet_writer.specs.Bytes.{viewsBytes}
-use Rattle.sheet_bytes.specs.Laws.Lengths.{length-field}
+use Rattle.fields.specs.Laws.Lengths.{length-field}
 use Rattle.sheet_writer.proofs.lengths.views_len.Statement.{statement}
 use Rattle.sheet_writer.proofs.lengths.views_len.Tie as tie
 

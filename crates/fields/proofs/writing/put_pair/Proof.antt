@@ -2,8 +2,8 @@ use mathlib.Core.List.{[], _∷_}
 use denote.Ref.{now}
 use borrow.Author.Needs.{needs}
 use Rattle.numbers.specs.Laws.Lists.{puts-after}
-use Rattle.sheet_bytes.proofs.fields.put_pair.Statement.{statement}
-use Rattle.sheet_bytes.proofs.fields.put_pair.Tie as tie
+use Rattle.fields.proofs.writing.put_pair.Statement.{statement}
+use Rattle.fields.proofs.writing.put_pair.Tie as tie
 
 put-byte-requires : tie.Need-put-byte-requires
 put-byte-requires c κs = search needs

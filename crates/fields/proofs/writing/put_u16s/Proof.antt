@@ -2,8 +2,8 @@ use denote.Ref.{now}
 use borrow.Author.Needs.{needs}
 use Rattle.numbers.specs.Laws.Lists.{puts-after}
 use Rattle.numbers.specs.Little.{u16Bytes}
-use Rattle.sheet_bytes.proofs.fields.put_u16s.Statement.{statement}
-use Rattle.sheet_bytes.proofs.fields.put_u16s.Tie as tie
+use Rattle.fields.proofs.writing.put_u16s.Statement.{statement}
+use Rattle.fields.proofs.writing.put_u16s.Tie as tie
 
 put-u16-requires : tie.Need-put-u16-requires
 put-u16-requires c κs = search needs

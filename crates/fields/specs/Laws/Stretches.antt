@@ -13,7 +13,6 @@ use Rattle.numbers.specs.Laws.Joins.{length-each}
 use Rattle.numbers.specs.Laws.Choice.{by-place}
 use Rattle.numbers.specs.Bytes.{AreBytes}
 use Rattle.numbers.specs.Laws.Bytes.{byte-at}
-use Rattle.round_trip.specs.Typed.{U16, U32}
 
 -- the bytes bs stand in s from p + i on
 abbrev pub Has : List ℕ → ℕ → ℕ → List ℕ → Type 0
@@ -126,11 +125,11 @@ module _ (s : List ℕ) (b : AreBytes s) where
   unfolding u16At
   high-at p i = rw (← add-assoc p i 1) (omega (arith, byte-at s b (p + i)))
 
-  pub u16-below : (p : ℕ) → U16 (u16At s p)
+  pub u16-below : (p : ℕ) → u16At s p < 65536
   unfolding u16At
   u16-below p = omega (arith, byte-at s b p, byte-at s b (p + 1))
 
-  pub u32-below : (p : ℕ) → U32 (u32At s p)
+  pub u32-below : (p : ℕ) → u32At s p < 4294967296
   unfolding u32At
   u32-below p = omega (arith, u16-below p, u16-below (p + 2))
 

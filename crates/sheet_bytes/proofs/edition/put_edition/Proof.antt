@@ -3,9 +3,9 @@ use mathlib.Core.Path.{refl}
 use denote.Ref.{now}
 use borrow.Author.Needs.{needs}
 use Rattle.sheet.specs.Codes.{editionTag}
-use Rattle.sheet_bytes.specs.Laws.Puts.{field-put}
-use Rattle.sheet_bytes.proofs.fields.put_edition.Statement.{statement}
-use Rattle.sheet_bytes.proofs.fields.put_edition.Tie as tie
+use Rattle.fields.specs.Laws.Puts.{field-put}
+use Rattle.sheet_bytes.proofs.edition.put_edition.Statement.{statement}
+use Rattle.sheet_bytes.proofs.edition.put_edition.Tie as tie
 
 put-head-requires : tie.Need-put-head-requires
 put-head-requires c κs = search needs

@@ -8,7 +8,7 @@ use lib.ListN.{length}
 use lib.Seq.{sets, length-sets}
 use Rattle.numbers.specs.Lists.{each}
 use Rattle.numbers.specs.Laws.Lists.{each-none, each-more, length-each-more, each-fits, puts-after}
-use Rattle.sheet_bytes.specs.Bytes.{headBytes, fieldBytes}
+use Rattle.fields.specs.Bytes.{headBytes, fieldBytes}
 
 -- a head, then the content that it announces
 pub field-put : (l0 : List ℕ) (at tag n : ℕ) (content : List ℕ) {l1 l2 : List ℕ} → n ≡ length content → l1 ≡ sets l0 at (headBytes tag n) → l2 ≡ sets l1 (at + 3) content → l2 ≡ sets l0 at (fieldBytes tag content)

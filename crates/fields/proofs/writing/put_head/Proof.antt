@@ -3,8 +3,8 @@ use denote.Ref.{now}
 use borrow.Author.Needs.{needs}
 use Rattle.numbers.specs.Laws.Lists.{puts-after}
 use Rattle.numbers.specs.Little.{u16Bytes}
-use Rattle.sheet_bytes.proofs.fields.put_head.Statement.{statement}
-use Rattle.sheet_bytes.proofs.fields.put_head.Tie as tie
+use Rattle.fields.proofs.writing.put_head.Statement.{statement}
+use Rattle.fields.proofs.writing.put_head.Tie as tie
 
 put-byte-requires : tie.Need-put-byte-requires
 put-byte-requires c κs = search needs

@@ -1,18 +1,12 @@
-// A field's head, small stretches of bytes, and the edition's field.
+// Writing a field's head, and small stretches of bytes.
 ghost use mathlib.Core.Path.{_≡_};
 ghost use mathlib.Core.List.{[], _∷_, _++_};
 ghost use Prim.Native.Nat.{_+_, _≤_};
 ghost use lib.ListN.{length};
 ghost use lib.Seq.{sets};
 ghost use Rattle.numbers.specs.Little.{u16Bytes};
-ghost use Rattle.sheet_bytes.specs.Bytes.{headBytes, editionField};
-use sheet::codes::EDITION_TAG;
-
-// The bytes of a field before its content: a tag and a length.
-pub const HEAD: usize = 3;
-
-// The bytes of the edition's field.
-pub const EDITION_LEN: usize = 4;
+ghost use Rattle.fields.specs.Bytes.{headBytes};
+use super::HEAD;
 
 // A field's bytes: its head and the content. The bound spares each caller the content's type.
 pub fn field_len(content: u16) -> usize
@@ -52,12 +46,4 @@ pub fn put_head(out: &mut [u8], at: usize, tag: u8, content: u16)
 {
     put_byte(out, at, tag);
     numbers::put_u16(out, at + 1, content);
-}
-
-pub fn put_edition(out: &mut [u8], edition: u8)
-    requires { ⌜ 4 ≤ length (now out) ⌝ }
-    ensures { λ _. ⌜ now (out .exit) ≡ sets (now (out .entry)) 0 (editionField edition) ⌝ }
-{
-    put_head(out, 0, EDITION_TAG, 1);
-    put_byte(out, HEAD, edition);
 }
