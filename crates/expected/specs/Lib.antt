@@ -1,0 +1,3 @@
+pub mod Expected
+pub mod Listed
+pub mod Laws
