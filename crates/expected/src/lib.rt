@@ -122,10 +122,7 @@ pub fn count_events(types: [MatrixType; REGISTERS], step: Step) -> usize
             register,
             object,
             window: _,
-        } => elements_of(registers::the_type(
-            types,
-            checks::object_register(register, object),
-        )),
+        } => elements_of(registers::the_type(types, checks::object_register(register, object))),
         Step::Store {
             register,
             window: _,

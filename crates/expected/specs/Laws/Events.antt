@@ -1,6 +1,6 @@
 -- The events of a step: those that its survey lists, and how many there are.
 use Prim.Native.Nat.{ℕ, _-_, _*_}
-use mathlib.Core.Path.{_≡_, refl, _∙_}
+use mathlib.Core.Path.{_≡_, refl, sym, ap, _∙_}
 use mathlib.Core.Bool.{Bool, true, false}
 use mathlib.Core.List.{List, [], _∷_}
 use native.Mathlib.Omega.{arith}
@@ -42,9 +42,14 @@ pub access-count : (k : ℕ) (a : Access) → length (accessEvents k a) ≡ elem
 unfolding accessEvents
 access-count k a = length-each 1 (elementsOf a) _ (λ e h. refl) ∙ omega arith
 
-pub listed-count : (k : ℕ) (entries : List ℕ) (fill n : ℕ) → length (listedEvents k entries fill n) ≡ n
+listed-count : (k : ℕ) (entries : List ℕ) (fill n : ℕ) → length (listedEvents k entries fill n) ≡ n
 unfolding listedEvents
 listed-count k entries fill n = length-each 1 n _ (λ e h. refl) ∙ omega arith
+
+-- a step has as many events as its survey counts
+pub step-count : {tensors : Tensors} {ts : List MatrixType} {len : ℕ} {step : Step} {entries : List ℕ} {o : Outcomes} → StepListed tensors ts len step entries o
+    → (k : ℕ) → o .count ≡ length (stepEvents tensors ts len k step)
+step-count {entries = entries} {o = o} l k = sym (listed-count k entries (o .fill) (o .count)) ∙ ap length (l .same k)
 
 module _ (k : ℕ) (a : Access) {entries : List ℕ} {o : Outcomes} (l : Listed a entries o) where
   pub access-listed : listedEvents k entries (o .fill) (o .count) ≡ accessEvents k a

@@ -1,0 +1,117 @@
+// Writes the trace that a sheet makes: the check, the number of events, then their fields.
+ghost use mathlib.Core.Path.{_≡_};
+ghost use Prim.Native.Nat.{ℕ, _+_, _*_, _<_, _≤_};
+ghost use lib.ListN.{length};
+ghost use lib.Seq.{sets};
+ghost use Rattle.sheet.specs.Sizes.{stepPlaces, matrixPlaces, memoryLimit};
+ghost use Rattle.sheet_ranges.specs.Laws.Within.{Within};
+ghost use Rattle.checking.specs.Checking.{checked};
+ghost use Rattle.traces.specs.Events.{eventLength};
+ghost use Rattle.traces.specs.Writing.{traceBytes};
+ghost use Rattle.expected.specs.Expected.{expected};
+ghost use Rattle.expected.specs.Listed.{listedEvents};
+ghost use Rattle.tracing.specs.Tracing.{traceAnswer, traced, tracedRoom};
+use accepted::Outcomes;
+use checking::checks;
+use refusals::ROOM_TOO_SHORT;
+use refusals::Refusal;
+use sheet::Sheet;
+use sheet::sizes::PLACES;
+use sheet::sizes::REGISTERS;
+use traces::EVENT_LEN;
+
+// A refusal with no byte, or how many bytes were written.
+pub struct TraceAnswer {
+    pub refusal: Refusal,
+    pub bytes: usize,
+}
+
+// How many events an accepted sheet has: for every memory in which it is accepted the same.
+fn count_trace(sheet: Sheet) -> usize
+    requires { ⌜ Within sheet × ((memory : ℕ) × (memory ≤ memoryLimit) × (checked sheet memory .refusal .number ≡ 0)) ⌝ }
+    ensures { λ r. ⌜ (r ≤ stepPlaces * matrixPlaces) × ((memory : ℕ) → memory ≤ memoryLimit → checked sheet memory .refusal .number ≡ 0 → r ≡ length (expected sheet memory)) ⌝ }
+{
+    let none = registers::no_type();
+    let steps = sheet.steps;
+    let mut types = [none; REGISTERS];
+    let mut count: usize = 0;
+    let mut k: usize = 0;
+    while k < steps {
+        let c = sheet.step[k];
+        let step = c.step;
+        count += expected::count_events(types, step);
+        let after = checks::step_types(types, step);
+        types = after;
+        k += 1;
+    }
+    count
+}
+
+// Writes the fields of a step's events from byte `at` on.
+fn write_events(out: &mut [u8], at: usize, entries: &[u32; PLACES], o: Outcomes, step: usize)
+    requires { ⌜ (at + o .count * eventLength ≤ length (now out)) × (step < stepPlaces) × (o .count ≤ matrixPlaces) ⌝ }
+    ensures { λ _. ⌜ now (out .exit) ≡ sets (now (out .entry)) at (traceBytes (listedEvents step (now (entries .entry)) (o .fill) (o .count))) ⌝ }
+{
+    let count = o.count;
+    let fill = o.fill;
+    let mut k: usize = 0;
+    while k < count {
+        let e = expected::listed_event(entries, fill, step, k);
+        traces::put_event(out, at + k * EVENT_LEN, e);
+        k += 1;
+    }
+}
+
+// The steps in order, from empty registers and the start of the room.
+fn write_trace(out: &mut [u8], sheet: Sheet, memory: usize)
+    requires { ⌜ Within sheet × (memory ≤ memoryLimit) × (checked sheet memory .refusal .number ≡ 0) ⌝ }
+    requires { ⌜ length (expected sheet memory) * eventLength ≤ length (now out) ⌝ }
+    ensures { λ _. ⌜ now (out .exit) ≡ sets (now (out .entry)) 0 (traceBytes (expected sheet memory)) ⌝ }
+{
+    let none = registers::no_type();
+    let tensors = sheet.tensors;
+    let steps = sheet.steps;
+    let mut entries = accesses::no_entries();
+    let mut types = [none; REGISTERS];
+    let mut at: usize = 0;
+    let mut k: usize = 0;
+    while k < steps {
+        let c = sheet.step[k];
+        let step = c.step;
+        let o = expected::survey_step(&mut entries, tensors, types, memory, step);
+        write_events(out, at, &entries, o, k);
+        at += o.count * EVENT_LEN;
+        let after = checks::step_types(types, step);
+        types = after;
+        k += 1;
+    }
+}
+
+fn trace_refused(refusal: Refusal) -> TraceAnswer
+    ensures { λ r. ⌜ r ≡ traceAnswer refusal 0 ⌝ }
+{
+    TraceAnswer { refusal, bytes: 0 }
+}
+
+// Writes what a card should record of a sheet in a memory of a length. Refused: the room is unchanged.
+pub fn trace(sheet: &[u8], memory_len: usize, out: &mut [u8]) -> TraceAnswer
+    ensures { λ r. ⌜ r ≡ traced (now (sheet .entry)) «memory_len» (length (now (out .entry))) ⌝ }
+    ensures { λ _. ⌜ now (out .exit) ≡ tracedRoom (now (sheet .entry)) «memory_len» (now (out .entry)) ⌝ }
+{
+    let judged = checking::judge(sheet, memory_len);
+    let found = judged.answer;
+    let refused = found.refusal;
+    if 0 < refused.number {
+        return trace_refused(refused);
+    }
+    let model = judged.sheet;
+    let bytes = count_trace(model) * EVENT_LEN;
+    if out.len() < bytes {
+        return trace_refused(refusals::refusal_at(ROOM_TOO_SHORT, 0, 0));
+    }
+    write_trace(out, model, memory_len);
+    TraceAnswer {
+        refusal: refusals::not_refused(),
+        bytes,
+    }
+}
