@@ -7,7 +7,7 @@ use borrow.Author.Tests.{eq-eqb, ne-eqb}
 use Rattle.numbers.specs.Choice.{pick}
 use Rattle.sheet_reader.specs.Reading.{readSheet}
 use Rattle.sheet_writer.specs.Writing.{written, writtenRoom}
-use Rattle.moonbleat.specs.Rows.{rewritten, rewrittenRoom}
+use Rattle.moonbleat.specs.Rewriting.{rewritten, rewrittenRoom}
 
 module _ (s : List ℕ) where
   pub rewritten-refused : (room : ℕ) → 0 < readSheet s .refusal .number → rewritten s room ≡ record { refusal = readSheet s .refusal; bytes = 0 }

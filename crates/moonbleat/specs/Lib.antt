@@ -1,4 +1,2 @@
-pub mod Rows
-pub mod Small
-pub mod Laws
+pub mod Rewriting
 pub mod Theorems

@@ -11,7 +11,7 @@ use Rattle.sheet_reader.specs.Reading.{readSheet}
 use Rattle.sheet_writer.specs.Writing.{writeAnswer, written, writtenRoom}
 use Rattle.sheet_reader.specs.Laws.Growing.{not-refused}
 use Rattle.round_trip.specs.Theorems.{WritesBack, read-writes-back}
-use Rattle.moonbleat.specs.Rows.{rewritten, rewrittenRoom}
+use Rattle.moonbleat.specs.Rewriting.{rewritten, rewrittenRoom}
 
 -- A sheet that is read and for which there is room is rewritten byte for byte, and its byte count is its length.
 module _ (s : List ℕ) (b : AreBytes s) (e : readSheet s .refusal .number ≡ 0) where

@@ -1,73 +1,18 @@
 // The C interface of include/moonbleat.h: the six public routines, with rows of numbers in place of structs.
 ghost use mathlib.Core.Path.{_≡_};
 ghost use mathlib.Core.List.{[], _∷_};
-ghost use Prim.Native.Nat.{_<_, _^_};
 ghost use lib.ListN.{length};
 ghost use Rattle.sheet_reader.specs.Reading.{readSheet};
 ghost use Rattle.checking.specs.Checking.{checkedSheet};
 ghost use Rattle.carrying.specs.Carrying.{carried, carriedMemory};
 ghost use Rattle.translating.specs.Translating.{translated, translatedRoom};
 ghost use Rattle.running.specs.Running.{runTape, ranMemory};
-ghost use Rattle.moonbleat.specs.Rows.{answerRow, countsRow, typesRow, rewritten, rewrittenRoom};
-use refusals::Refusal;
-use registers::Registers;
+ghost use Rattle.rows.specs.Rows.{answerRow, countsRow, typesRow};
+ghost use Rattle.moonbleat.specs.Rewriting.{rewritten, rewrittenRoom};
+use rows::ANSWER;
+use rows::COUNTS;
+use rows::TYPES;
 use sheet::sizes::ELEMENTS;
-
-// Numbers of an answer: number, place, second place, byte-elements.
-const ANSWER: usize = 4;
-
-// Numbers of a sheet: layouts, views, steps.
-const COUNTS: usize = 3;
-
-// Bytes of the four registers' types: kind, rows, columns and 0 each.
-const TYPES: usize = 16;
-
-// A refusal and a count as the row of an answer. The result is the refusal's number.
-fn put_answer(answer: &mut [u32; ANSWER], refusal: Refusal, count: usize) -> u32
-    requires { ⌜ (refusal .place < 2 ^ 32) × (refusal .element < 2 ^ 32) × (count < 2 ^ 32) ⌝ }
-    ensures { λ r. ⌜ r ≡ refusal .number ⌝ }
-    ensures { λ _. ⌜ now (answer .exit) ≡ answerRow refusal count ⌝ }
-{
-    let number = refusal.number as u32;
-    *answer = [
-        number,
-        refusal.place as u32,
-        refusal.element as u32,
-        count as u32,
-    ];
-    number
-}
-
-fn put_registers(types: &mut [u8; TYPES], elements: &mut [u32; ELEMENTS], registers: Registers)
-    ensures { λ _. ⌜ now (types .exit) ≡ typesRow (registers .types) ⌝ }
-    ensures { λ _. ⌜ now (elements .exit) ≡ registers .elements ⌝ }
-{
-    let all = registers.types;
-    let a = all[0];
-    let b = all[1];
-    let c = all[2];
-    let d = all[3];
-    *types = [
-        a.kind,
-        a.rows,
-        a.columns,
-        0,
-        b.kind,
-        b.rows,
-        b.columns,
-        0,
-        c.kind,
-        c.rows,
-        c.columns,
-        0,
-        d.kind,
-        d.rows,
-        d.columns,
-        0,
-    ];
-    let held = registers.elements;
-    *elements = held;
-}
 
 // Reads a sheet.
 #[no_mangle]
@@ -88,7 +33,7 @@ pub extern "C" fn moonbleat_read(
         tensors.views as u32,
         model.steps as u32,
     ];
-    put_answer(answer, read.refusal, 0)
+    rows::put_answer(answer, read.refusal, 0)
 }
 
 // Reads a sheet and writes what was read.
@@ -101,11 +46,11 @@ pub extern "C" fn moonbleat_rewrite(sheet: &[u8], out: &mut [u8], answer: &mut [
     let read = sheet_reader::read_sheet(sheet);
     let refusal = read.refusal;
     if 0 < refusal.number {
-        return put_answer(answer, refusal, 0);
+        return rows::put_answer(answer, refusal, 0);
     }
     let model = read.sheet;
     let written = sheet_writer::write_sheet(model, out);
-    put_answer(answer, written.refusal, written.bytes)
+    rows::put_answer(answer, written.refusal, written.bytes)
 }
 
 // Checks a sheet for a memory of a length.
@@ -119,7 +64,7 @@ pub extern "C" fn moonbleat_check(
     ensures { λ _. ⌜ now (answer .exit) ≡ answerRow (checkedSheet (now (sheet .entry)) «memory_len» .refusal) (checkedSheet (now (sheet .entry)) «memory_len» .count) ⌝ }
 {
     let found = checking::check_sheet(sheet, memory_len);
-    put_answer(answer, found.refusal, found.count)
+    rows::put_answer(answer, found.refusal, found.count)
 }
 
 // Carries out a sheet on the lent memory.
@@ -138,8 +83,8 @@ pub extern "C" fn moonbleat_carry_out(
     ensures { λ _. ⌜ now (answer .exit) ≡ answerRow (carried (now (sheet .entry)) (now (memory .entry)) .refusal) (carried (now (sheet .entry)) (now (memory .entry)) .counts .placed) ⌝ }
 {
     let done = carrying::carry_out(sheet, memory);
-    put_registers(types, elements, done.registers);
-    put_answer(answer, done.refusal, done.counts.placed)
+    rows::put_registers(types, elements, done.registers);
+    rows::put_answer(answer, done.refusal, done.counts.placed)
 }
 
 // Translates a sheet for a memory of a length into the lent room.
@@ -158,7 +103,7 @@ pub extern "C" fn moonbleat_translate(
 {
     let made = translating::translate(sheet, memory_len, tape);
     *records = [made.records as u32];
-    put_answer(answer, made.refusal, made.count)
+    rows::put_answer(answer, made.refusal, made.count)
 }
 
 // Runs a tape with its sheet on the lent memory.
@@ -179,6 +124,6 @@ pub extern "C" fn moonbleat_run(
     ensures { λ _. ⌜ now (answer .exit) ≡ answerRow (runTape (now (sheet .entry)) (now (tape .entry)) records (now (memory .entry)) .refusal) (runTape (now (sheet .entry)) (now (tape .entry)) records (now (memory .entry)) .counts .placed) ⌝ }
 {
     let done = running::run_tape(sheet, tape, records, memory);
-    put_registers(types, elements, done.registers);
-    put_answer(answer, done.refusal, done.counts.placed)
+    rows::put_registers(types, elements, done.registers);
+    rows::put_answer(answer, done.refusal, done.counts.placed)
 }

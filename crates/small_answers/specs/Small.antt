@@ -58,7 +58,7 @@ use Rattle.running.specs.Laws.Turns.{RunReady, ready-start, turn-next, turns-en
 use Rattle.records.specs.Laws.Records.{fit-few}
 use Rattle.judging.specs.Laws.Turns.{tape-fit, tape-clear}
 use Rattle.translating.specs.declared.TranslateAnswer.{TranslateAnswer}
-use Rattle.moonbleat.specs.Small.{Small}
+use Rattle.rows.specs.Small.{Small}
 
 -- a limit's refusal, then reading's, then what the sheet gives
 by-reading : {A : Type 0} (P : A → Type 0) (s : List ℕ) (len : ℕ) {x y z : A} → (Within (readSheet s .sheet) → P x) → (0 < readSheet s .refusal .number → P y) → P z

@@ -1,0 +1,63 @@
+// Answers as rows of numbers, as C takes them.
+ghost use mathlib.Core.Path.{_≡_};
+ghost use Rattle.rows.specs.Rows.{answerRow, typesRow};
+ghost use Rattle.rows.specs.Small.{Small};
+use refusals::Refusal;
+use registers::Registers;
+use sheet::sizes::ELEMENTS;
+
+// Numbers of an answer: number, place, second place, byte-elements.
+pub const ANSWER: usize = 4;
+
+// Numbers of a sheet: layouts, views, steps.
+pub const COUNTS: usize = 3;
+
+// Bytes of the four registers' types: kind, rows, columns and 0 each.
+pub const TYPES: usize = 16;
+
+// A refusal and a count as the row of an answer. The result is the refusal's number.
+pub fn put_answer(answer: &mut [u32; ANSWER], refusal: Refusal, count: usize) -> u32
+    requires { ⌜ Small refusal count ⌝ }
+    ensures { λ r. ⌜ r ≡ refusal .number ⌝ }
+    ensures { λ _. ⌜ now (answer .exit) ≡ answerRow refusal count ⌝ }
+{
+    let number = refusal.number as u32;
+    *answer = [
+        number,
+        refusal.place as u32,
+        refusal.element as u32,
+        count as u32,
+    ];
+    number
+}
+
+pub fn put_registers(types: &mut [u8; TYPES], elements: &mut [u32; ELEMENTS], registers: Registers)
+    ensures { λ _. ⌜ now (types .exit) ≡ typesRow (registers .types) ⌝ }
+    ensures { λ _. ⌜ now (elements .exit) ≡ registers .elements ⌝ }
+{
+    let all = registers.types;
+    let a = all[0];
+    let b = all[1];
+    let c = all[2];
+    let d = all[3];
+    *types = [
+        a.kind,
+        a.rows,
+        a.columns,
+        0,
+        b.kind,
+        b.rows,
+        b.columns,
+        0,
+        c.kind,
+        c.rows,
+        c.columns,
+        0,
+        d.kind,
+        d.rows,
+        d.columns,
+        0,
+    ];
+    let held = registers.elements;
+    *elements = held;
+}

@@ -1,0 +1,1 @@
+// Laws over the definitions alone: every number of an answer fits its row.
