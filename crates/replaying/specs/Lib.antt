@@ -1,0 +1,4 @@
+pub mod Verdicts
+pub mod Replaying
+pub mod Matching
+pub mod Laws

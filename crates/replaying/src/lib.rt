@@ -1,0 +1,163 @@
+// Replays a card's address trace against a sheet and a memory's length, without a memory.
+ghost use mathlib.Core.Path.{_≡_};
+ghost use Prim.Native.Nat.{_+_, _*_, _<_, _≤_};
+ghost use Rattle.sheet.specs.Sizes.{stepPlaces, matrixPlaces, memoryLimit};
+ghost use Rattle.sheet_ranges.specs.Laws.Within.{Within};
+ghost use Rattle.checking.specs.Checking.{checked};
+ghost use Rattle.traces.specs.Numbered.{eventsIn};
+ghost use Rattle.expected.specs.Expected.{expected};
+ghost use Rattle.expected.specs.Listed.{listedEvents};
+ghost use Rattle.replaying.specs.Verdicts.{verdictAt};
+ghost use Rattle.replaying.specs.Replaying.{replayRefused, replayed};
+ghost use Rattle.replaying.specs.Matching.{matched, goesOn, matchOne, matchAll};
+use accepted::Outcomes;
+use checking::checks;
+use refusals::Refusal;
+use sheet::Sheet;
+use sheet::sizes::PLACES;
+use sheet::sizes::REGISTERS;
+use traces::EVENT_LEN;
+use traces::Event;
+
+pub enum Verdict {
+    Agrees,
+    // At the first index where the lists differ, one of them ending there included.
+    Differs(usize),
+}
+
+// A refusal with a difference at 0 and a count of 0, or the verdict and how many outcomes the sheet's loads and stores have.
+pub struct ReplayAnswer {
+    pub refusal: Refusal,
+    pub verdict: Verdict,
+    pub count: usize,
+}
+
+// How many events of the sheet came, and how many of them the trace has from its beginning on.
+pub struct Matched {
+    pub index: usize,
+    pub count: usize,
+}
+
+// The trace goes on with an event: all before are in it, and its next is this one.
+fn goes_on(trace: &[u8], m: Matched, e: Event) -> bool
+    ensures { λ r. ⌜ r ≡ goesOn (eventsIn (now (trace .entry))) m e ⌝ }
+{
+    let index = m.index;
+    if index != m.count {
+        return false;
+    }
+    if trace.len() / EVENT_LEN <= index {
+        return false;
+    }
+    traces::same_event(e, traces::event_in(trace, index))
+}
+
+fn match_event(trace: &[u8], m: Matched, e: Event) -> Matched
+    requires { ⌜ (m .index ≤ m .count) × (m .count < stepPlaces * matrixPlaces) ⌝ }
+    ensures { λ r. ⌜ r ≡ matchOne (eventsIn (now (trace .entry))) m e ⌝ }
+{
+    if goes_on(trace, m, e) {
+        return Matched {
+            index: m.index + 1,
+            count: m.count + 1,
+        };
+    }
+    Matched {
+        index: m.index,
+        count: m.count + 1,
+    }
+}
+
+// The events of a step, from the entries of its survey.
+fn match_events(
+    trace: &[u8],
+    before: Matched,
+    entries: &[u32; PLACES],
+    o: Outcomes,
+    step: usize,
+) -> Matched
+    requires { ⌜ (before .index ≤ before .count) × (before .count + o .count ≤ stepPlaces * matrixPlaces) × (step < stepPlaces) × (o .count ≤ matrixPlaces) ⌝ }
+    ensures { λ r. ⌜ r ≡ matchAll (eventsIn (now (trace .entry))) before (listedEvents step (now (entries .entry)) (o .fill) (o .count)) ⌝ }
+{
+    let count = o.count;
+    let fill = o.fill;
+    let mut m = before;
+    let mut k: usize = 0;
+    while k < count {
+        let e = expected::listed_event(entries, fill, step, k);
+        m = match_event(trace, m, e);
+        k += 1;
+    }
+    m
+}
+
+// The steps in order, from empty registers.
+fn match_trace(trace: &[u8], sheet: Sheet, memory: usize) -> Matched
+    requires { ⌜ Within sheet × (memory ≤ memoryLimit) × (checked sheet memory .refusal .number ≡ 0) ⌝ }
+    ensures { λ r. ⌜ r ≡ matchAll (eventsIn (now (trace .entry))) (matched 0 0) (expected sheet memory) ⌝ }
+{
+    let none = registers::no_type();
+    let tensors = sheet.tensors;
+    let steps = sheet.steps;
+    let mut entries = accesses::no_entries();
+    let mut types = [none; REGISTERS];
+    let mut m = Matched { index: 0, count: 0 };
+    let mut k: usize = 0;
+    while k < steps {
+        let c = sheet.step[k];
+        let step = c.step;
+        let o = expected::survey_step(&mut entries, tensors, types, memory, step);
+        m = match_events(trace, m, &entries, o, k);
+        let after = checks::step_types(types, step);
+        types = after;
+        k += 1;
+    }
+    m
+}
+
+// The verdict on a trace of so many events.
+fn verdict_at(m: Matched, events: usize) -> Verdict
+    ensures { λ r. ⌜ r ≡ verdictAt (m .index) (m .count) events ⌝ }
+{
+    if m.index != m.count {
+        return Verdict::Differs(m.index);
+    }
+    if m.index != events {
+        return Verdict::Differs(m.index);
+    }
+    Verdict::Agrees
+}
+
+fn replay_refused(refusal: Refusal) -> ReplayAnswer
+    ensures { λ r. ⌜ r ≡ replayRefused refusal ⌝ }
+{
+    ReplayAnswer {
+        refusal,
+        verdict: Verdict::Differs(0),
+        count: 0,
+    }
+}
+
+// Agrees exactly when the trace is the complete list of the outcomes of the sheet's loads and stores. The trace is judged to its end
+// before it is compared, and nothing of its length is kept.
+pub fn replay(sheet: &[u8], memory_len: usize, trace: &[u8]) -> ReplayAnswer
+    ensures { λ r. ⌜ r ≡ replayed (now (sheet .entry)) «memory_len» (now (trace .entry)) ⌝ }
+{
+    let judged = checking::judge(sheet, memory_len);
+    let found = judged.answer;
+    let refused = found.refusal;
+    if 0 < refused.number {
+        return replay_refused(refused);
+    }
+    let misread = traces::judge_trace(trace);
+    if 0 < misread.number {
+        return replay_refused(misread);
+    }
+    let model = judged.sheet;
+    let m = match_trace(trace, model, memory_len);
+    ReplayAnswer {
+        refusal: refusals::not_refused(),
+        verdict: verdict_at(m, trace.len() / EVENT_LEN),
+        count: m.count,
+    }
+}
