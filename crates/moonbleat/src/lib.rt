@@ -1,4 +1,4 @@
-// The C interface of include/moonbleat.h: the six public routines, with rows of numbers in place of structs.
+// The C interface of include/moonbleat.h: the eight public routines, with rows of numbers in place of structs.
 ghost use mathlib.Core.Path.{_≡_};
 ghost use mathlib.Core.List.{[], _∷_};
 ghost use lib.ListN.{length};
@@ -7,11 +7,14 @@ ghost use Rattle.checking.specs.Checking.{checkedSheet};
 ghost use Rattle.carrying.specs.Carrying.{carried, carriedMemory};
 ghost use Rattle.translating.specs.Translating.{translated, translatedRoom};
 ghost use Rattle.running.specs.Running.{runTape, ranMemory};
-ghost use Rattle.rows.specs.Rows.{answerRow, countsRow, typesRow};
+ghost use Rattle.tracing.specs.Tracing.{traced, tracedRoom};
+ghost use Rattle.replaying.specs.Replaying.{replayed};
+ghost use Rattle.rows.specs.Rows.{answerRow, countsRow, typesRow, verdictRow, capped};
 ghost use Rattle.moonbleat.specs.Rewriting.{rewritten, rewrittenRoom};
 use rows::ANSWER;
 use rows::COUNTS;
 use rows::TYPES;
+use rows::VERDICT;
 use sheet::sizes::ELEMENTS;
 
 // Reads a sheet.
@@ -126,4 +129,39 @@ pub extern "C" fn moonbleat_run(
     let done = running::run_tape(sheet, tape, records, memory);
     rows::put_registers(types, elements, done.registers);
     rows::put_answer(answer, done.refusal, done.counts.placed)
+}
+
+// Writes the trace that a sheet makes in a memory of a length into the lent room.
+#[no_mangle]
+pub extern "C" fn moonbleat_trace(
+    sheet: &[u8],
+    memory_len: usize,
+    out: &mut [u8],
+    answer: &mut [u32; ANSWER],
+) -> u32
+    ensures { λ r. ⌜ r ≡ traced (now (sheet .entry)) «memory_len» (length (now (out .entry))) .refusal .number ⌝ }
+    ensures { λ _. ⌜ now (out .exit) ≡ tracedRoom (now (sheet .entry)) «memory_len» (now (out .entry)) ⌝ }
+    ensures { λ _. ⌜ now (answer .exit) ≡ answerRow (traced (now (sheet .entry)) «memory_len» (length (now (out .entry))) .refusal) (traced (now (sheet .entry)) «memory_len» (length (now (out .entry))) .bytes) ⌝ }
+{
+    let made = tracing::trace(sheet, memory_len, out);
+    rows::put_answer(answer, made.refusal, made.bytes)
+}
+
+// Replays a trace against a sheet and a memory's length.
+#[no_mangle]
+pub extern "C" fn moonbleat_replay(
+    sheet: &[u8],
+    memory_len: usize,
+    trace: &[u8],
+    verdict: &mut [u32; VERDICT],
+    answer: &mut [u32; ANSWER],
+) -> u32
+    ensures { λ r. ⌜ r ≡ replayed (now (sheet .entry)) «memory_len» (now (trace .entry)) .refusal .number ⌝ }
+    ensures { λ _. ⌜ now (verdict .exit) ≡ verdictRow (replayed (now (sheet .entry)) «memory_len» (now (trace .entry)) .verdict) ⌝ }
+    ensures { λ _. ⌜ now (answer .exit) ≡ answerRow (capped (replayed (now (sheet .entry)) «memory_len» (now (trace .entry)) .refusal)) (replayed (now (sheet .entry)) «memory_len» (now (trace .entry)) .count) ⌝ }
+{
+    let found = replaying::replay(sheet, memory_len, trace);
+    let said = found.verdict;
+    rows::put_verdict(verdict, said);
+    rows::put_answer(answer, rows::cap(found.refusal), found.count)
 }

@@ -1,14 +1,15 @@
--- What the verdict of a replay says of the two lists, and whose refusals it gives.
+-- What the verdict of a replay says of the two lists, whose refusals it gives, and that a written trace replays.
 use Prim.Native.Nat.{ℕ, suc, _<_}
 use mathlib.Core.Path.{_≡_, refl, sym, ap, _∙_}
 use mathlib.Core.List.{List}
 use native.Mathlib.Omega.{arith}
-use borrow.Author.Tests.{eqb-true, eqb-false}
+use borrow.Author.Tests.{eqb-true, eqb-false, eq-eqb}
 use lib.Dec.{eqb}
 use lib.ListN.{length, take}
 use lib.Seq.{take-take}
 use Rattle.numbers.specs.Choice.{pick}
 use Rattle.numbers.specs.Laws.Choice.{pick-case, by-test, by-order}
+use Rattle.refusals.specs.Refusals.{notRefused}
 use Rattle.sheet_reader.specs.Reading.{readSheet}
 use Rattle.checking.specs.Checking.{checkedSheet}
 use Rattle.carrying.specs.Carrying.{carried}
@@ -16,8 +17,10 @@ use Rattle.traces.specs.Reading.{readTrace}
 use Rattle.traces.specs.Laws.Refusals.{refusal-none}
 use Rattle.traces.specs.declared.Event.{Event}
 use Rattle.expected.specs.Expected.{expected}
+use Rattle.tracing.specs.Tracing.{traced, tracedRoom}
+use Rattle.tracing.specs.Theorems.{is-traced, traced-reads}
 use Rattle.replaying.specs.Verdicts.{verdictOf, FirstDifference}
-use Rattle.replaying.specs.Replaying.{replayed}
+use Rattle.replaying.specs.Replaying.{replayAnswer, replayed}
 use Rattle.replaying.specs.Laws.Verdicts.{agrees-equal, equal-agrees, differs-first}
 use Rattle.replaying.specs.declared.ReplayAnswer.{ReplayAnswer}
 use Rattle.replaying.specs.declared.Verdict.the-variants.{Agrees, Differs}
@@ -70,3 +73,11 @@ module _ (s memory t : List ℕ) where
       by-test (eqb number 0)
       (λ e. rw e (by-test (eqb (readTrace t .refusal .number) 0) (λ f. rw f (sym (refusal-none t (eqb-true _ _ f)))) (λ f. rw f refl)))
       (λ e. absurd (eqb-false number 0 e (rw e at h)))
+
+-- What is written into a room replays: it agrees, and nothing is missing.
+pub traced-replays : (s : List ℕ) (len : ℕ) (out : List ℕ) → traced s len (length out) .refusal .number ≡ 0
+    → replayed s len (take (traced s len (length out) .bytes) (tracedRoom s len out)) ≡ replayAnswer notRefused Agrees (length (expected (readSheet s .sheet) len))
+unfolding replayed pick
+traced-replays s len out h =
+    let events = expected (readSheet s .sheet) len in
+    rw (eq-eqb (checkedSheet s len .refusal .number) 0 (is-traced s len out h .accepted), traced-reads s len out h, equal-agrees events events refl)

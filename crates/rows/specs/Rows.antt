@@ -1,10 +1,15 @@
 -- What the C interface gives, in rows of numbers.
 use Prim.Native.Nat.{ℕ}
+use lib.Dec.{leb}
+use Rattle.numbers.specs.Choice.{pick}
+use Rattle.refusals.specs.Refusals.{refusalAt}
 use mathlib.Core.List.{List, [], _∷_}
 use Rattle.refusals.specs.declared.Refusal.{Refusal}
 use Rattle.sheet.specs.declared.Sheet.{Sheet}
 use Rattle.registers.specs.Types.{theType}
 use Rattle.registers.specs.declared.MatrixType.{MatrixType}
+use Rattle.replaying.specs.declared.Verdict.{Verdict}
+use Rattle.replaying.specs.declared.Verdict.the-variants.{Agrees, Differs}
 
 -- number, place, second place, byte-elements
 abbrev pub answerRow : Refusal → ℕ → List ℕ
@@ -21,3 +26,16 @@ typeRow t rest = t .kind ∷ t .rows ∷ t .columns ∷ 0 ∷ rest
 -- the four registers'
 abbrev pub typesRow : List MatrixType → List ℕ
 typesRow ts = typeRow (theType ts 0) (typeRow (theType ts 1) (typeRow (theType ts 2) (typeRow (theType ts 3) [])))
+
+-- 1 and 0 where a trace agrees, else 0 and the index: zeros for the difference of a refusal
+abbrev pub verdictRow : Verdict → List ℕ
+verdictRow Agrees = 1 ∷ 0 ∷ []
+verdictRow (Differs index) = 0 ∷ index ∷ []
+
+-- the largest number of a row
+abbrev pub rowMost : ℕ
+rowMost = 4294967295
+
+-- a refusal as a row can say it: only a trace has bytes past the largest number, and such a place is given as that
+unfoldable pub capped : Refusal → Refusal
+capped r = refusalAt (r .number) (pick (leb (r .place) rowMost) (r .place) rowMost) (r .element)

@@ -1,9 +1,10 @@
 // Answers as rows of numbers, as C takes them.
 ghost use mathlib.Core.Path.{_≡_};
-ghost use Rattle.rows.specs.Rows.{answerRow, typesRow};
-ghost use Rattle.rows.specs.Small.{Small};
+ghost use Rattle.rows.specs.Rows.{answerRow, typesRow, verdictRow, capped};
+ghost use Rattle.rows.specs.Small.{Small, SmallVerdict};
 use refusals::Refusal;
 use registers::Registers;
+use replaying::Verdict;
 use sheet::sizes::ELEMENTS;
 
 // Numbers of an answer: number, place, second place, byte-elements.
@@ -14,6 +15,12 @@ pub const COUNTS: usize = 3;
 
 // Bytes of the four registers' types: kind, rows, columns and 0 each.
 pub const TYPES: usize = 16;
+
+// Numbers of a verdict: whether the trace agrees, and else where it differs first.
+pub const VERDICT: usize = 2;
+
+// The largest number of a row.
+const ROW_MOST: usize = 4294967295;
 
 // A refusal and a count as the row of an answer. The result is the refusal's number.
 pub fn put_answer(answer: &mut [u32; ANSWER], refusal: Refusal, count: usize) -> u32
@@ -60,4 +67,28 @@ pub fn put_registers(types: &mut [u8; TYPES], elements: &mut [u32; ELEMENTS], re
     ];
     let held = registers.elements;
     *elements = held;
+}
+
+pub fn put_verdict(row: &mut [u32; VERDICT], verdict: Verdict)
+    requires { ⌜ SmallVerdict verdict ⌝ }
+    ensures { λ _. ⌜ now (row .exit) ≡ verdictRow verdict ⌝ }
+{
+    match verdict {
+        Verdict::Agrees => {
+            *row = [1, 0];
+        }
+        Verdict::Differs(index) => {
+            *row = [0, index as u32];
+        }
+    }
+}
+
+// A trace may have bytes past the largest number of a row: a place there is given as that number.
+pub fn cap(refusal: Refusal) -> Refusal
+    ensures { λ r. ⌜ r ≡ capped refusal ⌝ }
+{
+    if refusal.place <= ROW_MOST {
+        return refusal;
+    }
+    refusals::refusal_at(refusal.number, ROW_MOST, refusal.element)
 }

@@ -5,7 +5,7 @@ use mathlib.Core.Bool.{true, false}
 use mathlib.Core.List.{List}
 use native.Mathlib.Nat.{sub-zero}
 use native.Mathlib.Omega.{arith}
-use borrow.Author.Tests.{eqb-true, eqb-false, ltb-true}
+use borrow.Author.Tests.{eqb-true, eqb-false, ltb-true, leb-true}
 use lib.Dec.{eqb, ltb, leb}
 use lib.IntN.{ℤ}
 use lib.ListN.{length}
@@ -23,7 +23,7 @@ use Rattle.sheet_reader.specs.declared.ReadAnswer.{ReadAnswer}
 use Rattle.sheet_writer.specs.Bytes.{sheetBytes}
 use Rattle.sheet_writer.specs.Writing.{written}
 use Rattle.sheet_writer.specs.declared.WriteAnswer.{WriteAnswer}
-use Rattle.sheet.specs.Sizes.{sidePlaces, matrixPlaces, recordPlaces, memoryLimit}
+use Rattle.sheet.specs.Sizes.{sidePlaces, stepPlaces, matrixPlaces, recordPlaces, memoryLimit}
 use Rattle.sheet_ranges.specs.Laws.Within.{Within, within, within-places}
 use Rattle.round_trip.specs.Laws.Sheets.{sheet-short}
 use Rattle.round_trip.specs.Laws.Growing.{reading}
@@ -46,6 +46,7 @@ use Rattle.checking.specs.Checking.{checkedFrom, checked, checkedSheet}
 use Rattle.carrying.specs.Carrying.{performed, started, carried}
 use Rattle.checking.specs.Laws.Steps.{check-sized, step-placed}
 use Rattle.checking.specs.Laws.Turns.{within-step}
+use Rattle.checking.specs.Laws.Readable.{sheet-readable}
 use Rattle.carrying.specs.Theorems.Counts.{sheet-count}
 use Rattle.checking.specs.declared.StepCheck.{StepCheck}
 use Rattle.checking.specs.declared.CheckAnswer.{CheckAnswer}
@@ -58,7 +59,20 @@ use Rattle.running.specs.Laws.Turns.{RunReady, ready-start, turn-next, turns-en
 use Rattle.records.specs.Laws.Records.{fit-few}
 use Rattle.judging.specs.Laws.Turns.{tape-fit, tape-clear}
 use Rattle.translating.specs.declared.TranslateAnswer.{TranslateAnswer}
-use Rattle.rows.specs.Small.{Small}
+use Rattle.traces.specs.Reading.{readTrace}
+use Rattle.traces.specs.Laws.Refusals.{refusal-element as trace-element}
+use Rattle.traces.specs.declared.Event.{Event}
+use Rattle.expected.specs.Expected.{expected}
+use Rattle.expected.specs.Laws.Few.{expected-few}
+use Rattle.tracing.specs.Tracing.{tracedLength, traced}
+use Rattle.tracing.specs.declared.TraceAnswer.{TraceAnswer}
+use Rattle.replaying.specs.Verdicts.{common, verdictAt, verdictOf}
+use Rattle.replaying.specs.Replaying.{replayed}
+use Rattle.replaying.specs.Laws.Verdicts.{common-most}
+use Rattle.replaying.specs.declared.Verdict.the-variants.{Agrees, Differs}
+use Rattle.replaying.specs.declared.ReplayAnswer.{ReplayAnswer}
+use Rattle.rows.specs.Rows.{rowMost, capped}
+use Rattle.rows.specs.Small.{Small, SmallVerdict}
 
 -- a limit's refusal, then reading's, then what the sheet gives
 by-reading : {A : Type 0} (P : A → Type 0) (s : List ℕ) (len : ℕ) {x y z : A} → (Within (readSheet s .sheet) → P x) → (0 < readSheet s .refusal .number → P y) → P z
@@ -243,3 +257,45 @@ module _ (s : List ℕ) (tape : List ℤ) (records : ℕ) where
       let c = refusal-small (length memory) in
       pick-case (λ (r : CarryAnswer). Small (r .refusal) (r .counts .placed)) (eqb (runRefusal s tape records (length memory) .number) 0) _ _
       (λ e. (omega arith, omega arith, ran-small memory (eqb-true _ 0 e))) (λ e. (c .0, c .1, omega arith))
+
+-- ---- traces
+
+abbrev pub SmallTrace : TraceAnswer → Type 0
+SmallTrace r = Small (r .refusal) (r .bytes)
+
+-- a sheet that is not refused makes few events
+events-few : (s : List ℕ) (len : ℕ) → checkedSheet s len .refusal .number ≡ 0 → length (expected (readSheet s .sheet) len) ≤ stepPlaces * matrixPlaces
+events-few s len e = expected-few (readSheet s .sheet) (sheet-readable s len e .within) len
+
+pub traced-small : (s : List ℕ) (len room : ℕ) → SmallTrace (traced s len room)
+unfolding traced
+traced-small s len room =
+    let c = check-small s len in
+    pick-case SmallTrace (eqb (checkedSheet s len .refusal .number) 0) _ _
+    (λ e. pick-case SmallTrace (ltb room (tracedLength s len)) _ _ (λ f. (omega arith, omega arith, omega arith))
+    (λ f. (omega arith, omega arith, omega (arith, events-few s len (eqb-true _ 0 e)))))
+    (λ e. (c .0, c .1, omega arith))
+
+capped-small : (r : Refusal) (count : ℕ) → r .element < 2 ^ 32 → count < 2 ^ 32 → Small (capped r) count
+unfolding capped
+capped-small r count e f =
+    (pick-case (λ (place : ℕ). place < 2 ^ 32) (leb (r .place) rowMost) _ _ (λ l. omega (arith, leb-true (r .place) rowMost l)) (λ l. omega arith), e, f)
+
+verdict-small : (xs ys : List Event) → length xs < 2 ^ 32 → SmallVerdict (verdictOf xs ys)
+unfolding verdictAt
+verdict-small xs ys h = pick-case SmallVerdict _ Agrees (Differs (common xs ys)) (λ e. tt) (λ e. omega (arith, h, common-most xs ys))
+
+-- the verdict of a replay, its count, and its refusal once its place is one of a row
+pub record SmallReplay (r : ReplayAnswer) : Type 0 where
+  pub verdict : SmallVerdict (r .verdict)
+  pub answer : Small (capped (r .refusal)) (r .count)
+
+pub replayed-small : (s : List ℕ) (len : ℕ) (t : List ℕ) → SmallReplay (replayed s len t)
+unfolding replayed
+replayed-small s len t =
+    pick-case SmallReplay (eqb (checkedSheet s len .refusal .number) 0) _ _
+    (λ e. let few = events-few s len (eqb-true _ 0 e) in
+    pick-case SmallReplay (eqb (readTrace t .refusal .number) 0) _ _
+    (λ f. record { verdict = verdict-small _ _ (omega (arith, few)); answer = capped-small _ _ (omega arith) (omega (arith, few)) })
+    (λ f. record { verdict = omega arith; answer = capped-small _ _ (omega (arith, trace-element t)) (omega arith) }))
+    (λ e. record { verdict = omega arith; answer = capped-small _ _ (check-small s len .1) (omega arith) })

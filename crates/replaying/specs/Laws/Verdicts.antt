@@ -1,5 +1,5 @@
 -- What the verdict on two lists says of them.
-use Prim.Native.Nat.{ℕ, suc}
+use Prim.Native.Nat.{ℕ, suc, _≤_}
 use mathlib.Core.Path.{_≡_, refl, sym, ap, ap₂, _∙_}
 use mathlib.Core.Bool.{Bool, true≢false}
 use mathlib.Core.List.{List, [], _∷_}
@@ -42,6 +42,12 @@ common-longest (x ∷ xs) (y ∷ ys) h =
     (λ e h.
     let q : x ≡ y = cc in
     absurd (true≢false (sym (same-self x) ∙ ap (sameEvent x) q ∙ e))) h
+
+pub common-most : (xs ys : List Event) → common xs ys ≤ length xs
+unfolding common
+common-most [] ys = omega arith
+common-most (x ∷ xs) [] = omega arith
+common-most (x ∷ xs) (y ∷ ys) = pick-case (λ (n : ℕ). n ≤ suc (length xs)) (sameEvent x y) _ _ (λ e. omega (arith, common-most xs ys)) (λ e. omega arith)
 
 common-self : (xs : List Event) → common xs xs ≡ length xs
 unfolding common pick
