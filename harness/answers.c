@@ -18,7 +18,7 @@ void open_answer(struct json *json, const struct command *command, const struct 
     json_number(json, "number", refused->answer[MOONBLEAT_NUMBER]);
     json_number(json, "place", refused->answer[MOONBLEAT_PLACE]);
     json_number(json, "second place", refused->answer[MOONBLEAT_SECOND_PLACE]);
-    json_text(json, "at", refusal_place(refused->answer).at);
+    json_text(json, "at", refusal_place(refused).at);
     json_text(json, "sentence", refusal_sentence(refused).at);
     json_close(json, '}');
 }

@@ -404,7 +404,7 @@ static void judge_sheet(struct assembler *assembler)
     }
     struct text sentence = {.len = 0};
     if (at < sheet->len) {
-        add_text(&sentence, HEAD_CUT_SENTENCE, sheet->len - at);
+        add_text(&sentence, HEAD_CUT_SENTENCE, "sheet", sheet->len - at);
         report_field(assembler, last_origin(assembler), &sentence);
     } else if (reading.counts[EDITION_RANK] == 0) {
         const struct origin end = {at, assembler->line.number == 0 ? 1 : assembler->line.number, 1, false};

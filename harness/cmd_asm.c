@@ -17,7 +17,8 @@ static int write_sheet(const struct request *request, const struct assembly *ass
 {
     const struct bytes *sheet = &assembly->sheet;
     uint32_t answer[MOONBLEAT_ANSWER] = {0};
-    const struct refused refused = {sheet->at, sheet->len, MOONBLEAT_MEMORY_MAX, NULL, answer};
+    const struct refused refused = {.sheet = sheet->at, .sheet_len = sheet->len, .memory_len = MOONBLEAT_MEMORY_MAX,
+                                    .answer = answer};
     uint32_t number = moonbleat_check(sheet->at, sheet->len, MOONBLEAT_MEMORY_MAX, answer);
     bool is_read = number == 0 || number > MOONBLEAT_REFUSED_EDITION;
     if (!is_read && !assembly->allows_refused) {

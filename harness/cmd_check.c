@@ -26,7 +26,8 @@ static int do_check(const struct request *request)
         return FAILED;
     }
     uint32_t answer[MOONBLEAT_ANSWER] = {0};
-    const struct refused checked = {sheet.at, sheet.len, request->memory, NULL, answer};
+    const struct refused checked = {.sheet = sheet.at, .sheet_len = sheet.len, .memory_len = request->memory,
+                                    .answer = answer};
     uint32_t number = moonbleat_check(sheet.at, sheet.len, request->memory, answer);
     int status = number == 0 ? print_answer(request, &checked) : answer_refusal(&check_command, request, &checked);
     free(sheet.at);

@@ -216,7 +216,7 @@ static int diff_cards(const struct request *request, struct bytes sheet, struct 
     if (!carry_reference(&reference, sheet, memory)) {
         struct refused refused = refused_reference(&reference);
         print_refusal(&refused);
-        return SHEET_REFUSED;
+        return INPUT_REFUSED;
     }
     for (size_t i = 0; i < count; i++) {
         tally.counts[diff_card(&reference, &cards[i], request->words[OPTION_ALL] != NULL)]++;

@@ -56,7 +56,8 @@ static int carry_out_or_run(const struct command *command, const struct request 
         moonbleat_run(sheet->at, sheet->len, tape->numbers, TAPE_ROOM, tape->records, memory.at, memory.len,
                       result.types, result.elements, result.answer);
     }
-    const struct refused ran = {sheet->at, sheet->len, memory.len, tape, result.answer};
+    const struct refused ran = {.sheet = sheet->at, .sheet_len = sheet->len, .memory_len = memory.len, .tape = tape,
+                                .answer = result.answer};
     int status = result.answer[MOONBLEAT_NUMBER] == 0 ? finish_run(command, request, &ran, &memory, &result)
                                                        : answer_refusal(command, request, &ran);
     free(memory.at);

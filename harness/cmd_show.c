@@ -105,7 +105,7 @@ static int do_show(const struct request *request)
     }
     uint32_t counts[MOONBLEAT_COUNTS] = {0};
     uint32_t answer[MOONBLEAT_ANSWER] = {0};
-    const struct refused read = {sheet.at, sheet.len, 0, NULL, answer};
+    const struct refused read = {.sheet = sheet.at, .sheet_len = sheet.len, .answer = answer};
     moonbleat_read(sheet.at, sheet.len, counts, answer);
     int status = show(request, &read, counts);
     free(sheet.at);

@@ -55,7 +55,8 @@ static int do_tape(const struct request *request)
     }
     uint32_t records[1] = {0};
     uint32_t answer[MOONBLEAT_ANSWER] = {0};
-    const struct refused translated = {sheet.at, sheet.len, request->memory, NULL, answer};
+    const struct refused translated = {.sheet = sheet.at, .sheet_len = sheet.len, .memory_len = request->memory,
+                                       .answer = answer};
     uint32_t number = moonbleat_translate(sheet.at, sheet.len, request->memory, numbers, MOONBLEAT_TAPE_NUMBERS,
                                           records, answer);
     int status = number == 0 ? print_records(request, &translated, numbers, records[0]) : refuse(request, &translated);

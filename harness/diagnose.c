@@ -5,6 +5,7 @@
 #include "moonbleat.h"
 #include "record_faults.h"
 #include "step_faults.h"
+#include "trace_faults.h"
 
 /* Refusals 1 to 6. */
 static bool find_field_fault(const struct refused *refused, struct text *cause)
@@ -22,7 +23,7 @@ static bool find_field_fault(const struct refused *refused, struct text *cause)
     }
     size_t left = refused->sheet_len - at;
     if (left > 0) {
-        add_text(cause, HEAD_CUT_SENTENCE, left);
+        add_text(cause, HEAD_CUT_SENTENCE, "sheet", left);
     } else if (reading.counts[EDITION_RANK] == 0) {
         add_text(cause, NO_EDITION_SENTENCE);
     }
@@ -34,6 +35,9 @@ bool diagnose(const struct refused *refused, struct text *cause)
 {
     uint32_t number = refused->answer[MOONBLEAT_NUMBER];
     *cause = (struct text){.len = 0};
+    if (refused->trace != NULL) {
+        return find_trace_fault(refused, cause);
+    }
     if (number <= MOONBLEAT_REFUSED_EDITION) {
         return find_field_fault(refused, cause);
     }

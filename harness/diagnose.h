@@ -1,6 +1,6 @@
 /* Why an input is refused: the library gives a number and a place, this finds the number of the
- * sheet that is at fault. It never says more than it found: a cause is told only where the search
- * comes to the library's own number at the library's own place. */
+ * sheet, the tape or the trace that is at fault. It never says more than it found: a cause is told
+ * only where the search comes to the library's own number at the library's own place. */
 #ifndef DIAGNOSE_H
 #define DIAGNOSE_H
 
@@ -8,6 +8,7 @@
 #include <stddef.h>
 #include <stdint.h>
 
+#include "files.h"
 #include "tape_text.h"
 #include "text.h"
 
@@ -16,7 +17,8 @@ struct refused {
     const uint8_t *sheet;
     size_t sheet_len;
     size_t memory_len;
-    const struct tape *tape; /* of a run-tape; NULL: none */
+    const struct tape *tape;   /* of a run-tape; NULL: none */
+    const struct bytes *trace; /* if not NULL, it is refused, and not the sheet */
     const uint32_t *answer;
 };
 

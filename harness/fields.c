@@ -263,8 +263,7 @@ bool lacks_bias(const struct value *value)
 
 /* -- Walking ---------------------------------------------------------------------------------- */
 
-/* A little-endian number of 1 to 4 bytes. */
-static uint32_t little(const uint8_t *bytes, size_t width)
+uint32_t little(const uint8_t *bytes, size_t width)
 {
     uint32_t number = 0;
     for (size_t i = width; i > 0; i--) {

@@ -92,7 +92,10 @@ extern const size_t field_form_count;
 /* The field of a tag; NULL if there is none. */
 const struct field_form *field_of_tag(uint8_t tag);
 
-/* A field of a sheet: its content may be cut short by the sheet's end. */
+/* A little-endian number of 1 to 4 bytes. */
+uint32_t little(const uint8_t *bytes, size_t width);
+
+/* A field of a sheet or a trace: its content may be cut short by the end. */
 struct field {
     const struct field_form *form; /* NULL: unknown tag */
     size_t at;                     /* the byte of its head */
@@ -102,7 +105,7 @@ struct field {
     size_t content_len;
 };
 
-/* The field at a byte of a sheet; false if fewer than three bytes are left. */
+/* The field at a byte of a sheet or a trace; false if fewer than three bytes are left. */
 bool field_at(const uint8_t *sheet, size_t sheet_len, size_t at, struct field *field);
 
 /* The byte after a field. */

@@ -169,5 +169,5 @@ int tally_status(const struct tally *tally)
     if (tally->counts[VERDICT_MISSING] > 0 || tally->counts[VERDICT_UNREADABLE] > 0) {
         return FAILED;
     }
-    return tally->counts[VERDICT_REFUSED] > 0 ? SHEET_REFUSED : DONE;
+    return tally->counts[VERDICT_REFUSED] > 0 ? INPUT_REFUSED : DONE;
 }

@@ -113,7 +113,7 @@ void put_finding(const struct sink *sink, const struct finding *finding, const c
 size_t tally_sum(const struct tally *tally);
 
 /* The exit status that a tally stands for: DIFFER if some card differs, else FAILED if a file is missing
- * or unreadable, else SHEET_REFUSED if a sheet is refused, else DONE. */
+ * or unreadable, else INPUT_REFUSED if a sheet is refused, else DONE. */
 int tally_status(const struct tally *tally);
 
 #endif

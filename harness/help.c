@@ -20,14 +20,15 @@ static const char purpose[] = "reference software for tensor shaders: write, che
 /* What holds for every command. */
 static const struct section sections[] = {
     {"FILES",
-     "SHEET and MEMORY are files of bytes, TAPE and TEXT are lines of text; - is standard input, as an\n"
-     "OUT or a FILE standard output, which then gets nothing else. OUT and FILE are written only if\n"
-     "nothing was refused, and whole or not at all: a file that is there keeps its mode, and a symbolic\n"
-     "link is written through. A number is decimal, or hex behind 0x. A word after -- is a file.\n"},
+     "SHEET, MEMORY and TRACE are files of bytes, TAPE and TEXT are lines of text; - is standard input,\n"
+     "as an OUT or a FILE standard output, which then gets nothing else. OUT and FILE are written only\n"
+     "if nothing was refused, and whole or not at all: a file that is there keeps its mode, and a\n"
+     "symbolic link is written through. A number is decimal, or hex behind 0x. A word after -- is a\n"
+     "file.\n"},
     {"EXIT STATUS",
      "0 accepted; 1 refused, with number, place and sentence on standard error (with --json in the\n"
      "object); 2 wrong use; 3 a file could not be read or written, or a line of it is wrong.\n"
-     "diff and night: see there.\n"},
+     "replay, diff and night: see there.\n"},
 };
 
 enum { SECTIONS = sizeof sections / sizeof sections[0] };

@@ -36,7 +36,7 @@ void add_field_name(struct text *text, const struct reading *reading, const stru
 uint32_t judge_field(const struct reading *reading, const struct field *field, struct text *sentence);
 
 /* What is wrong where fewer than three bytes are left, and where no edition came. */
-#define HEAD_CUT_SENTENCE "a field's head has 3 bytes, the sheet ends after %zu"
+#define HEAD_CUT_SENTENCE "a field's head has 3 bytes, the %s ends after %zu"
 #define NO_EDITION_SENTENCE "the sheet has no edition"
 
 /* Takes a field as read. */

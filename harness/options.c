@@ -14,7 +14,8 @@
 const struct option_form option_forms[OPTIONS] = {
     [OPTION_MEMORY] = {"--memory", "N", "the memory's length in bytes, decimal or 0x and hex; 65536 if not given"},
     [OPTION_OUT] = {"-o", "OUT",
-                    "write what comes out to OUT: the memory afterwards, the sheet of asm, or the report of night"},
+                    "write what comes out to OUT: the memory afterwards, the sheet of asm, the trace, or the report of "
+                    "night"},
     [OPTION_REGISTERS] = {"--registers", "FILE", "write the registers to FILE: 16 type bytes, then 1024 elements"},
     [OPTION_JSON] = {"--json", NULL, "print one JSON object in place of text"},
     [OPTION_ASM] = {"--asm", NULL, "print the text form, which asm takes"},

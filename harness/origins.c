@@ -7,9 +7,7 @@
 
 #include "fields.h"
 #include "kinds.h"
-
-/* A fill's content: register, rows, columns, kind and four bytes of value. */
-enum { FILL_CONTENT = 8, FILL_BYTES = HEAD_BYTES + FILL_CONTENT };
+#include "traces.h"
 
 /* Finds the steps of a sheet that reads; gives their number. */
 static size_t find_steps(const uint8_t *sheet, size_t sheet_len, struct field steps[MOONBLEAT_STEPS_MAX])
@@ -53,40 +51,28 @@ static size_t element_size(const uint8_t type[MOONBLEAT_TYPE_BYTES])
     return kind_bits(type[0]) / CHAR_BIT;
 }
 
-/* Writes down the elements of a run of puts. */
-static void note_run(const int32_t *record, uint8_t by, size_t size, struct origins *origins)
+/* Writes down the bytes of a store's element. */
+static void note_element(const struct entry *entry, const struct store *store, struct origins *origins)
 {
-    int32_t first = record[2], count = record[3], byte = record[4], step = record[5];
-    for (int32_t i = 0; i < count; i++) {
-        for (size_t j = 0; j < size; j++) {
-            origins->bytes[(size_t)(byte + i * step) + j] = (struct stored){by, (uint8_t)j, (uint16_t)(first + i)};
-        }
+    size_t size = element_size(store->type);
+    for (size_t i = 0; i < size; i++) {
+        origins->bytes[entry->byte + i] =
+            (struct stored){(uint8_t)(entry->step + 1), (uint8_t)i, (uint16_t)entry->element};
     }
 }
 
-/*
- * Where a store's elements go is told by the tape of a sheet that has the same layouts and views,
- * a fill that gives the register its type, and the store alone: such a tape is never too long.
- */
-static void trace_store(const uint8_t *sheet, size_t steps_at, const struct field *step, size_t memory_len,
-                        const struct store *store, uint8_t by, struct origins *origins)
+/* Where the stores' elements go is told by the sheet's trace. */
+static void note_stores(const uint8_t *sheet, size_t sheet_len, size_t memory_len, const struct field *steps,
+                        struct origins *origins)
 {
-    static int32_t tape[MOONBLEAT_TAPE_NUMBERS];
-    const uint8_t *type = store->type;
-    const uint8_t fill[FILL_BYTES] = {MOONBLEAT_TAG_FILL, FILL_CONTENT, 0, store->reg, type[1], type[2], type[0]};
-    uint8_t probe[MOONBLEAT_SHEET_MAX];
-    size_t store_len = field_end(step) - step->at;
-    memcpy(probe, sheet, steps_at);
-    memcpy(probe + steps_at, fill, sizeof fill);
-    memcpy(probe + steps_at + sizeof fill, sheet + step->at, store_len);
-
-    uint32_t records[1], answer[MOONBLEAT_ANSWER];
-    must_be_accepted(moonbleat_translate(probe, steps_at + sizeof fill + store_len, memory_len, tape,
-                                         MOONBLEAT_TAPE_NUMBERS, records, answer));
-    for (size_t i = 0; i < records[0]; i++) {
-        const int32_t *record = tape + MOONBLEAT_RECORD_NUMBERS * i;
-        if (record[0] == MOONBLEAT_OP_PUT) {
-            note_run(record, by, element_size(type), origins);
+    static uint8_t trace[MOONBLEAT_TRACE_MAX];
+    uint32_t answer[MOONBLEAT_ANSWER];
+    must_be_accepted(moonbleat_trace(sheet, sheet_len, memory_len, trace, sizeof trace, answer));
+    size_t count = answer[MOONBLEAT_BYTE_ELEMENTS] / MOONBLEAT_ACCESS_BYTES;
+    for (size_t i = 0; i < count; i++) {
+        struct entry entry = entry_at(trace, i);
+        if (entry.sort == MOONBLEAT_SORT_BYTE && steps[entry.step].tag == MOONBLEAT_TAG_STORE) {
+            note_element(&entry, &origins->stores[entry.step], origins);
         }
     }
 }
@@ -105,8 +91,8 @@ void trace_origins(const uint8_t *sheet, size_t sheet_len, size_t memory_len, st
         struct store *store = &origins->stores[i];
         store->reg = register_of(&steps[i]);
         memcpy(store->type, types + (size_t)MOONBLEAT_TYPE_BYTES * store->reg, MOONBLEAT_TYPE_BYTES);
-        trace_store(sheet, steps[0].at, &steps[i], memory_len, store, (uint8_t)(i + 1), origins);
     }
+    note_stores(sheet, sheet_len, memory_len, steps, origins);
 }
 
 unsigned stored_by(const struct origins *origins, size_t byte)

@@ -14,8 +14,8 @@ static const struct refusal {
     const char *sentence;
 } refusals[] = {
     {NOTHING, "not a refusal"},
-    [MOONBLEAT_REFUSED_CUT_SHORT] = {BYTE, "a field's head or content runs past the end of the sheet"},
-    [MOONBLEAT_REFUSED_TAG] = {BYTE, "the field's tag is not one that the sheet's edition has"},
+    [MOONBLEAT_REFUSED_CUT_SHORT] = {BYTE, "a field's head or content runs past the end"},
+    [MOONBLEAT_REFUSED_TAG] = {BYTE, "the field's tag is not one that the sheet's edition, or a trace, has"},
     [MOONBLEAT_REFUSED_ORDER] = {BYTE, "a field is out of order, repeated or one too many, or there is no edition"},
     [MOONBLEAT_REFUSED_LENGTH] = {BYTE, "the field's length is not one that its tag has"},
     [MOONBLEAT_REFUSED_NUMBER] = {BYTE, "a number of the field is out of its range"},
@@ -32,18 +32,21 @@ static const struct refusal {
     [MOONBLEAT_REFUSED_TAPE_LENGTH] = {NOTHING, "the tape has more than 1024 records"},
     [MOONBLEAT_REFUSED_RECORD] = {RECORD, "the record is out of range"},
     [MOONBLEAT_REFUSED_MEMORY] = {NOTHING, "the memory is longer than 65536 bytes"},
-    [MOONBLEAT_REFUSED_ROOM] = {NOTHING, "the room for the written sheet is too short"},
+    [MOONBLEAT_REFUSED_ROOM] = {NOTHING, "the room for the written sheet or trace is too short"},
+    [MOONBLEAT_REFUSED_TRACE_ORDER] = {BYTE, "step and element are not after those of the access before"},
 };
 
 static const struct refusal *find_refusal(uint32_t number)
 {
-    return &refusals[number < sizeof refusals / sizeof refusals[0] ? number : 0];
+    bool is_known = number < sizeof refusals / sizeof refusals[0] && refusals[number].sentence != NULL;
+    return &refusals[is_known ? number : 0];
 }
 
-struct text refusal_place(const uint32_t answer[4])
+struct text refusal_place(const struct refused *refused)
 {
     static const char *const names[] = {
         [NOTHING] = "", [BYTE] = "byte", [STEP] = "step", [ELEMENT] = "step", [RECORD] = "record"};
+    const uint32_t *answer = refused->answer;
     enum place place = find_refusal(answer[MOONBLEAT_NUMBER])->place;
     struct text text = {.len = 0};
     if (place != NOTHING) {
@@ -51,6 +54,9 @@ struct text refusal_place(const uint32_t answer[4])
     }
     if (place == ELEMENT) {
         add_text(&text, ", element %" PRIu32, answer[MOONBLEAT_SECOND_PLACE]);
+    }
+    if (refused->trace != NULL) {
+        add_text(&text, " of the trace");
     }
     return text;
 }
@@ -67,7 +73,7 @@ struct text refusal_sentence(const struct refused *refused)
 
 struct text refusal_line(const struct refused *refused)
 {
-    struct text line = {.len = 0}, place = refusal_place(refused->answer), sentence = refusal_sentence(refused);
+    struct text line = {.len = 0}, place = refusal_place(refused), sentence = refusal_sentence(refused);
     add_text(&line, "refusal %" PRIu32 "%s%s: %s", refused->answer[MOONBLEAT_NUMBER], place.len > 0 ? " at " : "",
              place.at, sentence.at);
     return line;

@@ -11,8 +11,9 @@ struct text refusal_line(const struct refused *refused);
 /* Prints the above on standard error. */
 void print_refusal(const struct refused *refused);
 
-/* The two parts of the line: where, as "byte 4" (empty for nowhere), and why. */
-struct text refusal_place(const uint32_t answer[4]);
+/* The two parts of the line: where, as "byte 4" or "byte 12 of the trace" (empty for nowhere), and
+ * why. */
+struct text refusal_place(const struct refused *refused);
 struct text refusal_sentence(const struct refused *refused);
 
 #endif

@@ -5,7 +5,9 @@
  * memory, and steps that fill, load, store, reduce, transpose and multiply-add matrices in four
  * registers and, from edition 2 on, multiply a vector in a register by a matrix in memory and add a
  * bias. The library reads sheets, carries them out, translates them into tapes (flat lists of
- * copies) and runs tapes. It answers what a correct device must answer, byte for byte.
+ * copies) and runs tapes. It answers what a correct device must answer, byte for byte. It also says
+ * what becomes of each element of a sheet's loads and stores, and holds a device's trace, the list
+ * of what it did, to that.
  *
  * Link with libmoonbleat.a. The functions keep no state, allocate nothing and may be called from
  * any number of threads, each with arrays of its own.
@@ -16,23 +18,26 @@
  * four numbers:
  *
  *   answer[0]  the same number
- *   answer[1]  its place (a byte of the sheet, a step or a record, by the table below; else 0)
+ *   answer[1]  its place (a byte of the sheet or of the trace, a step or a record, by the table
+ *              below; else 0)
  *   answer[2]  the second number of its place (an element, by the table below; else 0)
  *   answer[3]  byte-elements: how many elements of loads and stores had a byte in memory (what a
  *              vector step reads is not counted); for a running tape those of takes and puts, for
- *              a rewritten sheet its length in bytes, for a read sheet 0
+ *              a rewritten sheet or a written trace its length in bytes, for a replayed trace how
+ *              many elements loads and stores have, with a byte or without, for a read sheet 0
  *
- * A refused input changes nothing: memory, the room of a tape and the room of a sheet are as
- * before, counts, records, types and elements are all 0, and so is answer[3]. Of an accepted
- * input, what lies past the bytes or numbers written is as before.
+ * A refused input changes nothing: memory and the rooms of a tape, a sheet and a trace are as
+ * before, counts, records, types, elements and the verdict are all 0, and so is answer[3]. Of an
+ * accepted input, what lies past the bytes or numbers written is as before.
  *
  * Refusals
  * --------
  *   no.  given when                                                          place
  *    1   fewer than 3 bytes are left for a field's head, or its content
- *        runs past the end of the sheet                                      byte of the head
+ *        runs past the end of the sheet or of the trace                      byte of the head
  *    2   the tag is unknown, or comes with a later edition than the sheet's
- *        (0x26, the vector step, comes with edition 2)                       byte of the head
+ *        (0x26, the vector step, comes with edition 2); in a trace, it is
+ *        not 0x30                                                            byte of the head
  *    3   a field is out of order (any that comes before the edition), the
  *        edition is repeated, there are too many layouts, views or steps;
  *        or the sheet has no edition                                         byte of the head,
@@ -40,7 +45,8 @@
  *    4   the length is not one that the tag has                              byte of the head
  *    5   a number is out of its range, names a layout or a view that is not
  *        given, the permutation is none, or there is a bias offset but no
- *        bias                                                                byte of the head
+ *        bias; in a trace, the sort is above 3, or there is a byte but the
+ *        sort is not 3                                                       byte of the head
  *    6   the edition is not 1 or 2                                           byte of the head
  *    7   a register that is read is empty                                    step
  *    8   shapes or kinds do not fit each other; a vector step's input is not
@@ -58,16 +64,21 @@
  *   17   a record is out of range, or a whole step would get 7, 8 or 14;
  *        a record count is above 1,024 or goes past the tape                 record, or 0
  *   18   the memory is longer than 65,536 bytes                              0
- *   19   the room for the written sheet is too short                         0
+ *   19   the room for the written sheet or trace is too short                0
+ *   26   in a trace, step and element are not after those of the field
+ *        before (a later step, or a later element of the same step)          byte of the head
  *
  * If several apply, 18 comes first, then the sheet's fields one by one (each 1, 2, 3, 4, 6, 5),
- * then its steps one by one (each 7 to 11, then 12 to 14 element by element, then 15), then 16
- * or 17. The elements of a vector step go by row, whatever its memory layout, then the bias.
+ * then its steps one by one (each 7 to 11, then 12 to 14 element by element, then 15), then 16, 17
+ * or 19, or the trace's fields one by one (each 1, 2, 4, 5, 26). The elements of a vector step go by
+ * row, whatever its memory layout, then the bias. A byte of the head is one of the sheet, or of the
+ * trace where the sheet itself is accepted; one past 2^32 - 1 is given as 2^32 - 1.
  *
  * Pointers
  * --------
- * Arrays that are passed to one call must not overlap. A sheet, a memory, a tape and a room may be
- * NULL where their length is 0; answer, counts, records, types and elements may never be.
+ * Arrays that are passed to one call must not overlap. A sheet, a memory, a tape, a trace and a room
+ * may be NULL where their length is 0; answer, counts, records, types, elements and verdict may
+ * never be.
  *
  * Stack
  * -----
@@ -75,7 +86,7 @@
  * tapes, and tested, not proved: moonbleat_carry_out took 33,096 bytes, every other function less.
  * What a thread needs for itself comes on top.
  *
- * docs/SHEETS.md describes sheets and tapes field by field.
+ * docs/SHEETS.md describes sheets, tapes and traces field by field.
  */
 #ifndef MOONBLEAT_H
 #define MOONBLEAT_H
@@ -89,7 +100,7 @@ extern "C" {
 
 /* The version of this interface: a major one may break callers, a minor one adds to it. */
 #define MOONBLEAT_VERSION_MAJOR 1
-#define MOONBLEAT_VERSION_MINOR 2
+#define MOONBLEAT_VERSION_MINOR 3
 #define MOONBLEAT_VERSION_PATCH 0
 
 /* The newest edition of sheets that is taken, from 1 on. */
@@ -110,7 +121,10 @@ extern "C" {
 #define MOONBLEAT_RECORDS_MAX 1024        /* records of a tape */
 #define MOONBLEAT_RECORD_NUMBERS 6        /* numbers of a record */
 #define MOONBLEAT_TAPE_NUMBERS 6144       /* numbers of the longest tape */
+#define MOONBLEAT_ACCESS_BYTES 12         /* bytes of a field of a trace */
+#define MOONBLEAT_TRACE_MAX 98304         /* bytes that hold every sheet's trace */
 #define MOONBLEAT_COUNTS 3                /* layouts, views, steps */
+#define MOONBLEAT_VERDICT 2               /* agrees, index */
 #define MOONBLEAT_ANSWER 4                /* number, place, second place, byte-elements */
 #define MOONBLEAT_STACK 40960             /* bytes of stack that are enough for a call */
 
@@ -120,6 +134,12 @@ enum {
     MOONBLEAT_PLACE = 1,
     MOONBLEAT_SECOND_PLACE = 2,
     MOONBLEAT_BYTE_ELEMENTS = 3
+};
+
+/* Places in a verdict. */
+enum {
+    MOONBLEAT_AGREES = 0,
+    MOONBLEAT_INDEX = 1
 };
 
 /* Places in a register's type; the fourth byte is 0. An empty register has four zeros. */
@@ -165,6 +185,20 @@ enum {
     MOONBLEAT_TAG_TRANSPOSE = 0x24,
     MOONBLEAT_TAG_MULTIPLY_ADD = 0x25,
     MOONBLEAT_TAG_VECTOR = 0x26 /* from edition 2 on */
+};
+
+/* The tag of a trace's fields, each one access: a tag, a two-byte length, then step (2 bytes),
+ * element (2), sort (1) and byte (4). */
+enum {
+    MOONBLEAT_TAG_ACCESS = 0x30
+};
+
+/* Sorts of an access: what becomes of an element of a load or a store. */
+enum {
+    MOONBLEAT_SORT_SKIPPED = 0,   /* outside the view's clip */
+    MOONBLEAT_SORT_FILLED = 1,    /* outside the tensor, on a load: gets the clamp value */
+    MOONBLEAT_SORT_DISCARDED = 2, /* outside the tensor, on a store: does nothing */
+    MOONBLEAT_SORT_BYTE = 3       /* has a byte, its first one in memory; of the others the byte is 0 */
 };
 
 /* In place of a load's object or of a view: none. */
@@ -217,7 +251,8 @@ enum {
     MOONBLEAT_REFUSED_TAPE_LENGTH = 16,
     MOONBLEAT_REFUSED_RECORD = 17,
     MOONBLEAT_REFUSED_MEMORY = 18,
-    MOONBLEAT_REFUSED_ROOM = 19
+    MOONBLEAT_REFUSED_ROOM = 19,
+    MOONBLEAT_REFUSED_TRACE_ORDER = 26
 };
 
 /* Ops of a tape's records: the first of six numbers. */
@@ -276,6 +311,31 @@ uint32_t moonbleat_translate(const uint8_t *sheet, size_t sheet_len, size_t memo
 uint32_t moonbleat_run(const uint8_t *sheet, size_t sheet_len, const int32_t *tape, size_t tape_len, size_t records,
                        uint8_t *memory, size_t memory_len, uint8_t types[16], uint32_t elements[1024],
                        uint32_t answer[4]);
+
+/*
+ * Writes the trace that a correct device records of a sheet on a memory of some length, without a
+ * memory, to the start of out[]: a field of MOONBLEAT_ACCESS_BYTES bytes for each element of each
+ * load and store, by step, then by element. A load has the elements of its object's matrix, a store
+ * those of its register's, row by row; other steps have none. answer[3] is the byte count. A room of
+ * MOONBLEAT_TRACE_MAX bytes holds every trace. Refusals 18, 1 to 15, then 19.
+ */
+uint32_t moonbleat_trace(const uint8_t *sheet, size_t sheet_len, size_t memory_len, uint8_t *out, size_t out_len,
+                         uint32_t answer[4]);
+
+/*
+ * Replays a device's trace against a sheet and the length of a memory, without a memory: it is held
+ * to the fields that moonbleat_trace writes. On success verdict[] is
+ *
+ *   1, 0       the trace agrees: it has these fields and no others
+ *   0, index   the first field, counted from 0, at which the two differ, or at which one of them
+ *              has ended
+ *
+ * and answer[3] is how many fields the sheet's own trace has. The whole trace is judged before it is
+ * compared, so a refusal behind a difference still refuses; a byte past the memory only differs. An
+ * empty trace is one. Refusals 18, 1 to 15 of the sheet, then 1, 2, 4, 5 and 26 of the trace.
+ */
+uint32_t moonbleat_replay(const uint8_t *sheet, size_t sheet_len, size_t memory_len, const uint8_t *trace,
+                          size_t trace_len, uint32_t verdict[2], uint32_t answer[4]);
 
 #ifdef __cplusplus
 }

@@ -132,7 +132,7 @@ static void check_sheet(const struct sample *sample, const struct assembly *asse
 {
     uint32_t counts[MOONBLEAT_COUNTS], answer[MOONBLEAT_ANSWER];
     const struct bytes *sheet = &assembly->sheet;
-    const struct refused read = {sheet->at, sheet->len, 0, NULL, answer};
+    const struct refused read = {.sheet = sheet->at, .sheet_len = sheet->len, .answer = answer};
     accepted++;
     if (moonbleat_read(sheet->at, sheet->len, counts, answer) == 0) {
         read_sheets[edition_of(sheet)]++;

@@ -11,6 +11,7 @@ struct result {
     uint32_t returned;
     uint32_t counts[MOONBLEAT_COUNTS];
     uint32_t records[1];
+    uint32_t verdict[MOONBLEAT_VERDICT];
     uint8_t types[MOONBLEAT_TYPES];
     uint32_t elements[MOONBLEAT_ELEMENTS];
     uint32_t answer[MOONBLEAT_ANSWER];
@@ -18,6 +19,10 @@ struct result {
 
 /* Edition 1, and a fill of register 0, which needs no memory. */
 static const uint8_t fill_sheet[] = {0x01, 1, 0, 1, 0x20, 8, 0, 0, 1, 4, 0, 7, 0, 0, 0};
+
+/* The same behind a layout, and a store, whose four elements all lie outside the tensor. */
+static const uint8_t store_sheet[] = {0x01, 1, 0, 1, 0x10, 16, 0, 1, 1, 0, 0, 0, 0, 1, 0, 1, 0, 1, 0, 1, 0, 4, 0,
+                                      0x20, 8, 0, 0, 1, 4, 0, 7, 0, 0, 0, 0x22, 7, 0, 0, 0, 255, 0, 0, 0, 0};
 
 /* Calls a function with empty slices that begin at `nothing`. */
 typedef void call(uint8_t *nothing, int32_t *no_numbers, struct result *result);
@@ -90,6 +95,37 @@ static void run_records_of_nothing(uint8_t *nothing, int32_t *no_numbers, struct
                                      result->elements, result->answer);
 }
 
+static void trace_nothing(uint8_t *nothing, int32_t *no_numbers, struct result *result)
+{
+    (void)no_numbers;
+    result->returned = moonbleat_trace(nothing, 0, 0, nothing, 0, result->answer);
+}
+
+static void trace_no_access_to_nothing(uint8_t *nothing, int32_t *no_numbers, struct result *result)
+{
+    (void)no_numbers;
+    result->returned = moonbleat_trace(fill_sheet, sizeof fill_sheet, 0, nothing, 0, result->answer);
+}
+
+static void trace_to_nothing(uint8_t *nothing, int32_t *no_numbers, struct result *result)
+{
+    (void)no_numbers;
+    result->returned = moonbleat_trace(store_sheet, sizeof store_sheet, 0, nothing, 0, result->answer);
+}
+
+static void replay_on_nothing(uint8_t *nothing, int32_t *no_numbers, struct result *result)
+{
+    (void)no_numbers;
+    result->returned = moonbleat_replay(nothing, 0, 0, nothing, 0, result->verdict, result->answer);
+}
+
+static void replay_nothing(uint8_t *nothing, int32_t *no_numbers, struct result *result)
+{
+    (void)no_numbers;
+    result->returned =
+        moonbleat_replay(store_sheet, sizeof store_sheet, 0, nothing, 0, result->verdict, result->answer);
+}
+
 static const struct {
     const char *name;
     call *call;
@@ -106,6 +142,11 @@ static const struct {
     {"run nothing", run_nothing, MOONBLEAT_REFUSED_ORDER},
     {"run on nothing", run_on_nothing, 0},
     {"run records of nothing", run_records_of_nothing, MOONBLEAT_REFUSED_RECORD},
+    {"trace nothing", trace_nothing, MOONBLEAT_REFUSED_ORDER},
+    {"trace no access to nothing", trace_no_access_to_nothing, 0},
+    {"trace to nothing", trace_to_nothing, MOONBLEAT_REFUSED_ROOM},
+    {"replay on nothing", replay_on_nothing, MOONBLEAT_REFUSED_ORDER},
+    {"replay nothing", replay_nothing, 0},
 };
 
 enum { CASES = sizeof cases / sizeof cases[0], GARBAGE = 0xA5 };

@@ -3,7 +3,8 @@
  *
  *   - the text of a sheet, of a refused one too, assembles to the sheet's bytes;
  *   - every sheet is shown;
- *   - of a refused sheet the cause is found, and of its tape with one number changed.
+ *   - of a refused sheet the cause is found, and of an accepted one's tape with one number changed and
+ *     its trace with one byte changed or the end cut off.
  *
  *   sheets FOLDER
  */
@@ -22,9 +23,13 @@
 #include "round_trip.h"
 #include "show.h"
 
-static size_t sheets, failed, refused[MOONBLEAT_REFUSED_RECORD + 1];
+static size_t sheets, failed, refused[MOONBLEAT_REFUSED_RECORD + 1], refused_traces[MOONBLEAT_REFUSED_TRACE_ORDER + 1];
 static size_t read_sheets[MOONBLEAT_EDITION_MAX + 1]; /* by edition */
 static FILE *nowhere;
+
+/* The refusals of a trace's own fields. */
+static const size_t of_traces[] = {MOONBLEAT_REFUSED_CUT_SHORT, MOONBLEAT_REFUSED_TAG, MOONBLEAT_REFUSED_LENGTH,
+                                   MOONBLEAT_REFUSED_NUMBER, MOONBLEAT_REFUSED_TRACE_ORDER};
 
 static void fail(const char *name, const char *what)
 {
@@ -35,7 +40,7 @@ static void fail(const char *name, const char *what)
 static void try_text(const char *name, const struct bytes *sheet)
 {
     uint32_t counts[MOONBLEAT_COUNTS], answer[MOONBLEAT_ANSWER];
-    const struct refused read = {sheet->at, sheet->len, 0, NULL, answer};
+    const struct refused read = {.sheet = sheet->at, .sheet_len = sheet->len, .answer = answer};
     if (moonbleat_read(sheet->at, sheet->len, counts, answer) == 0) {
         read_sheets[edition_of(sheet)]++;
         show_sheet(nowhere, sheet->at, sheet->len);
@@ -47,15 +52,15 @@ static void try_text(const char *name, const struct bytes *sheet)
     }
 }
 
-/* Counts a refusal, whose cause must be found. */
-static void expect_cause(const char *name, const struct refused *input)
+/* Counts a refusal by its number; its cause must be found. */
+static void expect_cause(const char *name, const struct refused *input, size_t *counts)
 {
     struct text cause;
     uint32_t number = input->answer[MOONBLEAT_NUMBER];
     if (number == 0 || number == MOONBLEAT_REFUSED_MEMORY) {
         return;
     }
-    refused[number]++;
+    counts[number]++;
     if (!diagnose(input, &cause)) {
         printf("FAILED: %s: refusal %" PRIu32 " at %" PRIu32 " %" PRIu32 " has no cause\n", name, number,
                input->answer[MOONBLEAT_PLACE], input->answer[MOONBLEAT_SECOND_PLACE]);
@@ -81,20 +86,48 @@ static void try_tape(const char *name, const struct bytes *sheet, size_t memory_
     size_t numbers = MOONBLEAT_RECORD_NUMBERS * tape.records;
     size_t sheet_number = strtoul(name, NULL, 10);
     tape.numbers[sheet_number * 7919 % numbers] = others[sheet_number % (sizeof others / sizeof others[0])];
-    const struct refused ran = {sheet->at, sheet->len, memory_len, &tape, answer};
+    const struct refused ran = {.sheet = sheet->at, .sheet_len = sheet->len, .memory_len = memory_len, .tape = &tape,
+                                .answer = answer};
     moonbleat_run(sheet->at, sheet->len, tape.numbers, numbers, tape.records, memory, memory_len, types, elements,
                   answer);
-    expect_cause(name, &ran);
+    expect_cause(name, &ran, refused);
+}
+
+/* Replays the trace of an accepted sheet with some byte of it changed, or, of each fifth sheet, some of its
+ * last field cut off. */
+static void try_trace(const char *name, const struct bytes *sheet, size_t memory_len)
+{
+    enum { EACH_CUT = 5 };
+    static const uint8_t others[] = {0, 1, 2, 3, 4, 8, 9, 10, 0x30, 0x31, 255};
+    static uint8_t room[MOONBLEAT_TRACE_MAX];
+    uint32_t verdict[MOONBLEAT_VERDICT], answer[MOONBLEAT_ANSWER];
+    moonbleat_trace(sheet->at, sheet->len, memory_len, room, sizeof room, answer);
+    struct bytes trace = {room, answer[MOONBLEAT_BYTE_ELEMENTS]};
+    if (trace.len == 0) {
+        return;
+    }
+    size_t sheet_number = strtoul(name, NULL, 10);
+    if (sheet_number % EACH_CUT == 0) {
+        trace.len -= sheet_number / EACH_CUT % MOONBLEAT_ACCESS_BYTES;
+    } else {
+        room[sheet_number * 7919 % trace.len] = others[sheet_number % sizeof others];
+    }
+    const struct refused replayed = {.sheet = sheet->at, .sheet_len = sheet->len, .memory_len = memory_len,
+                                     .trace = &trace, .answer = answer};
+    moonbleat_replay(sheet->at, sheet->len, memory_len, trace.at, trace.len, verdict, answer);
+    expect_cause(name, &replayed, refused_traces);
 }
 
 static void try_diagnosis(const char *name, const struct bytes *sheet, size_t memory_len)
 {
     uint32_t answer[MOONBLEAT_ANSWER];
-    const struct refused checked = {sheet->at, sheet->len, memory_len, NULL, answer};
+    const struct refused checked = {.sheet = sheet->at, .sheet_len = sheet->len, .memory_len = memory_len,
+                                    .answer = answer};
     if (moonbleat_check(sheet->at, sheet->len, memory_len, answer) == 0) {
         try_tape(name, sheet, memory_len);
+        try_trace(name, sheet, memory_len);
     } else {
-        expect_cause(name, &checked);
+        expect_cause(name, &checked, refused);
     }
 }
 
@@ -143,6 +176,13 @@ int main(int argc, char **argv)
         /* The tape's length is not asked for. */
         if (refused[number] == 0 && number != MOONBLEAT_REFUSED_TAPE_LENGTH) {
             fail(argv[1], "a refusal was not met");
+        }
+    }
+    printf("\nrefused traces by number:");
+    for (size_t i = 0; i < sizeof of_traces / sizeof of_traces[0]; i++) {
+        printf(" %zu:%zu", of_traces[i], refused_traces[of_traces[i]]);
+        if (refused_traces[of_traces[i]] == 0) {
+            fail(argv[1], "a refusal of a trace was not met");
         }
     }
     printf("\n%zu failed\n", failed);

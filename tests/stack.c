@@ -23,6 +23,9 @@ static struct {
     uint8_t out[MOONBLEAT_SHEET_MAX];
     int32_t tape[MOONBLEAT_TAPE_NUMBERS];
     uint32_t records[1];
+    uint8_t trace[MOONBLEAT_TRACE_MAX];
+    size_t trace_len;
+    uint32_t verdict[MOONBLEAT_VERDICT];
     uint32_t counts[MOONBLEAT_COUNTS];
     uint8_t types[MOONBLEAT_TYPES];
     uint32_t elements[MOONBLEAT_ELEMENTS];
@@ -63,6 +66,19 @@ static void do_run(void)
                   sizeof lent.memory, lent.types, lent.elements, lent.answer);
 }
 
+static void do_trace(void)
+{
+    moonbleat_trace(lent.sheet.at, lent.sheet.len, sizeof lent.memory, lent.trace, sizeof lent.trace, lent.answer);
+    lent.trace_len = lent.answer[MOONBLEAT_BYTE_ELEMENTS];
+}
+
+/* The trace that the function above made of the same sheet. */
+static void do_replay(void)
+{
+    moonbleat_replay(lent.sheet.at, lent.sheet.len, sizeof lent.memory, lent.trace, lent.trace_len, lent.verdict,
+                     lent.answer);
+}
+
 static struct {
     const char *name;
     void (*call)(void);
@@ -71,6 +87,7 @@ static struct {
     {"moonbleat_read", do_read, 0},           {"moonbleat_rewrite", do_rewrite, 0},
     {"moonbleat_check", do_check, 0},         {"moonbleat_carry_out", do_carry_out, 0},
     {"moonbleat_translate", do_translate, 0}, {"moonbleat_run", do_run, 0},
+    {"moonbleat_trace", do_trace, 0},         {"moonbleat_replay", do_replay, 0},
 };
 
 enum { FUNCTIONS = sizeof functions / sizeof functions[0] };

@@ -4,7 +4,7 @@
 #
 #   tests/tool.sh FOLDER      FOLDER has the programs moonbleat, example, readme and unhex
 #
-# (Refusal 19 is given only for a rewritten sheet, which no subcommand asks for.)
+# (Refusal 19 is given only for too short a room, and those of the tool are long enough.)
 
 # shellcheck source=tests/common.sh
 . "$(dirname "$0")/common.sh"
@@ -44,6 +44,16 @@ accepted_strip() {
     tail -n 1 "$strips/$1/run.txt" > last
     same "$1: check" stdout last
     rm -f out
+    call 0 trace sheet --memory "$(wc -c < memory)" -o out
+    silent
+    if [ -e "$strips/$1/trace.hex" ]; then
+        "$bin/unhex" < "$strips/$1/trace.hex" > trace || fail "$1: trace"
+        same "$1: trace" out trace
+    fi
+    call 0 replay sheet out --memory "$(wc -c < memory)"
+    echo "agrees, $(($(wc -c < out) / 12)) accesses" | sed 's/ 1 accesses/ 1 access/' > expected
+    same "$1: replay" stdout expected
+    rm -f out
 }
 
 refused_strip() {
@@ -57,7 +67,13 @@ refused_strip() {
     call 1 run sheet memory -o out
     silent
     same "$1: the refusal of run" stderr line
+    call 1 trace sheet --memory "$(wc -c < memory)" -o out
+    silent
+    same "$1: the refusal of trace" stderr line
     absent out
+    call 4 replay sheet memory --memory "$(wc -c < memory)"
+    silent
+    same "$1: the refusal of replay" stderr line
 }
 
 carried_strip() {
@@ -106,7 +122,18 @@ refused() {
     refuses "$three" "$cause"
 }
 
-# refused_tape 'NUMBER FIRST SECOND' CAUSE WORD..: the same, and the three numbers on standard output.
+# refused_replay 'NUMBER FIRST SECOND' CAUSE WORD..: the same with exit status 4, since 1 says that a card
+# differs.
+refused_replay() {
+    three=$1
+    cause=$2
+    shift 2
+    call 4 "$@"
+    silent
+    refuses "$three" "$cause"
+}
+
+# refused_tape 'NUMBER FIRST SECOND' CAUSE WORD..: the same with 1, and the three numbers on standard output.
 refused_tape() {
     three=$1
     cause=$2
@@ -137,6 +164,8 @@ unreadable() {
     refused "$wanted_place" "$wanted_cause" run sheet memory -o out
     refused "$wanted_place" "$wanted_cause" run-tape sheet tape memory -o out
     refused_tape "$wanted_place" "$wanted_cause" tape sheet
+    refused "$wanted_place" "$wanted_cause" trace sheet -o out
+    refused_replay "$wanted_place" "$wanted_cause" replay sheet no_trace
     absent out
 }
 
@@ -150,11 +179,14 @@ misstepped() {
     refused "$wanted_place" "$wanted_cause" check sheet --memory 64
     refused "$wanted_place" "$wanted_cause" run sheet memory -o out
     refused_tape "$wanted_place" "$wanted_cause" tape sheet --memory 64
+    refused "$wanted_place" "$wanted_cause" trace sheet --memory 64 -o out
+    refused_replay "$wanted_place" "$wanted_cause" replay sheet no_trace --memory 64
     absent out
 }
 
 zeros memory 64
 : > tape
+zeros no_trace 1
 edition='01 0100 01'
 layout='10 1000 01 00 00000000 0100 0800 0100 0000 0800'
 view='11 0B00 01 00 00 0000 FFFF 0000 FFFF'
@@ -512,6 +544,8 @@ for hex in "$edition $fill" 01; do
     refused '18 0 0' 'the memory is longer than 65536 bytes' run sheet memory -o out
     refused '18 0 0' 'the memory is longer than 65536 bytes' run-tape sheet tape memory -o out
     refused_tape '18 0 0' 'the memory is longer than 65536 bytes' tape sheet --memory 65537
+    refused '18 0 0' 'the memory is longer than 65536 bytes' trace sheet --memory 65537 -o out
+    refused_replay '18 0 0' 'the memory is longer than 65536 bytes' replay sheet no_trace --memory 65537
     absent out
 done
 
@@ -601,6 +635,20 @@ wrong 'standard input can be read only once' run-tape - tape -
 wrong 'tape takes SHEET' tape
 wrong 'tape does not take -x' tape sheet -x
 wrong 'tape does not take -o' tape sheet -o out
+wrong 'trace takes SHEET' trace
+wrong 'trace takes SHEET, and tape is one more' trace sheet tape
+wrong 'trace does not take --asm' trace sheet --asm
+wrong '-o needs a word after it' trace sheet -o
+wrong '--memory needs a word after it' trace sheet -o out --memory
+wrong '--memory x: not a length in bytes' trace sheet -o out --memory x
+wrong 'standard output can take only one of -o, --registers and --json' trace sheet -o - --json
+wrong 'replay takes SHEET TRACE' replay
+wrong 'replay takes SHEET TRACE' replay sheet
+wrong 'replay takes SHEET TRACE, and tape is one more' replay sheet no_trace tape
+wrong 'replay does not take -o' replay sheet no_trace -o out
+wrong '--memory -1: not a length in bytes' replay sheet no_trace --memory -1
+wrong '--memory is given twice' replay sheet no_trace --memory 64 --memory 64
+wrong 'standard input can be read only once' replay - -
 wrong 'show takes SHEET' show
 wrong 'show does not take --memory' show sheet --memory 64
 
@@ -639,9 +687,14 @@ broken "nowhere: $gone" run sheet nowhere -o out
 broken "nowhere: $gone" run-tape nowhere tape memory -o out
 broken "nowhere: $gone" run-tape sheet nowhere memory -o out
 broken "nowhere: $gone" run-tape sheet tape nowhere -o out
+broken "nowhere: $gone" trace nowhere -o out
+broken "nowhere: $gone" replay nowhere no_trace
+broken "nowhere: $gone" replay sheet nowhere
 broken '.: Is a directory' check . --memory 64
 broken '.: Is a directory' run sheet . -o out
 broken '.: Is a directory' run-tape sheet . memory -o out
+broken '.: Is a directory' trace . -o out
+broken '.: Is a directory' replay sheet .
 broken 'sheet/inside: Not a directory' show sheet/inside
 absent out
 
@@ -682,6 +735,7 @@ call 1 show /dev/zero
 refuses '2 0 0' 'tag 0x00 is none of 0x01, 0x10, 0x11, 0x20, 0x21, 0x22, 0x23, 0x24, 0x25, 0x26'
 if [ "$(wc -l < stdout)" -eq 4 ]; then pass; else fail 'an endless sheet in words'; fi
 refused '18 0 0' 'the memory is longer than 65536 bytes' run sheet /dev/zero
+broken '/dev/zero: longer than 67108864 bytes' replay sheet /dev/zero
 yes '4 0 0 0 0 0' 2> /dev/null | tool run-tape sheet - memory > stdout 2> stderr
 refuses '17 0 0' 'the tape has more than 1024 records'
 
@@ -812,6 +866,9 @@ rm out link
 broken "nowhere/out: $gone" run sheet memory -o nowhere/out
 broken 'sheet/out: Not a directory' run sheet memory -o sheet/out
 broken 'folder: not a regular file' run sheet memory -o folder
+broken "nowhere/out: $gone" trace sheet -o nowhere/out
+broken 'sheet/out: Not a directory' trace sheet -o sheet/out
+broken 'folder: not a regular file' trace sheet -o folder
 mkfifo pipe
 broken 'pipe: not a regular file' run-tape sheet tape memory -o pipe
 if [ -p pipe ]; then pass; else fail 'a pipe was replaced'; fi
@@ -821,6 +878,9 @@ broken 'device: not a regular file' run sheet memory -o device
 if [ -h device ]; then pass; else fail 'a device was replaced'; fi
 # Nobody can make a file in the first folder; in the second, root can.
 call 3 run sheet memory -o /proc/out
+silent
+says 'moonbleat: /proc/out: '
+call 3 trace sheet -o /proc/out
 silent
 says 'moonbleat: /proc/out: '
 chmod 555 folder
@@ -845,7 +905,9 @@ if [ "$(ls -A folder)" = out ]; then pass; else fail "left on a full disk: $(ls 
 
 # What cannot be printed is not a success.
 if [ -c /dev/full ]; then
-    for words in 'run sheet memory' 'tape sheet' 'show sheet' 'check sheet --memory 64' '--help'; do
+    tool trace sheet -o trace
+    for words in 'run sheet memory' 'tape sheet' 'show sheet' 'check sheet --memory 64' 'trace sheet' \
+        'trace sheet -o -' 'replay sheet trace' '--help'; do
         # shellcheck disable=SC2086
         tool $words > /dev/full 2> stderr
         if [ $? -eq 3 ]; then pass; else fail "$words to a full device"; fi
@@ -1194,6 +1256,253 @@ bytes sheet "$edition" 20 0800 00 02 01 06 00000000
 json '.fields == [{field: "edition", byte: 0, edition: 1}] and .refusal.at == "byte 4"' call 1 show sheet
 json '.refusal.number == 18 and .refusal.at == ""' call 1 run sheet /dev/zero
 json '.refusal.number == 5 and .command == "tape"' call 1 tape sheet
+
+# -- Traces --------------------------------------------------------------------------------------
+
+# access STEP ELEMENT SORT BYTE: the field of an access as hex.
+access() {
+    printf '30 0900 %02X%02X %02X%02X %02X %02X%02X%02X%02X\n' $(($1 % 256)) $(($1 / 256)) $(($2 % 256)) $(($2 / 256)) \
+        "$3" $(($4 % 256)) $(($4 / 256 % 256)) $(($4 / 65536 % 256)) $(($4 / 16777216))
+}
+
+# Every sort, two bytes an element; step 0 and step 3 have no access. Worked by hand: the tensor has
+# coordinates 0 and 1, the four elements -1 to 2; through the view the first is clipped and the other three
+# have -1 to 1.
+cat > text << 'END'
+edition 1
+layout L0 Constant value 9
+  dim size 2 stride 1 offset -1 span 4
+view V0 permutation 0
+  clip columns 1 65535
+fill r0 1x4 u16 0
+load r1 object r0 L0 base 16
+load r1 L0 V0 base 0
+reduce r2 of r1 1x1 both add
+store r1 L0 base 32
+END
+call 0 asm text -o sheet
+cat > lines << 'END'
+0: step 1 (load), element 0: filled
+1: step 1 (load), element 1: byte 16
+2: step 1 (load), element 2: byte 18
+3: step 1 (load), element 3: filled
+4: step 2 (load), element 0: skipped
+5: step 2 (load), element 1: filled
+6: step 2 (load), element 2: byte 0
+7: step 2 (load), element 3: byte 2
+8: step 4 (store), element 0: discarded
+9: step 4 (store), element 1: byte 32
+10: step 4 (store), element 2: byte 34
+11: step 4 (store), element 3: discarded
+END
+{
+    access 1 0 1 0 && access 1 1 3 16 && access 1 2 3 18 && access 1 3 1 0
+    access 2 0 0 0 && access 2 1 1 0 && access 2 2 3 0 && access 2 3 3 2
+    access 4 0 2 0 && access 4 1 3 32 && access 4 2 3 34 && access 4 3 2 0
+} > right
+
+# recorded FILE: makes the file trace of fields as hex, a line each.
+recorded() {
+    "$bin/unhex" < "$1" > trace || fail "hex of $1"
+}
+
+# replays STATUS LINE..: what replay prints of the trace.
+replays() {
+    wanted_status=$1
+    shift
+    call "$wanted_status" replay sheet trace --memory 36
+    printf '%s\n' "$@" > expected
+    same "the replay of $(head -n 1 expected)" stdout expected
+    if [ -s stderr ]; then fail "replay: standard error is '$(head -c 100 stderr)'"; else pass; fi
+}
+
+# edited SED: the right trace with some lines edited.
+edited() {
+    sed "$1" right > card
+    recorded card
+}
+
+# Both ways, to a file and to standard output, from a file and from standard input.
+call 0 trace sheet --memory 36
+same 'a trace in words' stdout lines
+call 0 trace sheet
+same 'a trace for 65536 bytes' stdout lines
+recorded right
+call 0 trace sheet --memory 36 -o out
+silent
+same 'a trace' out trace
+call 0 trace sheet -o -
+same 'trace -o -' stdout trace
+call 0 trace - -o out < sheet
+same 'trace -' out trace
+replays 0 'agrees, 12 accesses'
+call 0 replay sheet - < trace
+same 'replay -, a trace' stdout expected
+call 0 replay - trace < sheet
+same 'replay -, a sheet' stdout expected
+
+# The first difference counts: at the first, in the middle and at the last access, of every number.
+edited "1s/.*/$(access 1 0 3 0)/;5s/.*/$(access 2 0 1 0)/"
+replays 1 'differs at access 0: the rules have 12, the card 12' '  the rules: step 1 (load), element 0: filled' \
+    '  the card:  step 1 (load), element 0: byte 0'
+edited "7s/.*/$(access 2 2 3 4)/"
+replays 1 'differs at access 6: the rules have 12, the card 12' '  the rules: step 2 (load), element 2: byte 0' \
+    '  the card:  step 2 (load), element 2: byte 4'
+edited "5s/.*/$(access 2 0 3 65534)/"
+replays 1 'differs at access 4: the rules have 12, the card 12' '  the rules: step 2 (load), element 0: skipped' \
+    '  the card:  step 2 (load), element 0: byte 65534'
+edited "12s/.*/$(access 4 3 1 0)/"
+replays 1 'differs at access 11: the rules have 12, the card 12' '  the rules: step 4 (store), element 3: discarded' \
+    '  the card:  step 4 (store), element 3: filled'
+edited "12s/.*/$(access 4 4 2 0)/"
+replays 1 'differs at access 11: the rules have 12, the card 12' '  the rules: step 4 (store), element 3: discarded' \
+    '  the card:  step 4 (store), element 4: discarded'
+edited "12s/.*/$(access 5 3 2 0)/"
+replays 1 'differs at access 11: the rules have 12, the card 12' '  the rules: step 4 (store), element 3: discarded' \
+    '  the card:  step 5, element 3: discarded'
+edited "11s/.*/$(access 4 2 3 4294967295)/"
+replays 1 'differs at access 10: the rules have 12, the card 12' '  the rules: step 4 (store), element 2: byte 34' \
+    '  the card:  step 4 (store), element 2: byte 4294967295'
+# Accesses that are missing or too many.
+edited 1d
+replays 1 'differs at access 0: the rules have 12, the card 11' '  the rules: step 1 (load), element 0: filled' \
+    '  the card:  step 1 (load), element 1: byte 16'
+edited 4d
+replays 1 'differs at access 3: the rules have 12, the card 11' '  the rules: step 1 (load), element 3: filled' \
+    '  the card:  step 2 (load), element 0: skipped'
+edited '12d'
+replays 1 'differs at access 11: the rules have 12, the card 11' '  the rules: step 4 (store), element 3: discarded' \
+    '  the card:  nothing more'
+: > trace
+replays 1 'differs at access 0: the rules have 12, the card 0' '  the rules: step 1 (load), element 0: filled' \
+    '  the card:  nothing more'
+edited "1s/.*/$(access 0 15 0 0) &/"
+replays 1 'differs at access 0: the rules have 12, the card 13' '  the rules: step 1 (load), element 0: filled' \
+    '  the card:  step 0 (fill), element 15: skipped'
+edited "8s/.*/& $(access 3 0 3 5)/"
+replays 1 'differs at access 8: the rules have 12, the card 13' '  the rules: step 4 (store), element 0: discarded' \
+    '  the card:  step 3 (reduce), element 0: byte 5'
+edited "12s/.*/& $(access 4 4 2 0)/"
+replays 1 'differs at access 12: the rules have 12, the card 13' '  the rules: nothing more' \
+    '  the card:  step 4 (store), element 4: discarded'
+edited "12s/.*/& $(access 65535 65535 3 1)/"
+replays 1 'differs at access 12: the rules have 12, the card 13' '  the rules: nothing more' \
+    '  the card:  step 65535, element 65535: byte 1'
+
+# refused_trace 'NUMBER FIRST' CAUSE: the trace is refused, and not the sheet.
+refused_trace() {
+    call 4 replay sheet trace --memory 36
+    silent
+    echo "moonbleat: refusal ${1% *} at byte ${1#* } of the trace: $2" > line
+    same "the line of refusal ${1% *} of a trace" stderr line
+}
+
+# unlisted 'NUMBER' CAUSE HEX..: refused as the first field, and, with right ones before it and behind it, as the
+# third. AT in the cause is the field's index.
+unlisted() {
+    number=$1
+    cause=$2
+    shift 2
+    bytes trace "$@"
+    refused_trace "$number 0" "$(echo "$cause" | sed 's/AT/0/')"
+    edited "3s/.*/$*/"
+    refused_trace "$number 24" "$(echo "$cause" | sed 's/AT/2/')"
+}
+
+unlisted 2 'access AT: tag 0x31 is not 0x30' 31 0900 0100 0200 03 12000000
+unlisted 2 'access AT: tag 0x01 is not 0x30' 01 0100 01
+unlisted 2 'access AT: tag 0x00 is not 0x30' 00 0000
+unlisted 2 'access AT: tag 0x2F is not 0x30' 2F 0800 0100 0200 04 120000
+unlisted 4 'access AT: length 0 is not 9' 30 0000
+unlisted 4 'access AT: length 8 is not 9' 30 0800 0100 0200 04 120000
+unlisted 4 'access AT: length 10 is not 9' 30 0A00 0100 0200 03 1200000000
+unlisted 5 'access AT: sort 4 is not within 0 to 3' "$(access 1 2 4 0)"
+unlisted 5 'access AT: sort 255 is not within 0 to 3' "$(access 1 2 255 18)"
+unlisted 5 'access AT: byte 1 is not 0, and the element is skipped' "$(access 1 2 0 1)"
+unlisted 5 'access AT: byte 256 is not 0, and the element is filled' "$(access 1 2 1 256)"
+unlisted 5 'access AT: byte 4278190080 is not 0, and the element is discarded' "$(access 0 0 2 4278190080)"
+# 1: a head or a content that is cut off, whatever its tag.
+# shortened LENGTH: the first bytes of the right trace.
+shortened() {
+    recorded right
+    head -c "$1" trace > part
+    mv part trace
+}
+for length in 1 2; do
+    shortened "$length"
+    refused_trace '1 0' "a field's head has 3 bytes, the trace ends after $length"
+    shortened $((36 + length))
+    refused_trace '1 36' "a field's head has 3 bytes, the trace ends after $length"
+done
+for length in 3 11; do
+    shortened $((132 + length))
+    refused_trace '1 132' "access 11: length 9 runs past the end of the trace by $((12 - length))"
+done
+bytes trace FF FFFF
+refused_trace '1 0' 'access 0: length 65535 runs past the end of the trace by 65535'
+# 26: an access that is not after the one before.
+edited "3s/.*/$(access 1 1 3 18)/"
+refused_trace '26 24' 'access 2: step 1, element 1 is not after step 1, element 1 of the access before'
+edited "3s/.*/$(access 1 0 3 18)/"
+refused_trace '26 24' 'access 2: step 1, element 0 is not after step 1, element 1 of the access before'
+edited "12s/.*/$(access 3 65535 2 0)/"
+refused_trace '26 132' 'access 11: step 3, element 65535 is not after step 4, element 2 of the access before'
+edited "5s/.*/$(access 2 256 0 0)/"
+refused_trace '26 60' 'access 5: step 2, element 1 is not after step 2, element 256 of the access before'
+# A refusal comes before a difference that stands before it, and the first refusal before later ones.
+edited "1s/.*/$(access 1 0 3 0)/;12s/.*/$(access 4 3 4 0)/"
+refused_trace '5 132' 'access 11: sort 4 is not within 0 to 3'
+edited "2s/.*/$(access 1 0 3 0)/;3s/.*/31 0000/"
+refused_trace '26 12' 'access 1: step 1, element 0 is not after step 1, element 0 of the access before'
+# The sheet comes first.
+bytes trace FF
+refused_replay '14 4 2' 'store: row 0, column 2: bytes 34 to 35 do not all lie in the memory of 35 bytes' \
+    replay sheet trace --memory 35
+refused '14 4 2' 'store: row 0, column 2: bytes 34 to 35 do not all lie in the memory of 35 bytes' \
+    trace sheet --memory 35
+
+# JSON.
+json '.command == "trace" and .accepted and .memory == 36 and (.accesses | length) == 12 and
+    .accesses[3] == {step: 1, element: 3, sort: "filled", byte: null} and .accesses[4].sort == "skipped" and
+    .accesses[8].sort == "discarded" and .accesses[10] == {step: 4, element: 2, sort: "byte", byte: 34}' \
+    call 0 trace sheet --memory 36
+json '.accesses | length == 12' call 0 trace sheet -o out
+recorded right
+same 'a trace beside its JSON' out trace
+json '.command == "replay" and .accepted and .refusal == null and .memory == 36 and .agrees and .expected == 12 and
+    .recorded == 12 and .difference == null' call 0 replay sheet trace --memory 36
+edited 12d
+json '(.agrees | not) and .expected == 12 and .recorded == 11 and
+    .difference == {index: 11, rules: {step: 4, element: 3, sort: "discarded", byte: null}, card: null}' \
+    call 1 replay sheet trace
+edited "12s/.*/& $(access 5 0 3 7)/"
+json '.difference == {index: 12, rules: null, card: {step: 5, element: 0, sort: "byte", byte: 7}}' \
+    call 1 replay sheet trace
+bytes trace 31 0000
+json '.command == "replay" and (.accepted | not) and .refusal == {number: 2, place: 0, second_place: 0,
+    at: "byte 0 of the trace", sentence: "access 0: tag 0x31 is not 0x30"}' call 4 replay sheet trace
+json '.refusal.number == 14 and .refusal.at == "step 4, element 2"' call 4 replay sheet trace --memory 35
+
+# A sheet without loads and stores, one with a single access, and the longest trace: of a fill and 31 loads.
+bytes sheet "$edition $fill"
+: > trace
+replays 0 'agrees, 0 accesses'
+call 0 trace sheet
+silent
+call 0 trace sheet -o out
+same 'an empty trace' out trace
+access 0 0 0 0 > card
+recorded card
+replays 1 'differs at access 0: the rules have 0, the card 1' '  the rules: nothing more' \
+    '  the card:  step 0 (fill), element 0: skipped'
+bytes sheet "$edition $layout" 20 0800 00 01 01 00 00000000 "$store"
+access 1 0 3 0 > card
+recorded card
+replays 0 'agrees, 1 access'
+bytes sheet "$edition $zigzag $sixteen $seven $seven $seven $seven $load $load $load"
+call 0 trace sheet --memory 36 -o trace
+if [ "$(wc -c < trace)" -eq $((31 * 256 * 12)) ]; then pass; else fail 'the length of the longest trace'; fi
+replays 0 'agrees, 7936 accesses'
 
 # The examples, and what README.md says that they print.
 ${RUNNER:-} "$bin/example" > stdout 2> stderr

@@ -1,0 +1,35 @@
+/* Traces: what becomes of each element of a sheet's loads and stores, one field each. */
+#ifndef TRACES_H
+#define TRACES_H
+
+#include <stddef.h>
+#include <stdint.h>
+
+#include "diagnose.h"
+#include "json.h"
+#include "text.h"
+
+/* The numbers of a field. */
+struct entry {
+    uint32_t step;
+    uint32_t element;
+    uint32_t sort;
+    uint32_t byte;
+};
+
+/* The numbers in a field's content. */
+struct entry entry_of(const uint8_t *content);
+
+/* Those of the field with an index; all fields of a trace have one length. */
+struct entry entry_at(const uint8_t *trace, size_t index);
+
+/* The name of a sort, as "skipped"; NULL if it has none. */
+const char *sort_name(uint32_t sort);
+
+/* Adds "step 3 (load), element 17: byte 340"; a step that the sheet lacks has no name. */
+void add_entry(struct text *text, const struct refused *traced, const struct entry *entry);
+
+/* The same as an object. */
+void json_entry(struct json *json, const char *key, const struct entry *entry);
+
+#endif
