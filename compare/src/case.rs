@@ -176,39 +176,32 @@ fn differing<T: PartialEq + std::fmt::Debug>(name: &str, one: &[T], other: &[T])
     })
 }
 
-/// Does one job of a case; a run takes a tape.
-fn exit_of(jobs: &dyn Jobs, job: Job, case: &Case, tape: &Tape) -> Exit {
-    let none: &[u8] = &[];
-    match job {
-        Job::Read => {
-            let mut exit = Exit::lent(none, 0);
-            exit.returned = jobs.read(&case.sheet, &mut exit.counts, &mut exit.answer);
-            exit
-        }
-        Job::Rewrite => rewrite_exit(jobs, &case.sheet, case.sheet_room),
-        Job::Check => {
-            let mut exit = Exit::lent(none, 0);
-            exit.returned = jobs.check(&case.sheet, case.told_len, &mut exit.answer);
-            exit
-        }
-        Job::CarryOut => {
-            let mut exit = Exit::lent(&case.memory, 0);
-            let end = exit.bytes.len() - GUARD;
-            let memory = &mut exit.bytes[GUARD..end];
-            exit.returned = jobs.carry_out(&case.sheet, memory, &mut exit.state, &mut exit.answer);
-            exit
-        }
-        Job::Translate => translate_exit(jobs, &case.sheet, case.told_len, case.tape_room),
-        Job::Run => {
-            let mut exit = Exit::lent(&case.memory, 0);
-            let end = exit.bytes.len() - GUARD;
-            let memory = &mut exit.bytes[GUARD..end];
-            let (numbers, records) = (&tape.numbers, tape.records);
-            exit.returned =
-                jobs.run(&case.sheet, numbers, records, memory, &mut exit.state, &mut exit.answer);
-            exit
-        }
-    }
+fn read_exit(jobs: &dyn Jobs, case: &Case) -> Exit {
+    let mut exit = Exit::lent(&[], 0);
+    exit.returned = jobs.read(&case.sheet, &mut exit.counts, &mut exit.answer);
+    exit
+}
+
+fn check_exit(jobs: &dyn Jobs, case: &Case) -> Exit {
+    let mut exit = Exit::lent(&[], 0);
+    exit.returned = jobs.check(&case.sheet, case.told_len, &mut exit.answer);
+    exit
+}
+
+fn carry_out_exit(jobs: &dyn Jobs, case: &Case) -> Exit {
+    let mut exit = Exit::lent(&case.memory, 0);
+    let memory = &mut exit.bytes[GUARD..GUARD + case.memory.len()];
+    exit.returned = jobs.carry_out(&case.sheet, memory, &mut exit.state, &mut exit.answer);
+    exit
+}
+
+fn run_exit(jobs: &dyn Jobs, case: &Case, tape: &Tape) -> Exit {
+    let mut exit = Exit::lent(&case.memory, 0);
+    let memory = &mut exit.bytes[GUARD..GUARD + case.memory.len()];
+    let (numbers, records) = (&tape.numbers, tape.records);
+    exit.returned =
+        jobs.run(&case.sheet, numbers, records, memory, &mut exit.state, &mut exit.answer);
+    exit
 }
 
 fn rewrite_exit(jobs: &dyn Jobs, sheet: &[u8], room: usize) -> Exit {
@@ -236,14 +229,15 @@ impl Comparison<'_> {
     /// Compares every job on a case, then the promises that tie the jobs together.
     pub fn compare(&mut self, case: &Case) -> Result<(), String> {
         let inputs = (case.sheet.clone(), case.tapes.clone());
-        let no_tape = Tape { numbers: Vec::new(), records: 0 };
-        for job in [Job::Read, Job::Rewrite, Job::Check, Job::Translate] {
-            self.same(job, case, &no_tape)?;
-        }
+        let Case { sheet, told_len, .. } = case;
+        self.same(Job::Read, |jobs| read_exit(jobs, case))?;
+        self.same(Job::Rewrite, |jobs| rewrite_exit(jobs, sheet, case.sheet_room))?;
+        self.same(Job::Check, |jobs| check_exit(jobs, case))?;
+        self.same(Job::Translate, |jobs| translate_exit(jobs, sheet, *told_len, case.tape_room))?;
         for tape in &case.tapes {
-            self.same(Job::Run, case, tape)?;
+            self.same(Job::Run, |jobs| run_exit(jobs, case, tape))?;
         }
-        let carried = self.same(Job::CarryOut, case, &no_tape)?;
+        let carried = self.same(Job::CarryOut, |jobs| carry_out_exit(jobs, case))?;
         self.round_trip(case)?;
         self.tape_agrees(case, &carried)?;
         // The compiler may think that what is lent to be read stays as it is; look again.
@@ -255,9 +249,9 @@ impl Comparison<'_> {
     }
 
     /// One job on both sides: the same result and the same lent arrays at exit.
-    fn same(&mut self, job: Job, case: &Case, tape: &Tape) -> Result<Exit, String> {
-        let archive = exit_of(self.archive, job, case, tape);
-        let reference = exit_of(self.reference, job, case, tape);
+    fn same(&mut self, job: Job, exit_of: impl Fn(&dyn Jobs) -> Exit) -> Result<Exit, String> {
+        let archive = exit_of(self.archive);
+        let reference = exit_of(self.reference);
         if let Some(difference) = archive.difference(&reference) {
             return Err(format!("{job:?}: archive and reference differ in {difference}"));
         }
@@ -281,18 +275,15 @@ impl Comparison<'_> {
     /// out leaves, for every accepted sheet whose tape is short enough.
     fn tape_agrees(&mut self, case: &Case, carried: &Exit) -> Result<(), String> {
         let length = case.memory.len();
-        let archive = translate_exit(self.archive, &case.sheet, length, TAPE_ROOM);
-        let reference = translate_exit(self.reference, &case.sheet, length, TAPE_ROOM);
-        if let Some(difference) = archive.difference(&reference) {
-            return Err(format!("Translate: archive and reference differ in {difference}"));
-        }
-        self.coverage.answer(Job::Translate, &archive.answer, self.reference.cause());
-        if archive.returned != 0 {
+        let translated =
+            self.same(Job::Translate, |jobs| translate_exit(jobs, &case.sheet, length, TAPE_ROOM))?;
+        if translated.returned != 0 {
             return Ok(());
         }
-        let records = archive.records[0] as usize;
-        let tape = Tape { numbers: archive.tape()[..records * RECORD_NUMBERS].to_vec(), records };
-        let mut ran = self.same(Job::Run, case, &tape)?;
+        let records = translated.records[0] as usize;
+        let numbers = translated.tape()[..records * RECORD_NUMBERS].to_vec();
+        let tape = Tape { numbers, records };
+        let mut ran = self.same(Job::Run, |jobs| run_exit(jobs, case, &tape))?;
         ran.counts = carried.counts;
         if let Some(difference) = ran.difference(carried) {
             return Err(format!("the tape's run differs from carrying out in {difference}"));
