@@ -1,6 +1,6 @@
 //! The proved archive behind the C interface of `include/moonbleat.h`.
 
-use compare::jobs::{Answer, Jobs, State};
+use compare::jobs::{Answer, Jobs, State, VerdictRow};
 
 extern "C" {
     fn moonbleat_read(
@@ -57,9 +57,28 @@ extern "C" {
         elements: *mut u32,
         answer: *mut u32,
     ) -> u32;
+
+    fn moonbleat_trace(
+        sheet: *const u8,
+        sheet_len: usize,
+        memory_len: usize,
+        out: *mut u8,
+        out_len: usize,
+        answer: *mut u32,
+    ) -> u32;
+
+    fn moonbleat_replay(
+        sheet: *const u8,
+        sheet_len: usize,
+        memory_len: usize,
+        trace: *const u8,
+        trace_len: usize,
+        verdict: *mut u32,
+        answer: *mut u32,
+    ) -> u32;
 }
 
-/// The archive's six functions. They ask nothing of their arguments but that each pointer has
+/// The archive's eight functions. They ask nothing of their arguments but that each pointer has
 /// the length that is passed with it or that the header names, as references in Rust have.
 pub struct Archive;
 
@@ -148,6 +167,43 @@ impl Jobs for Archive {
                 memory.len(),
                 state.types.as_mut_ptr(),
                 state.elements.as_mut_ptr(),
+                answer.as_mut_ptr(),
+            )
+        }
+    }
+
+    fn trace(&self, sheet: &[u8], memory_len: usize, out: &mut [u8], answer: &mut Answer) -> u32 {
+        let (room, room_len) = (out.as_mut_ptr(), out.len());
+        // SAFETY: as above; the memory's length comes without a memory.
+        unsafe {
+            moonbleat_trace(
+                sheet.as_ptr(),
+                sheet.len(),
+                memory_len,
+                room,
+                room_len,
+                answer.as_mut_ptr(),
+            )
+        }
+    }
+
+    fn replay(
+        &self,
+        sheet: &[u8],
+        memory_len: usize,
+        trace: &[u8],
+        verdict: &mut VerdictRow,
+        answer: &mut Answer,
+    ) -> u32 {
+        // SAFETY: as above; the memory's length comes without a memory.
+        unsafe {
+            moonbleat_replay(
+                sheet.as_ptr(),
+                sheet.len(),
+                memory_len,
+                trace.as_ptr(),
+                trace.len(),
+                verdict.as_mut_ptr(),
                 answer.as_mut_ptr(),
             )
         }

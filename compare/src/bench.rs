@@ -3,9 +3,9 @@
 use std::hint::black_box;
 use std::time::{Duration, Instant};
 
-use crate::jobs::{Jobs, State};
+use crate::jobs::{Jobs, State, AGREES};
 use crate::reference::{
-    sheet_bytes, ClampMode, Clip, Combine, Dimension, Edition, Interpretation, Kind, Layout,
+    sheet_bytes, trace, ClampMode, Clip, Combine, Dimension, Edition, Interpretation, Kind, Layout,
     MemoryLayout, ReduceMode, Sheet, Step, VectorStep, View, ViewDimension, COMPONENTS_A_WORD,
     MEMORY_MAX, RECORDS_MAX, RECORD_NUMBERS,
 };
@@ -43,6 +43,8 @@ fn bench_sheet(name: &str, sheet: &[u8], archive: &dyn Jobs, reference: &dyn Job
         ("carry_out", Bench::carry_out),
         ("translate", Bench::translate),
         ("run_tape", Bench::run),
+        ("trace", Bench::trace),
+        ("replay", Bench::replay),
     ] {
         let [one, other] = bench.medians([archive, reference], call, samples);
         let ratio = one / other;
@@ -65,6 +67,9 @@ struct Bench {
     memory: Vec<u8>,
     room: Vec<i32>,
     tape: Vec<i32>,
+    /// A room that the trace fits.
+    trace_room: Vec<u8>,
+    trace: Vec<u8>,
     state: State,
     answer: [u32; 4],
 }
@@ -77,7 +82,17 @@ impl Bench {
         assert_eq!(answer[0], 0, "a sheet of the timings is refused");
         let tape = room[..records[0] as usize * RECORD_NUMBERS].to_vec();
         let memory = (0..MEMORY_MAX).map(|i| (i * 7 + i / 251) as u8).collect();
-        Bench { sheet: sheet.to_vec(), memory, room, tape, state: State::EMPTY, answer }
+        let trace = trace(sheet, MEMORY_MAX, usize::MAX).expect("accepted");
+        Bench {
+            sheet: sheet.to_vec(),
+            memory,
+            room,
+            tape,
+            trace_room: trace.clone(),
+            trace,
+            state: State::EMPTY,
+            answer,
+        }
     }
 
     fn read(&mut self, jobs: &dyn Jobs) {
@@ -98,6 +113,16 @@ impl Bench {
         let records = self.tape.len() / RECORD_NUMBERS;
         let memory = &mut self.memory;
         jobs.run(&self.sheet, &self.tape, records, memory, &mut self.state, &mut self.answer);
+    }
+
+    fn trace(&mut self, jobs: &dyn Jobs) {
+        jobs.trace(&self.sheet, MEMORY_MAX, &mut self.trace_room, &mut self.answer);
+    }
+
+    fn replay(&mut self, jobs: &dyn Jobs) {
+        let mut verdict = [0; 2];
+        jobs.replay(&self.sheet, MEMORY_MAX, &self.trace, &mut verdict, &mut self.answer);
+        assert_eq!(verdict, AGREES, "a trace of the timings differs");
     }
 
     /// The median time of a call of each side, in seconds; the sides take turns.
@@ -143,7 +168,7 @@ fn median(mut times: Vec<f64>) -> f64 {
 }
 
 /// The sheets of the timings, each of 32 steps.
-fn named_sheets() -> Vec<(&'static str, Vec<u8>)> {
+pub fn named_sheets() -> Vec<(&'static str, Vec<u8>)> {
     [
         ("plain 16 by 16 loads", plain_loads(16)),
         ("padded loads", padded_loads()),
@@ -298,8 +323,12 @@ mod tests {
 
     #[test]
     fn the_sheets_of_the_timings_are_accepted() {
-        for (_, sheet) in named_sheets() {
-            Bench::new(&sheet, &Reference::default()).run(&Reference::default());
+        for (name, sheet) in named_sheets() {
+            let mut bench = Bench::new(&sheet, &Reference::default());
+            for call in [Bench::run, Bench::trace, Bench::replay] {
+                call(&mut bench, &Reference::default());
+                assert_eq!(bench.answer[0], 0, "{name}");
+            }
         }
     }
 }

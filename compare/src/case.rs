@@ -1,14 +1,18 @@
-//! One case: a sheet, a memory, rooms and tapes; and the comparison of every job on it.
+//! One case: a sheet, a memory, rooms, tapes and traces; and the comparison of every job on it.
 
 use std::hint::black_box;
 
 use crate::coverage::Coverage;
 use crate::damage::{damage, noise};
 use crate::generate::{generate, many_records};
-use crate::jobs::{Answer, Jobs, Reference, State};
+use crate::jobs::{Answer, Jobs, Reference, State, VerdictRow, AGREES};
 use crate::random::Random;
-use crate::reference::{read_sheet, translate, Edition, MEMORY_MAX, RECORDS_MAX, RECORD_NUMBERS};
+use crate::reference::{
+    check, entries, read_sheet, translate, Edition, ACCESS_LENGTH, MEMORY_MAX, RECORDS_MAX,
+    RECORD_NUMBERS,
+};
 use crate::tapes::{damage_tape, random_tape, Tape};
+use crate::traces::{accesses, traces};
 
 /// The room that holds every tape, in numbers.
 const TAPE_ROOM: usize = RECORDS_MAX * RECORD_NUMBERS;
@@ -24,13 +28,16 @@ const CASES_AN_EDITION: u64 = 1 << 48;
 pub struct Case {
     pub sheet: Vec<u8>,
     pub memory: Vec<u8>,
-    /// What checking and translating are told: the memory's length, or one that no memory has.
+    /// What the jobs that get no memory are told: the memory's length, or one that no memory has.
     pub told_len: usize,
     /// The room for a written sheet, in bytes.
     pub sheet_room: usize,
     /// The room for a tape, in numbers.
     pub tape_room: usize,
+    /// The room for a trace, in bytes.
+    pub trace_room: usize,
     pub tapes: Vec<Tape>,
+    pub traces: Vec<Vec<u8>>,
 }
 
 impl Case {
@@ -50,6 +57,16 @@ impl Case {
             }
             _ => (noise(random, edition), random.below(100)),
         };
+        Case::of_sheet(random, edition, sheet, memory_len)
+    }
+
+    /// A case of a sheet that was made for an edition and a memory of some length.
+    pub fn of_sheet(
+        random: &mut Random,
+        edition: Edition,
+        sheet: Vec<u8>,
+        memory_len: usize,
+    ) -> Case {
         let mut memory = vec![0; memory_len];
         random.fill(&mut memory);
         let told_len = match random.below(100) {
@@ -58,10 +75,15 @@ impl Case {
         };
         let records = translate(&sheet, told_len, TAPE_ROOM).map(|translated| translated.records);
         let tape = Tape::of(&records.unwrap_or_default());
+        let own = accesses(&sheet, told_len);
+        // Traces take no numbers that sheets would get.
+        let of_traces = &mut random.split();
         Case {
-            sheet_room: sheet_room(random, sheet.len()),
+            sheet_room: byte_room(random, sheet.len()),
             tape_room: tape_room(random, tape.numbers.len()),
+            trace_room: byte_room(of_traces, ACCESS_LENGTH * own.len()),
             tapes: tapes(random, &sheet, &tape, memory_len),
+            traces: traces(of_traces, &own, told_len, edition),
             sheet,
             memory,
             told_len,
@@ -74,7 +96,8 @@ fn first_case(edition: Edition) -> u64 {
     u64::from(edition.number() - 1) * CASES_AN_EDITION
 }
 
-fn sheet_room(random: &mut Random, length: usize) -> usize {
+/// The room for a sheet or a trace of some length.
+fn byte_room(random: &mut Random, length: usize) -> usize {
     match random.below(5) {
         0 => length.saturating_sub(1),
         1 => random.below(length + 1),
@@ -111,6 +134,8 @@ pub enum Job {
     CarryOut,
     Translate,
     Run,
+    Trace,
+    Replay,
 }
 
 /// Everything that a call was lent and may have changed, as it is afterwards, and its result.
@@ -120,8 +145,9 @@ struct Exit {
     answer: Answer,
     counts: [u32; 3],
     records: [u32; 1],
+    verdict: VerdictRow,
     state: State,
-    /// A memory or the room of a written sheet, between guards.
+    /// A memory or the room of a written sheet or trace, between guards.
     bytes: Vec<u8>,
     /// The room of a tape, between guards.
     tape: Vec<i32>,
@@ -136,6 +162,7 @@ impl Exit {
             answer: [GARBAGE_WORD; 4],
             counts: [GARBAGE_WORD; 3],
             records: [GARBAGE_WORD],
+            verdict: [GARBAGE_WORD; 2],
             state: State { types: [GARBAGE; 16], elements: [GARBAGE_WORD; 1024] },
             bytes: [&guard, bytes, &guard].concat(),
             tape: vec![GARBAGE_WORD as i32; tape_room + 2 * GUARD],
@@ -154,9 +181,9 @@ impl Exit {
     fn difference(&self, other: &Exit) -> Option<String> {
         let numbers = |exit: &Exit| {
             let row = [exit.returned, exit.records[0]];
-            [&row[..], &exit.answer, &exit.counts].concat()
+            [&row[..], &exit.answer, &exit.counts, &exit.verdict].concat()
         };
-        differing("returned, records, answer, counts", &numbers(self), &numbers(other))
+        differing("returned, records, answer, counts, verdict", &numbers(self), &numbers(other))
             .or_else(|| differing("types", &self.state.types, &other.state.types))
             .or_else(|| differing("elements", &self.state.elements, &other.state.elements))
             .or_else(|| differing("lent bytes", &self.bytes, &other.bytes))
@@ -218,6 +245,20 @@ fn translate_exit(jobs: &dyn Jobs, sheet: &[u8], memory_len: usize, room: usize)
     exit
 }
 
+fn trace_exit(jobs: &dyn Jobs, case: &Case, room: usize) -> Exit {
+    let mut exit = Exit::lent(&vec![GARBAGE; room], 0);
+    let out = &mut exit.bytes[GUARD..GUARD + room];
+    exit.returned = jobs.trace(&case.sheet, case.told_len, out, &mut exit.answer);
+    exit
+}
+
+fn replay_exit(jobs: &dyn Jobs, case: &Case, trace: &[u8]) -> Exit {
+    let mut exit = Exit::lent(&[], 0);
+    let Exit { verdict, answer, .. } = &mut exit;
+    exit.returned = jobs.replay(&case.sheet, case.told_len, trace, verdict, answer);
+    exit
+}
+
 /// The two sides of a comparison and what it has met.
 pub struct Comparison<'a> {
     pub archive: &'a dyn Jobs,
@@ -228,7 +269,7 @@ pub struct Comparison<'a> {
 impl Comparison<'_> {
     /// Compares every job on a case, then the promises that tie the jobs together.
     pub fn compare(&mut self, case: &Case) -> Result<(), String> {
-        let inputs = (case.sheet.clone(), case.tapes.clone());
+        let inputs = (case.sheet.clone(), case.tapes.clone(), case.traces.clone());
         let Case { sheet, told_len, .. } = case;
         self.same(Job::Read, |jobs| read_exit(jobs, case))?;
         self.same(Job::Rewrite, |jobs| rewrite_exit(jobs, sheet, case.sheet_room))?;
@@ -237,12 +278,17 @@ impl Comparison<'_> {
         for tape in &case.tapes {
             self.same(Job::Run, |jobs| run_exit(jobs, case, tape))?;
         }
+        for trace in &case.traces {
+            self.same(Job::Replay, |jobs| replay_exit(jobs, case, trace))?;
+        }
         let carried = self.same(Job::CarryOut, |jobs| carry_out_exit(jobs, case))?;
         self.round_trip(case)?;
         self.tape_agrees(case, &carried)?;
+        self.trace_agrees(case)?;
         // The compiler may think that what is lent to be read stays as it is; look again.
-        if (&black_box(case).sheet, &case.tapes) != (&inputs.0, &inputs.1) {
-            return Err(String::from("a sheet or a tape that was lent to be read was changed"));
+        let Case { sheet, tapes, traces, .. } = black_box(case);
+        if (sheet, tapes, traces) != (&inputs.0, &inputs.1, &inputs.2) {
+            return Err(String::from("what was lent to be read was changed"));
         }
         self.coverage.sheet(&case.sheet, &case.memory);
         Ok(())
@@ -289,6 +335,25 @@ impl Comparison<'_> {
             return Err(format!("the tape's run differs from carrying out in {difference}"));
         }
         self.coverage.tape(&case.sheet, &tape);
+        Ok(())
+    }
+
+    /// The trace that is written for an accepted sheet agrees with it in a replay.
+    fn trace_agrees(&mut self, case: &Case) -> Result<(), String> {
+        self.same(Job::Trace, |jobs| trace_exit(jobs, case, case.trace_room))?;
+        let own = check(&case.sheet, case.told_len).map(|checked| entries(&checked));
+        for trace in &case.traces {
+            self.coverage.replay(&own, case.told_len, trace);
+        }
+        let Ok(accesses) = &own else { return Ok(()) };
+        let length = ACCESS_LENGTH * accesses.len();
+        self.coverage.trace_room(length, case.trace_room);
+        let traced = self.same(Job::Trace, |jobs| trace_exit(jobs, case, length))?;
+        let replayed = self.same(Job::Replay, |jobs| replay_exit(jobs, case, traced.bytes()))?;
+        if replayed.verdict != AGREES {
+            return Err(format!("a sheet's own trace differs: {:?}", replayed.verdict));
+        }
+        self.coverage.replay(&own, case.told_len, traced.bytes());
         Ok(())
     }
 }

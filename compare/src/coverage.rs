@@ -6,11 +6,11 @@ use std::collections::{BTreeMap, BTreeSet};
 use crate::case::Job;
 use crate::jobs::Answer;
 use crate::reference::{
-    check, do_step, read_sheet, Cause, Checked, Edition, Outcome, Refusal, Registers, Sheet, Step,
-    RECORD_NUMBERS, WHOLE_STEP,
+    check, do_step, read_sheet, Cause, Checked, Edition, Entry, Outcome, Refusal, Registers, Sheet,
+    Step, RECORD_NUMBERS, WHOLE_STEP,
 };
 use crate::tapes::Tape;
-use crate::vector_sights;
+use crate::{trace_sights, vector_sights};
 
 /// How many different places a refusal is to be met at, where it has more than one.
 const PLACES: usize = 3;
@@ -18,8 +18,16 @@ const PLACES: usize = 3;
 const PLACES_KEPT: usize = 1_000;
 /// One in so many sheets is to have a vector step, where the edition has such steps.
 const VECTORS_ONE_IN: u64 = 3;
-const JOBS: [Job; 6] =
-    [Job::Read, Job::Rewrite, Job::Check, Job::CarryOut, Job::Translate, Job::Run];
+const JOBS: [Job; 8] = [
+    Job::Read,
+    Job::Rewrite,
+    Job::Check,
+    Job::CarryOut,
+    Job::Translate,
+    Job::Run,
+    Job::Trace,
+    Job::Replay,
+];
 
 /// Counts of answers, causes and outcomes of the sheets that were made for an edition.
 #[derive(Default)]
@@ -46,6 +54,8 @@ fn numbers(job: Job) -> Vec<u32> {
         Job::Check | Job::CarryOut => (0..=15).chain([18]).collect(),
         Job::Translate => (0..=16).chain([18]).collect(),
         Job::Run => (0..=6).chain([17, 18]).collect(),
+        Job::Trace => (0..=15).chain([18, 19]).collect(),
+        Job::Replay => (0..=15).chain([18, 26]).collect(),
     }
 }
 
@@ -195,6 +205,20 @@ impl Coverage {
         }
     }
 
+    /// Notes the replay of a trace against a sheet, which has some accesses or is refused.
+    pub fn replay(&mut self, sheet: &Result<Vec<Entry>, Refusal>, memory_len: usize, trace: &[u8]) {
+        for sight in trace_sights::of_replay(sheet, memory_len, trace) {
+            self.sight(sight);
+        }
+    }
+
+    /// Notes the trace of an accepted sheet and the room for it, in bytes.
+    pub fn trace_room(&mut self, length: usize, room: usize) {
+        if let Some(sight) = trace_sights::of_room(length, room) {
+            self.sight(String::from(sight));
+        }
+    }
+
     fn sight(&mut self, sight: String) {
         *self.sights.entry(sight).or_default() += 1;
     }
@@ -236,11 +260,13 @@ impl Coverage {
             let (some, all) = (self.sheets_with_vectors, self.sheets);
             table += &format!("{some} of {all} sheets have vector steps\n");
         }
+        table += &self.replays();
         table += &format!("{:<8}", "number");
         for job in JOBS {
             table += &format!("{:>20}", format!("{job:?} (places)"));
         }
-        for number in 0..=19 {
+        let numbers: BTreeSet<u32> = JOBS.into_iter().flat_map(numbers).collect();
+        for number in numbers {
             table += &format!("\n{number:<8}");
             for job in JOBS {
                 let cell = match self.answers.get(&(job, number)) {
@@ -252,11 +278,24 @@ impl Coverage {
         }
         table
     }
+
+    /// What became of the replays.
+    fn replays(&self) -> String {
+        let replays = self.answers.iter().filter(|((job, _), _)| *job == Job::Replay);
+        let all: u64 = replays.map(|(_, answers)| answers.count).sum();
+        let accepted = self.answers.get(&(Job::Replay, 0)).map_or(0, |answers| answers.count);
+        let agree = self.sights.get(trace_sights::AGREES).copied().unwrap_or(0);
+        let (differ, refused) = (accepted - agree, all - accepted);
+        format!("{all} replays: {agree} agree, {differ} differ, {refused} are refused\n")
+    }
 }
 
 /// Everything that sheets of an edition are to be seen doing.
 fn sights(edition: Edition) -> Vec<String> {
-    let mut sights = if edition.has_vectors() { vector_sights::every() } else { Vec::new() };
+    let mut sights = trace_sights::every();
+    if edition.has_vectors() {
+        sights.extend(vector_sights::every());
+    }
     for sort in ["load skipped", "load filled", "load placed"] {
         sights.push(String::from(sort));
     }

@@ -146,9 +146,9 @@ fn field(random: &mut Random, sheet: &[u8], fields: &[Field], edition: Edition) 
 }
 
 /// A field from its head to its end.
-type Field = (usize, usize);
+pub type Field = (usize, usize);
 
-/// The fields of a sheet, as far as they are whole.
+/// The fields of a sheet or a trace, as far as they are whole.
 pub fn fields(sheet: &[u8]) -> Vec<Field> {
     let mut fields = Vec::new();
     let mut start = 0;
@@ -165,7 +165,12 @@ pub fn fields(sheet: &[u8]) -> Vec<Field> {
 
 /// Another length, most often one that some tag has or nearly has; now and then with as much
 /// content.
-fn change_length(random: &mut Random, sheet: &mut Vec<u8>, (start, end): Field, lengths: &[u16]) {
+pub fn change_length(
+    random: &mut Random,
+    sheet: &mut Vec<u8>,
+    (start, end): Field,
+    lengths: &[u16],
+) {
     let length = if random.percent(90) { random.pick(lengths) } else { random.bits() as u16 };
     sheet[start + 1..start + 3].copy_from_slice(&length.to_le_bytes());
     if random.percent(50) {

@@ -2,11 +2,13 @@
 
 use crate::case::{Case, Comparison};
 use crate::coverage::Coverage;
-use crate::jobs::{Answer, Jobs, Reference, State};
+use crate::jobs::{verdict_row, Answer, Jobs, Reference, State, VerdictRow, AGREES};
 use crate::reference::{
-    check, do_step, read_sheet, Cause, Edition, Interpretation, Kind, Matrix, MemoryLayout,
-    Registers, Step, VectorStep, BIAS_SIZE,
+    check, check_step, do_step, entries, read_sheet, read_trace, trace_bytes, verdict, Cause,
+    Checked, Edition, Entry, Interpretation, Kind, Matrix, MemoryLayout, Registers, Step, Types,
+    VectorStep, ACCESS_LENGTH, BIAS_SIZE, PLACED,
 };
+use crate::traces::{mended, BYTE, SORT};
 
 /// So many cases find each fault out.
 const CASES: u64 = 400;
@@ -29,6 +31,21 @@ enum Fault {
     UnpacksTheHighestFirst,
     AddsTheNextBias,
     SaturatesSums,
+    CountsAccessesFrom1,
+    AgreesWithAnExtraAccess,
+    AgreesWithMissingAccesses,
+    TakesAByteOfAnySort,
+    TakesAnElementTwice,
+    OverlooksBytes,
+    RefusesABytePastMemory,
+    EndsAtTheFirstDifference,
+    JudgesOrderBeforeNumbers,
+    JudgesTheTraceFirst,
+    LoadsByTheRegistersSize,
+    CountsByteElements,
+    KeepsTheVerdictOfRefused,
+    WritesPastTheTrace,
+    WritesWhatFits,
 }
 
 const FAULTS: [Fault; 8] = [
@@ -51,6 +68,25 @@ const VECTOR_FAULTS: [Fault; 7] = [
     Fault::UnpacksTheHighestFirst,
     Fault::AddsTheNextBias,
     Fault::SaturatesSums,
+];
+
+/// Faults that take traces to show.
+const TRACE_FAULTS: [Fault; 15] = [
+    Fault::CountsAccessesFrom1,
+    Fault::AgreesWithAnExtraAccess,
+    Fault::AgreesWithMissingAccesses,
+    Fault::TakesAByteOfAnySort,
+    Fault::TakesAnElementTwice,
+    Fault::OverlooksBytes,
+    Fault::RefusesABytePastMemory,
+    Fault::EndsAtTheFirstDifference,
+    Fault::JudgesOrderBeforeNumbers,
+    Fault::JudgesTheTraceFirst,
+    Fault::LoadsByTheRegistersSize,
+    Fault::CountsByteElements,
+    Fault::KeepsTheVerdictOfRefused,
+    Fault::WritesPastTheTrace,
+    Fault::WritesWhatFits,
 ];
 
 /// The reference with a fault.
@@ -146,6 +182,143 @@ impl Jobs for Faulty {
         }
         self.reference.run(sheet, tape, records, memory, state, answer)
     }
+
+    fn trace(&self, sheet: &[u8], memory_len: usize, out: &mut [u8], answer: &mut Answer) -> u32 {
+        let number = self.reference.trace(sheet, memory_len, out, answer);
+        match self.fault {
+            Fault::WritesPastTheTrace if number == 0 => out[answer[3] as usize..].fill(0),
+            Fault::WritesWhatFits if number == 19 => {
+                let checked = check(sheet, memory_len).expect("refused for its room");
+                let bytes = trace_bytes(&entries(&checked));
+                out.copy_from_slice(&bytes[..out.len()]);
+            }
+            _ => {}
+        }
+        number
+    }
+
+    fn replay(
+        &self,
+        sheet: &[u8],
+        memory_len: usize,
+        trace: &[u8],
+        verdict: &mut VerdictRow,
+        answer: &mut Answer,
+    ) -> u32 {
+        let trace = &trace_with(self.fault, trace);
+        let number = self.reference.replay(sheet, memory_len, trace, verdict, answer);
+        match (self.fault, check(sheet, memory_len)) {
+            (_, Ok(checked)) => self.replay_checked(&checked, memory_len, trace, verdict, answer),
+            (Fault::JudgesTheTraceFirst, Err(_)) => {
+                if let Err(refusal) = read_trace(trace) {
+                    *answer = [refusal.cause.number(), refusal.place[0], 0, 0];
+                }
+            }
+            _ => {}
+        }
+        if matches!(self.fault, Fault::KeepsTheVerdictOfRefused) && number != 0 {
+            *verdict = AGREES;
+        }
+        answer[0]
+    }
+}
+
+impl Faulty {
+    /// Puts the fault into the replay of an accepted sheet.
+    fn replay_checked(
+        &self,
+        checked: &Checked,
+        memory_len: usize,
+        trace: &[u8],
+        row: &mut VerdictRow,
+        answer: &mut Answer,
+    ) {
+        let own = entries(checked);
+        let Ok(traced) = read_trace(trace) else {
+            return self.replay_refused(&own, trace, row, answer);
+        };
+        match self.fault {
+            Fault::CountsAccessesFrom1 if *row != AGREES => row[1] += 1,
+            Fault::AgreesWithAnExtraAccess if traced.starts_with(&own) => *row = AGREES,
+            Fault::AgreesWithMissingAccesses if own.starts_with(&traced) => *row = AGREES,
+            Fault::OverlooksBytes => {
+                *row = verdict_row(verdict(&without_bytes(&own), &without_bytes(&traced)));
+            }
+            Fault::RefusesABytePastMemory => {
+                let past = |entry: &Entry| entry.byte as usize >= memory_len.max(1);
+                if let Some(index) = traced.iter().position(past) {
+                    *row = [0, 0];
+                    *answer = [5, (ACCESS_LENGTH * index) as u32, 0, 0];
+                }
+            }
+            Fault::LoadsByTheRegistersSize => {
+                *row = verdict_row(verdict(&by_the_registers_size(checked, memory_len), &traced));
+            }
+            Fault::CountsByteElements => answer[3] = checked.byte_elements(),
+            _ => {}
+        }
+    }
+
+    /// Puts the fault into the replay of a trace that is refused at a field.
+    fn replay_refused(
+        &self,
+        own: &[Entry],
+        trace: &[u8],
+        row: &mut VerdictRow,
+        answer: &mut Answer,
+    ) {
+        let before = read_trace(&trace[..answer[1] as usize]).expect("refused later");
+        match self.fault {
+            Fault::EndsAtTheFirstDifference if !own.starts_with(&before) => {
+                *row = verdict_row(verdict(own, &before));
+                *answer = [0, 0, 0, own.len() as u32];
+            }
+            Fault::JudgesOrderBeforeNumbers if answer[0] == 5 => {
+                let (before, rest) = trace.split_at(answer[1] as usize);
+                let field = mended(answer[0], rest).expect("a whole field");
+                if let Err(refusal) = read_trace(&[before, &field].concat()) {
+                    answer[0] = refusal.cause.number();
+                }
+            }
+            _ => {}
+        }
+    }
+}
+
+/// What an implementation makes of a trace that overlooks some of its refusals.
+fn trace_with(fault: Fault, trace: &[u8]) -> Vec<u8> {
+    let mut fields: Vec<Vec<u8>> = trace.chunks(ACCESS_LENGTH).map(<[u8]>::to_vec).collect();
+    match fault {
+        Fault::TakesAByteOfAnySort => {
+            for field in fields.iter_mut().filter(|field| field.len() == ACCESS_LENGTH) {
+                if field[SORT] < PLACED {
+                    field[BYTE..].fill(0);
+                }
+            }
+        }
+        Fault::TakesAnElementTwice => {
+            fields.dedup_by_key(|field| field.get(..SORT).map(<[u8]>::to_vec));
+        }
+        _ => {}
+    }
+    fields.concat()
+}
+
+fn without_bytes(entries: &[Entry]) -> Vec<Entry> {
+    entries.iter().map(|&entry| Entry { byte: 0, ..entry }).collect()
+}
+
+/// The accesses, but those of a load as many as its own register had elements at most.
+fn by_the_registers_size(checked: &Checked, memory_len: usize) -> Vec<Entry> {
+    let mut types = Types::default();
+    let mut outcomes = checked.outcomes.clone();
+    for (step, outcomes) in checked.sheet.steps.iter().zip(&mut outcomes) {
+        if let (Step::Load { .. }, Some(type_)) = (step, types[step.register()]) {
+            outcomes.truncate(type_.elements());
+        }
+        check_step(&checked.sheet, step, &mut types, memory_len).expect("accepted");
+    }
+    entries(&Checked { sheet: checked.sheet.clone(), outcomes })
 }
 
 const EDITION_1: [u8; 4] = [1, 1, 0, 1];
@@ -225,6 +398,11 @@ fn each_fault_is_found_out() {
     }
     for fault in VECTOR_FAULTS {
         assert!(found_out(&faulty(fault), Edition::Two), "{fault:?}");
+    }
+    for fault in TRACE_FAULTS {
+        for edition in Edition::ALL {
+            assert!(found_out(&faulty(fault), edition), "{fault:?}");
+        }
     }
     for edition in Edition::ALL {
         assert!(!found_out(&Reference::default(), edition));

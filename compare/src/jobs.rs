@@ -2,10 +2,24 @@
 
 use std::cell::Cell;
 
-use crate::reference::{self, Carried, Cause, Refusal, Registers, RECORD_NUMBERS};
+use crate::reference::{self, Carried, Cause, Refusal, Registers, Verdict, RECORD_NUMBERS};
 
-/// The row of four: number, place, second place, byte-elements (of a rewrite: bytes).
+/// The row of four: number, place, second place, byte-elements (of a rewrite and a trace: bytes;
+/// of a replay: accesses).
 pub type Answer = [u32; 4];
+
+/// A replay's verdict: 1 and 0, or 0 and the index of the first difference.
+pub type VerdictRow = [u32; 2];
+/// The verdict on a trace that agrees.
+pub const AGREES: VerdictRow = [1, 0];
+
+/// A verdict handed over.
+pub fn verdict_row(verdict: Verdict) -> VerdictRow {
+    match verdict {
+        Verdict::Agrees => AGREES,
+        Verdict::Differs(index) => [0, index as u32],
+    }
+}
 
 /// The registers as the C interface hands them over: four bytes a register (kind, rows, columns,
 /// 0), and 256 places a register for elements. An empty register has zeros.
@@ -35,7 +49,7 @@ impl State {
     }
 }
 
-/// The six functions of `include/moonbleat.h`: each returns the refusal's number.
+/// The eight functions of `include/moonbleat.h`: each returns the refusal's number.
 pub trait Jobs {
     fn read(&self, sheet: &[u8], counts: &mut [u32; 3], answer: &mut Answer) -> u32;
 
@@ -67,6 +81,17 @@ pub trait Jobs {
         records: usize,
         memory: &mut [u8],
         state: &mut State,
+        answer: &mut Answer,
+    ) -> u32;
+
+    fn trace(&self, sheet: &[u8], memory_len: usize, out: &mut [u8], answer: &mut Answer) -> u32;
+
+    fn replay(
+        &self,
+        sheet: &[u8],
+        memory_len: usize,
+        trace: &[u8],
+        verdict: &mut VerdictRow,
         answer: &mut Answer,
     ) -> u32;
 }
@@ -167,5 +192,26 @@ impl Jobs for Reference {
         answer: &mut Answer,
     ) -> u32 {
         self.finish_carried(state, answer, reference::run_tape(sheet, tape, records, memory))
+    }
+
+    fn trace(&self, sheet: &[u8], memory_len: usize, out: &mut [u8], answer: &mut Answer) -> u32 {
+        let traced = reference::trace(sheet, memory_len, out.len());
+        if let Ok(bytes) = &traced {
+            out[..bytes.len()].copy_from_slice(bytes);
+        }
+        self.finish(answer, traced.map(|bytes| bytes.len() as u32))
+    }
+
+    fn replay(
+        &self,
+        sheet: &[u8],
+        memory_len: usize,
+        trace: &[u8],
+        verdict: &mut VerdictRow,
+        answer: &mut Answer,
+    ) -> u32 {
+        let replayed = reference::replay(sheet, memory_len, trace);
+        *verdict = replayed.as_ref().map_or([0; 2], |replayed| verdict_row(replayed.verdict));
+        self.finish(answer, replayed.map(|replayed| replayed.accesses))
     }
 }

@@ -13,4 +13,6 @@ pub mod reference;
 pub mod shrink;
 pub mod strips;
 pub mod tapes;
+mod trace_sights;
+mod traces;
 mod vector_sights;

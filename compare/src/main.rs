@@ -8,20 +8,21 @@ use std::process::ExitCode;
 use std::time::Instant;
 
 use archive::Archive;
-use compare::bench::bench;
+use compare::bench::{bench, named_sheets};
 use compare::case::{Case, Comparison};
 use compare::coverage::Coverage;
 use compare::jobs::Reference;
-use compare::reference::Edition;
+use compare::random::Random;
+use compare::reference::{Edition, MEMORY_MAX};
 use compare::shrink::shrink;
 use compare::strips::check_strips;
 
 const HELP: &str = "\
 compare [--sheets N] [--seed S] [--edition E] [--case K] [--trace]
-    Compare every public job of the archive with the reference on N random sheets (20000) of
-    each edition. The same seed gives the same sheets. --edition E takes only the sheets of
-    edition E, --case K only sheet K, --trace prints the number of each sheet before it is
-    tried.
+    Compare every public job of the archive with the reference on the sheets of the timings and
+    on N random sheets (20000) of each edition. The same seed gives the same sheets. --edition E
+    takes only the random sheets of edition E, --case K only sheet K of them, --trace prints the
+    number of each before it is tried.
 compare bench [--samples N]
     Time both sides on named sheets, N samples each (51).
 compare dump FOLDER [--sheets N] [--seed S] [--edition E]
@@ -31,6 +32,8 @@ compare dump FOLDER [--sheets N] [--seed S] [--edition E]
 /// From this many sheets of an edition on, every refusal and every outcome must have been met.
 const SHEETS_FOR_COVERAGE: u64 = 20_000;
 const SEED: u64 = 1;
+/// Each sheet of the timings is compared so often, with other traces each time.
+const TIMES_TIMED: u64 = 20;
 
 struct Options {
     help: bool,
@@ -126,15 +129,37 @@ fn dump(options: &Options, folder: &Path) -> Result<(), String> {
     Ok(())
 }
 
-/// The strips, then the random cases of each edition.
+/// The strips, the sheets of the timings, then the random cases of each edition.
 fn compare_all(options: &Options) -> Result<(), String> {
     let start = Instant::now();
     let strips = check_strips(&Archive)?;
     println!("{strips} strips agree with the scope");
+    if options.case.is_none() {
+        compare_timed(options.seed)?;
+    }
     for &edition in &options.editions {
         compare_edition(options, edition)?;
     }
     println!("{:.1} seconds", start.elapsed().as_secs_f64());
+    Ok(())
+}
+
+/// The sheets of the timings, some of which have the longest traces.
+fn compare_timed(seed: u64) -> Result<(), String> {
+    let edition = Edition::Two;
+    let reference = Reference::default();
+    let coverage = Coverage::new(edition);
+    let mut comparison = Comparison { archive: &Archive, reference: &reference, coverage };
+    let sheets = named_sheets();
+    for (name, sheet) in &sheets {
+        for number in 0..TIMES_TIMED {
+            let random = &mut Random::of_case(seed, number);
+            let case = Case::of_sheet(random, edition, sheet.clone(), MEMORY_MAX);
+            compare_case(&mut comparison, case)
+                .map_err(|what| format!("seed {seed}, {name} of the timings: {what}"))?;
+        }
+    }
+    println!("{} sheets of the timings agree", sheets.len());
     Ok(())
 }
 
@@ -155,10 +180,8 @@ fn compare_edition(options: &Options, edition: Edition) -> Result<(), String> {
             println!("sheet {number}");
         }
         let case = Case::of_seed(edition, options.seed, number);
-        if let Err(what) = comparison.compare(&case) {
-            let report = report(&mut comparison, case, &what);
-            return Err(format!("{of_edition}, sheet {number}: {report}"));
-        }
+        compare_case(&mut comparison, case)
+            .map_err(|what| format!("{of_edition}, sheet {number}: {what}"))?;
     }
     println!("{}", comparison.coverage.table());
     if count >= SHEETS_FOR_COVERAGE {
@@ -172,9 +195,10 @@ fn compare_edition(options: &Options, edition: Edition) -> Result<(), String> {
     Ok(())
 }
 
-/// Shrinks a failing case and says all about it.
-fn report(comparison: &mut Comparison, case: Case, what: &str) -> String {
+/// Compares every job on a case. One that fails is shrunk, and all is said about it.
+fn compare_case(comparison: &mut Comparison, case: Case) -> Result<(), String> {
+    let Err(what) = comparison.compare(&case) else { return Ok(()) };
     let small = shrink(case, &mut |case| comparison.compare(case).is_err());
     let of_small = comparison.compare(&small).expect_err("it fails still");
-    format!("{what}\nshrunk: {of_small}\n{small}")
+    Err(format!("{what}\nshrunk: {of_small}\n{small}"))
 }

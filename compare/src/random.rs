@@ -13,6 +13,13 @@ impl Random {
         random
     }
 
+    /// A generator of its own, which takes no numbers from this one.
+    pub fn split(&self) -> Random {
+        let mut random = Random { state: !self.state };
+        random.state = random.bits();
+        random
+    }
+
     /// The next 64 bits.
     pub fn bits(&mut self) -> u64 {
         self.state = self.state.wrapping_add(0x9E37_79B9_7F4A_7C15);

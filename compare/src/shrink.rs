@@ -43,6 +43,9 @@ fn candidates(case: &Case) -> Vec<Case> {
     for tape in 0..case.tapes.len() {
         add(&|case| drop(case.tapes.remove(tape)));
     }
+    for trace in 0..case.traces.len() {
+        add(&|case| drop(case.traces.remove(trace)));
+    }
     for length in shorter(case.memory.len()) {
         add(&|case| {
             case.memory.truncate(length);
@@ -66,10 +69,19 @@ fn candidates(case: &Case) -> Vec<Case> {
             add(&|case| case.tapes[tape] = smaller.clone());
         });
     }
+    // One trace fails alone, so the others are gone before.
+    if let [trace] = &case.traces[..] {
+        add_smaller_traces(trace, &mut |smaller| {
+            add(&|case| case.traces = vec![smaller.clone()]);
+        });
+    }
     for (at, &byte) in case.sheet.iter().enumerate() {
         for smaller in smaller_bytes(byte) {
             add(&|case| case.sheet[at] = smaller);
         }
+    }
+    for room in shorter(case.trace_room) {
+        add(&|case| case.trace_room = room);
     }
     add_plain_rooms(case, &mut candidates);
     candidates
@@ -173,6 +185,27 @@ fn add_smaller_tapes(tape: &Tape, add: &mut dyn FnMut(Tape)) {
     }
 }
 
+/// Fields cut off at the end, a field left out, or a byte of the first fields smaller.
+fn add_smaller_traces(trace: &[u8], add: &mut dyn FnMut(Vec<u8>)) {
+    let fields = fields(trace);
+    for count in shorter(fields.len()) {
+        add(trace[..fields[count].0].to_vec());
+    }
+    for length in shorter(trace.len()) {
+        add(trace[..length].to_vec());
+    }
+    for &(start, end) in fields.iter().take(100) {
+        add([&trace[..start], &trace[end..]].concat());
+    }
+    for (at, &byte) in trace.iter().enumerate().take(120) {
+        for smaller in smaller_bytes(byte) {
+            let mut trace = trace.to_vec();
+            trace[at] = smaller;
+            add(trace);
+        }
+    }
+}
+
 impl fmt::Display for Case {
     fn fmt(&self, f: &mut fmt::Formatter) -> fmt::Result {
         writeln!(f, "sheet, {} bytes:", self.sheet.len())?;
@@ -182,8 +215,9 @@ impl fmt::Display for Case {
         } else {
             writeln!(f, "memory, {} bytes: {}", self.memory.len(), hex(&self.memory))?;
         }
-        writeln!(f, "memory length told to check and translate: {}", self.told_len)?;
+        writeln!(f, "memory length told where there is no memory: {}", self.told_len)?;
         writeln!(f, "room for a sheet: {} bytes", self.sheet_room)?;
+        writeln!(f, "room for a trace: {} bytes", self.trace_room)?;
         write!(f, "room for a tape: {} numbers", self.tape_room)?;
         for tape in &self.tapes {
             write!(f, "\ntape, {} records of {} numbers:", tape.records, tape.numbers.len())?;
@@ -192,19 +226,23 @@ impl fmt::Display for Case {
                 write!(f, "\n  {}", numbers.join(" "))?;
             }
         }
+        for trace in &self.traces {
+            writeln!(f, "\ntrace, {} bytes:", trace.len())?;
+            write_fields(f, trace)?;
+        }
         Ok(())
     }
 }
 
-/// Writes a sheet as a hex file has it, a field a line.
-fn write_fields(f: &mut fmt::Formatter, sheet: &[u8]) -> fmt::Result {
-    let fields = fields(sheet);
+/// Writes a sheet or a trace as a hex file has it, a field a line.
+fn write_fields(f: &mut fmt::Formatter, bytes: &[u8]) -> fmt::Result {
+    let fields = fields(bytes);
     for &(start, end) in &fields {
-        writeln!(f, "  {}  # {}", hex(&sheet[start..end]), name_of_tag(sheet[start]))?;
+        writeln!(f, "  {}  # {}", hex(&bytes[start..end]), name_of_tag(bytes[start]))?;
     }
     let rest = fields.last().map_or(0, |&(_, end)| end);
-    if rest < sheet.len() {
-        writeln!(f, "  {}  # cut short", hex(&sheet[rest..]))?;
+    if rest < bytes.len() {
+        writeln!(f, "  {}  # cut short", hex(&bytes[rest..]))?;
     }
     Ok(())
 }
@@ -221,6 +259,7 @@ fn name_of_tag(tag: u8) -> &'static str {
         0x24 => "transpose",
         0x25 => "multiply-add",
         0x26 => "vector",
+        0x30 => "access",
         _ => "no tag",
     }
 }
@@ -233,15 +272,30 @@ fn hex(bytes: &[u8]) -> String {
 #[cfg(test)]
 mod tests {
     use super::*;
-    use crate::reference::{check, Edition};
+    use crate::reference::{check, read_trace, Cause, Edition, ACCESS_LENGTH};
 
     #[test]
     fn what_does_not_matter_is_taken_away() {
         let case = Case::of_seed(Edition::One, 1, 0);
         let small = shrink(case, &mut |case| case.sheet.contains(&1));
-        assert_eq!((small.memory.len(), small.tapes.len()), (0, 0));
+        assert_eq!((small.memory.len(), small.tapes.len(), small.traces.len()), (0, 0, 0));
         assert!(small.sheet.contains(&1));
         assert!(small.sheet.len() <= 4, "{small}");
+    }
+
+    #[test]
+    fn a_trace_keeps_the_fields_that_matter() {
+        let repeats = |case: &Case| {
+            case.traces.iter().any(|trace| {
+                let refused = read_trace(trace).map_err(|refusal| refusal.cause).err();
+                refused == Some(Cause::SameElement)
+            })
+        };
+        let mut cases = (0..).map(|number| Case::of_seed(Edition::One, 1, number));
+        let case = cases.find(repeats).expect("there are some");
+        let small = shrink(case, &mut |case| repeats(case));
+        assert_eq!((small.sheet.len(), small.traces.len()), (0, 1));
+        assert_eq!(small.traces[0].len(), 2 * ACCESS_LENGTH);
     }
 
     #[test]

@@ -1,8 +1,8 @@
 //! The strips of the scope and two beside them: sheets and memories from the files under `strips/`, and what the
 //! scope says that they give.
 
-use crate::jobs::{Jobs, State};
-use crate::reference::RECORD_NUMBERS;
+use crate::jobs::{Jobs, State, AGREES};
+use crate::reference::{trace_bytes, Entry, RECORD_NUMBERS};
 
 /// A strip: a sheet, the memory that it is carried out on, and what that gives.
 pub struct Strip {
@@ -67,6 +67,31 @@ pub const STRIP_4_TAPE: [[i32; RECORD_NUMBERS]; 5] = [
     [1, 1, 6, 2, 2, -1],
 ];
 
+/// The sort and the byte of an element in a trace.
+type Access = (u8, u32);
+const SKIPPED: Access = (0, 0);
+const FILLED: Access = (1, 0);
+const DISCARDED: Access = (2, 0);
+
+const fn at(byte: u32) -> Access {
+    (3, byte)
+}
+
+/// Strips with what becomes of the elements of their loads and stores, from step 1 on, as the
+/// scope says.
+const ACCESSES: [(&str, &[[Access; 8]]); 4] = [
+    ("01-constant", &[[FILLED, FILLED, at(0), at(1), at(2), at(3), FILLED, FILLED]]),
+    ("04-mirror-repeat", &[[at(2), at(1), at(0), at(1), at(2), at(3), at(2), at(1)]]),
+    (
+        "06-clamped-store",
+        &[
+            [at(16), at(16), at(16), at(17), at(18), at(19), at(19), at(19)],
+            [DISCARDED, DISCARDED, at(0), at(1), at(2), at(3), DISCARDED, DISCARDED],
+        ],
+    ),
+    ("08-clip", &[[SKIPPED, SKIPPED, at(0), at(1), SKIPPED, SKIPPED, at(4), at(5)]]),
+];
+
 /// Reads hex digits, two a byte, with blanks between them and comments from `#` to the line's end.
 pub fn bytes_of_hex(text: &str) -> Vec<u8> {
     let digits: Vec<u32> = text
@@ -86,6 +111,10 @@ pub fn check_strips(jobs: &dyn Jobs) -> Result<usize, String> {
         check_strip(jobs, strip).map_err(|what| format!("strip {}: {what}", strip.name))?;
     }
     check_strip_4_tape(jobs)?;
+    for (name, steps) in ACCESSES {
+        let strip = strips.iter().find(|strip| strip.name == name).expect("there is one");
+        check_trace(jobs, strip, steps).map_err(|what| format!("strip {name}: {what}"))?;
+    }
     Ok(strips.len())
 }
 
@@ -131,6 +160,24 @@ fn check_strip_4_tape(jobs: &dyn Jobs) -> Result<(), String> {
         return Err(format!("strip 4's tape: {answer:?} {records:?} {tape:?}"));
     }
     Ok(())
+}
+
+/// The trace of a strip is the one that is expected, which agrees in a replay.
+fn check_trace(jobs: &dyn Jobs, strip: &Strip, steps: &[[Access; 8]]) -> Result<(), String> {
+    let mut entries = Vec::new();
+    for (step, accesses) in (1..).zip(steps) {
+        for (element, &(sort, byte)) in (0..).zip(accesses) {
+            entries.push(Entry { step, element, sort, byte });
+        }
+    }
+    let (expected, memory_len) = (trace_bytes(&entries), strip.memory.len());
+    let (mut trace, mut verdict, mut answer) = (vec![0; expected.len()], [0; 2], [0; 4]);
+    jobs.trace(&strip.sheet, memory_len, &mut trace, &mut answer);
+    equal("answer of its trace", &answer, &[0, 0, 0, expected.len() as u32])?;
+    equal("trace", &trace, &expected)?;
+    jobs.replay(&strip.sheet, memory_len, &expected, &mut verdict, &mut answer);
+    equal("answer of its replay", &answer, &[0, 0, 0, entries.len() as u32])?;
+    equal("verdict", &verdict, &AGREES)
 }
 
 #[cfg(test)]

@@ -10,6 +10,7 @@ mod refusal;
 mod registers;
 mod sheet;
 mod tape;
+mod trace;
 mod vector;
 mod whole;
 
@@ -24,6 +25,10 @@ pub use sheet::{
     Sheet, Step, View, ViewDimension,
 };
 pub use tape::{run_tape, translate, Record, Translated, WHOLE_STEP};
+pub use trace::{
+    entries, read_trace, replay, trace, trace_bytes, verdict, Entry, Replayed, Verdict,
+    ACCESS_LENGTH, PLACED,
+};
 pub use vector::{Interpretation, MemoryLayout, VectorStep, BIAS_SIZE, COMPONENTS_A_WORD};
 pub use whole::whole_type;
 

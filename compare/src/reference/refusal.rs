@@ -35,13 +35,13 @@ macro_rules! causes {
 
 causes! {
     One {
-        1: HeadCut ContentCut;
-        2: UnknownTag LaterTag;
+        1: HeadCut ContentCut TraceHeadCut TraceContentCut;
+        2: UnknownTag LaterTag TraceTag;
         3: OutOfOrder LaterTagFirst RepeatedEdition TooMany NoEdition;
-        4: WrongLength;
+        4: WrongLength TraceLength;
         5: DimensionCount LengthDisagrees ClampModeRange BlockSize DimensionSize Offset Span
            HasDimensions NotAPermutation ViewDimensionSize RegisterRange Side KindRange FillValue
-           NoSuchLayout NoSuchView ReduceModeRange CombineRange UnreadableModel;
+           NoSuchLayout NoSuchView ReduceModeRange CombineRange UnreadableModel TraceSort TraceByte;
         6: WrongEdition;
         7: EmptyRegister;
         8: ReduceHalves ReduceRows ReduceColumns MultiplyShapes AccumulatorKind;
@@ -57,7 +57,8 @@ causes! {
             RecordPastMatrix RecordByteStep RecordPastMemory RecordValue RecordUnused RecordNoStep
             RecordAccessStep RecordStepEmpty RecordStepShapes;
         18: MemoryTooLong;
-        19: SheetRoom;
+        19: SheetRoom TraceRoom;
+        26: EarlierStep EarlierElement SameElement;
     }
     Two {
         5: ResultKind InputInterpretation MatrixInterpretation VectorSide MemoryLayoutRange
@@ -82,13 +83,25 @@ impl Refusal {
         Refusal { cause, place: [0, 0] }
     }
 
-    /// A refusal at a byte, a step or a record.
+    /// A refusal at a byte, a step or a record. Only a trace has bytes past 2^32 - 1, which then
+    /// stands for them.
     pub fn at(cause: Cause, place: usize) -> Refusal {
-        Refusal { cause, place: [place as u32, 0] }
+        Refusal { cause, place: [u32::try_from(place).unwrap_or(u32::MAX), 0] }
     }
 
     /// A refusal at an element of a step.
     pub fn at_element(cause: Cause, step: usize, element: usize) -> Refusal {
         Refusal { cause, place: [step as u32, element as u32] }
+    }
+}
+
+#[cfg(test)]
+mod tests {
+    use super::*;
+
+    #[test]
+    fn a_place_past_32_bits_is_the_last_of_them() {
+        assert_eq!(Refusal::at(Cause::TraceTag, 0xFFFF_FFFF).place, [u32::MAX, 0]);
+        assert_eq!(Refusal::at(Cause::TraceTag, 1 << 32).place, [u32::MAX, 0]);
     }
 }

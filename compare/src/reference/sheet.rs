@@ -341,22 +341,22 @@ impl Reader {
 }
 
 /// The numbers of a content, one after the other; its length is known to suffice.
-struct Numbers<'a> {
-    rest: &'a [u8],
+pub struct Numbers<'a> {
+    pub rest: &'a [u8],
 }
 
 impl Numbers<'_> {
-    fn one(&mut self) -> u8 {
+    pub fn one(&mut self) -> u8 {
         let number = self.rest[0];
         self.rest = &self.rest[1..];
         number
     }
 
-    fn two(&mut self) -> u16 {
+    pub fn two(&mut self) -> u16 {
         u16::from_le_bytes([self.one(), self.one()])
     }
 
-    fn four(&mut self) -> u32 {
+    pub fn four(&mut self) -> u32 {
         u32::from_le_bytes([self.one(), self.one(), self.one(), self.one()])
     }
 }
