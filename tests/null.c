@@ -20,9 +20,14 @@ struct result {
 /* Edition 1, and a fill of register 0, which needs no memory. */
 static const uint8_t fill_sheet[] = {0x01, 1, 0, 1, 0x20, 8, 0, 0, 1, 4, 0, 7, 0, 0, 0};
 
-/* The same behind a layout, and a store, whose four elements all lie outside the tensor. */
-static const uint8_t store_sheet[] = {0x01, 1, 0, 1, 0x10, 16, 0, 1, 1, 0, 0, 0, 0, 1, 0, 1, 0, 1, 0, 1, 0, 4, 0,
-                                      0x20, 8, 0, 0, 1, 4, 0, 7, 0, 0, 0, 0x22, 7, 0, 0, 0, 255, 0, 0, 0, 0};
+/* Strip 4's sheet, which loads 8 elements from 4 bytes. */
+static const uint8_t load_sheet[] = {
+    0x01, 1,  0, 1,                                                    /* edition 1 */
+    0x10, 16, 0, 1, 4, 0, 0, 0, 0, 1, 0, 4, 0, 1, 0, 0xFE, 0xFF, 8, 0, /* a layout */
+    0x20, 8,  0, 0, 1, 8, 0, 0, 0, 0, 0,                               /* a fill */
+    0x21, 8,  0, 1, 0, 0, MOONBLEAT_NONE, 0, 0, 0, 0,                  /* a load */
+};
+enum { LOAD_MEMORY = 4 };
 
 /* Calls a function with empty slices that begin at `nothing`. */
 typedef void call(uint8_t *nothing, int32_t *no_numbers, struct result *result);
@@ -101,19 +106,20 @@ static void trace_nothing(uint8_t *nothing, int32_t *no_numbers, struct result *
     result->returned = moonbleat_trace(nothing, 0, 0, nothing, 0, result->answer);
 }
 
+static void trace_to_nothing(uint8_t *nothing, int32_t *no_numbers, struct result *result)
+{
+    (void)no_numbers;
+    result->returned =
+        moonbleat_trace(load_sheet, sizeof load_sheet, LOAD_MEMORY, nothing, 0, result->answer);
+}
+
 static void trace_no_access_to_nothing(uint8_t *nothing, int32_t *no_numbers, struct result *result)
 {
     (void)no_numbers;
     result->returned = moonbleat_trace(fill_sheet, sizeof fill_sheet, 0, nothing, 0, result->answer);
 }
 
-static void trace_to_nothing(uint8_t *nothing, int32_t *no_numbers, struct result *result)
-{
-    (void)no_numbers;
-    result->returned = moonbleat_trace(store_sheet, sizeof store_sheet, 0, nothing, 0, result->answer);
-}
-
-static void replay_on_nothing(uint8_t *nothing, int32_t *no_numbers, struct result *result)
+static void replay_for_nothing(uint8_t *nothing, int32_t *no_numbers, struct result *result)
 {
     (void)no_numbers;
     result->returned = moonbleat_replay(nothing, 0, 0, nothing, 0, result->verdict, result->answer);
@@ -122,8 +128,15 @@ static void replay_on_nothing(uint8_t *nothing, int32_t *no_numbers, struct resu
 static void replay_nothing(uint8_t *nothing, int32_t *no_numbers, struct result *result)
 {
     (void)no_numbers;
+    result->returned = moonbleat_replay(load_sheet, sizeof load_sheet, LOAD_MEMORY, nothing, 0, result->verdict,
+                                        result->answer);
+}
+
+static void replay_nothing_for_no_access(uint8_t *nothing, int32_t *no_numbers, struct result *result)
+{
+    (void)no_numbers;
     result->returned =
-        moonbleat_replay(store_sheet, sizeof store_sheet, 0, nothing, 0, result->verdict, result->answer);
+        moonbleat_replay(fill_sheet, sizeof fill_sheet, 0, nothing, 0, result->verdict, result->answer);
 }
 
 static const struct {
@@ -143,10 +156,11 @@ static const struct {
     {"run on nothing", run_on_nothing, 0},
     {"run records of nothing", run_records_of_nothing, MOONBLEAT_REFUSED_RECORD},
     {"trace nothing", trace_nothing, MOONBLEAT_REFUSED_ORDER},
-    {"trace no access to nothing", trace_no_access_to_nothing, 0},
     {"trace to nothing", trace_to_nothing, MOONBLEAT_REFUSED_ROOM},
-    {"replay on nothing", replay_on_nothing, MOONBLEAT_REFUSED_ORDER},
+    {"trace no access to nothing", trace_no_access_to_nothing, 0},
+    {"replay for nothing", replay_for_nothing, MOONBLEAT_REFUSED_ORDER},
     {"replay nothing", replay_nothing, 0},
+    {"replay nothing for no access", replay_nothing_for_no_access, 0},
 };
 
 enum { CASES = sizeof cases / sizeof cases[0], GARBAGE = 0xA5 };
