@@ -8,10 +8,12 @@ use lib.ListN.{length, getD}
 use Rattle.numbers.specs.Choice.{pick, both}
 use Rattle.outcomes.specs.declared.Outcome.{Outcome}
 use Rattle.outcomes.specs.declared.Outcome.the-variants.{Skipped, Filled, Discarded, Placed}
+use Rattle.addressing.specs.Rules.{elementsOf, lowBits}
+use Rattle.addressing.specs.declared.Access.{Access}
 use Rattle.addressing.specs.declared.Located.{Located}
 use Rattle.sheet.specs.Sizes.{matrixPlaces, memoryLimit}
 use Rattle.accesses.specs.declared.Tally.{Tally}
-use Rattle.accesses.specs.Refusals.{firstRefused, placedCount}
+use Rattle.accesses.specs.Refusals.{elementOutcome, firstRefused, placedCount}
 
 -- a byte is one of the 65,536 that a memory has at most
 abbrev pub Near : Outcome → Type 0
@@ -58,3 +60,7 @@ pub record Surveyed (f : ℕ → Located) (m : ℕ) (r : Tally) (entries : List 
   pub stop : r .stop ≡ firstRefused f 0 m
   pub placed : r .stop .number ≡ 0 → r .placed ≡ placedCount f m
   pub each : r .stop .number ≡ 0 → (i : ℕ) → i < m → getD entries i 0 ≡ entryOf (f i .outcome)
+
+-- the entries stand for the outcomes of an access's elements
+abbrev pub Told : Access → List ℕ → Type 0
+Told a entries = (i : ℕ) → i < elementsOf a → entryOutcome (lowBits a) (getD entries i 0) ≡ elementOutcome a i .outcome

@@ -9,7 +9,7 @@ ghost use Rattle.addressing.specs.Rules.{elementsOf};
 ghost use Rattle.addressing.specs.Valid.{SizedAccess, Planned};
 ghost use Rattle.sheet.specs.Sizes.{rankPlaces, matrixPlaces};
 ghost use Rattle.accesses.specs.Refusals.{elementOutcome, otherRank, blocksOne, storeBlocked, elementsRefusal, placedOne, checkedBy, checkedElements, checkedAccess};
-ghost use Rattle.accesses.specs.Entries.{Near, entryOf, entryOutcome, Surveyed};
+ghost use Rattle.accesses.specs.Entries.{Near, entryOf, entryOutcome, Surveyed, Told};
 ghost use Rattle.accesses.specs.Marks.{Scratch};
 
 pub mod clashes;
@@ -156,6 +156,7 @@ fn check_elements(entries: &mut [u32; PLACES], marks: &mut [u32; MARKS], p: Plan
     requires { ⌜ Planned p × Scratch (now entries) (now marks) ⌝ }
     ensures { λ _. ⌜ Scratch (now (entries .exit)) (now (marks .exit)) ⌝ }
     ensures { λ r. ⌜ r ≡ checkedElements (elementOutcome (p .access)) (elementsOf (p .access)) (elementsRefusal (p .access .load) (elementOutcome (p .access)) (elementsOf (p .access))) ⌝ }
+    ensures { λ r. ⌜ (r .stop .number ≡ 0 → Told (p .access) (now (entries .exit))) ⌝ }
 {
     let count = p.count;
     let s = survey(entries, p);
@@ -224,11 +225,13 @@ fn store_blocked(a: Access) -> bool
     !blocks_one(l)
 }
 
-// Refusals 9 to 15 of a load or a store, in order, and how many of its elements have a byte. The entries and the marks are lent room.
+// Refusals 9 to 15 of a load or a store, in order, and how many of its elements have a byte. The entries and the marks are lent room:
+// where it is accepted, the entries stand for the outcomes of its elements.
 pub fn check_access(entries: &mut [u32; PLACES], marks: &mut [u32; MARKS], a: Access) -> Checked
     requires { ⌜ SizedAccess a × Scratch (now entries) (now marks) ⌝ }
     ensures { λ _. ⌜ Scratch (now (entries .exit)) (now (marks .exit)) ⌝ }
     ensures { λ r. ⌜ r ≡ checkedAccess a ⌝ }
+    ensures { λ r. ⌜ (r .stop .number ≡ 0 → Told a (now (entries .exit))) ⌝ }
 {
     if a.base % 16 != 0 {
         return refuse(UNALIGNED_BASE, 0);

@@ -7,8 +7,10 @@ ghost use Rattle.sheet_ranges.specs.Steps.{windowOk, stepOk};
 ghost use Rattle.sheet_ranges.specs.Laws.Within.{TensorsWithin, Within};
 ghost use Rattle.registers.specs.Sized.{Sized, SizedType};
 ghost use Rattle.whole_steps.specs.Within.{WholeOk};
+ghost use Rattle.accesses.specs.Entries.{Told};
 ghost use Rattle.accesses.specs.Marks.{Scratch};
 ghost use Rattle.checking.specs.Steps.{accessOf, objectRegister, stepCheck, accessCheck, wholeCheck, stepTypes, checkedStep};
+ghost use Rattle.checking.specs.Told.{StepTold};
 ghost use Rattle.checking.specs.Checking.{checkRefused, checked};
 use super::CheckAnswer;
 use super::StepCheck;
@@ -60,6 +62,7 @@ fn check_window(
     requires { ⌜ SizedType t × Scratch (now entries) (now marks) ⌝ }
     ensures { λ _. ⌜ Scratch (now (entries .exit)) (now (marks .exit)) ⌝ }
     ensures { λ r. ⌜ r ≡ accessCheck before after t (accessOf tensors load window t memory) ⌝ }
+    ensures { λ r. ⌜ (r .stop .number ≡ 0 → Told (accessOf tensors load window t memory) (now (entries .exit))) ⌝ }
 {
     if registers::is_empty(t) {
         return plain_check(EMPTY_REGISTER, before);
@@ -102,7 +105,7 @@ pub fn object_register(register: u8, object: Object) -> u8
     }
 }
 
-// The entries and the marks are lent room.
+// The entries and the marks are lent room: where a load or a store is accepted, the entries stand for the outcomes of its elements.
 pub fn check_step(
     entries: &mut [u32; PLACES],
     marks: &mut [u32; MARKS],
@@ -115,6 +118,7 @@ pub fn check_step(
     requires { ⌜ TensorsWithin tensors × (memory ≤ memoryLimit) × Sized types × (stepOk edition (tensors .layouts) (tensors .views) step ≡ true) × Scratch (now entries) (now marks) ⌝ }
     ensures { λ _. ⌜ Scratch (now (entries .exit)) (now (marks .exit)) ⌝ }
     ensures { λ r. ⌜ r ≡ checkedStep edition tensors types memory step ⌝ }
+    ensures { λ r. ⌜ (r .stop .number ≡ 0 → StepTold tensors types memory step (now (entries .exit))) ⌝ }
 {
     match step {
         Step::Nothing => plain_check(0, types),

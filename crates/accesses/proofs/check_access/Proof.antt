@@ -1,4 +1,7 @@
-use mathlib.Core.Path.{_∙_}
+use Prim.Native.Nat.{ℕ}
+use mathlib.Core.Path.{ap, _∙_}
+use native.Mathlib.Omega.{arith}
+use Rattle.accesses.specs.declared.Checked.{Checked}
 use borrow.Author.Needs.{needs}
 use Rattle.numbers.specs.Laws.Choice.{went, tests}
 use Rattle.addressing.specs.Laws.Plans.{planned-access}
@@ -7,11 +10,14 @@ use Rattle.accesses.proofs.Laws.{access-nine, access-ten, access-eleven
 use Rattle.accesses.proofs.check_access.Statement.{statement}
 use Rattle.accesses.proofs.check_access.Tie as tie
 
+abbrev number : Checked → ℕ
+number c = c .stop .number
+
 refuse-requires : tie.Need-refuse-requires
 refuse-requires c κs = search needs
 
 returns : tie.Need-returns
-returns c = (c .before .before .before .pre .1, c .refuse .ensures ∙ access-nine _ (search tests))
+returns c = (c .before .before .before .pre .1, (c .refuse .ensures ∙ access-nine _ (search tests), λ e. absurd (omega (arith, ap number (c .refuse .ensures), e))))
 
 other-rank-requires : tie.Need-other-rank-requires
 other-rank-requires c κs = search needs
@@ -20,7 +26,7 @@ refuse-requires-2 : tie.Need-refuse-requires-2
 refuse-requires-2 c κs = search needs
 
 returns-2 : tie.Need-returns-2
-returns-2 c = (c .before .before .before .before .before .pre .1, c .refuse2 .ensures ∙ access-ten _ (search tests) (search tests))
+returns-2 c = (c .before .before .before .before .before .pre .1, (c .refuse2 .ensures ∙ access-ten _ (search tests) (search tests), λ e. absurd (omega (arith, ap number (c .refuse2 .ensures), e))))
 
 store-blocked-requires : tie.Need-store-blocked-requires
 store-blocked-requires c κs = search needs
@@ -29,7 +35,7 @@ refuse-requires-3 : tie.Need-refuse-requires-3
 refuse-requires-3 c κs = search needs
 
 returns-3 : tie.Need-returns-3
-returns-3 c = (c .before .before .before .before .before .before .before .pre .1, c .refuse3 .ensures ∙ access-eleven _ (search tests) (search tests) (search tests))
+returns-3 c = (c .before .before .before .before .before .before .before .pre .1, (c .refuse3 .ensures ∙ access-eleven _ (search tests) (search tests) (search tests), λ e. absurd (omega (arith, ap number (c .refuse3 .ensures), e))))
 
 plan-of-requires : tie.Need-plan-of-requires
 plan-of-requires c κs =
@@ -42,7 +48,10 @@ check-elements-requires : tie.Need-check-elements-requires
 check-elements-requires c κs = search needs
 
 returns-4 : tie.Need-returns-4
-returns-4 c = (c .check-elements .ensures .0, (rw (planned-access _ (c .before .before .before .plan-of .ensures .0)) at (c .check-elements .ensures .1)) ∙ access-elements _ (search tests) (search tests) (search tests))
+returns-4 c =
+    let p = planned-access _ (c .before .before .before .plan-of .ensures .0) in
+    let e = c .check-elements .ensures in
+    (e .0, ((rw p at (e .1 .0)) ∙ access-elements _ (search tests) (search tests) (search tests), λ z. rw p at (e .1 .1 z)))
 
 pub check-access-spec : {M : Type 1} → statement M
 check-access-spec =

@@ -1,11 +1,17 @@
-use mathlib.Core.Path.{_∙_}
+use Prim.Native.Nat.{ℕ}
+use mathlib.Core.Path.{sym, ap, _∙_}
+use native.Mathlib.Omega.{arith}
 use Rattle.numbers.specs.Laws.Choice.{went}
 use Rattle.addressing.specs.Laws.Plans.{plan-count}
-use Rattle.accesses.specs.Laws.Surveys.{element-near}
+use Rattle.accesses.specs.Laws.Surveys.{element-near, surveyed-told}
 use Rattle.accesses.proofs.Laws.{clash-surveyed, apart-none, apart-found, checked-refused, checked-load, checked-clash, checked-apart}
+use Rattle.accesses.specs.declared.Checked.{Checked}
 use borrow.Author.Needs.{needs}
 use Rattle.accesses.proofs.check_elements.Statement.{statement}
 use Rattle.accesses.proofs.check_elements.Tie as tie
+
+abbrev number : Checked → ℕ
+number c = c .stop .number
 
 survey-requires : tie.Need-survey-requires
 survey-requires c κs = search needs
@@ -16,7 +22,7 @@ refuse-requires c κs = search needs
 returns : tie.Need-returns
 returns c =
     let s = c .before .before .before .before .survey .ensures in
-    (record { places = s .room; none = c .before .before .before .before .before .before .pre .1 .none }, c .refuse .ensures ∙ checked-refused _ _ _ (s .stop) (c .before .if1 .taken))
+    (record { places = s .room; none = c .before .before .before .before .before .before .pre .1 .none }, (c .refuse .ensures ∙ checked-refused _ _ _ (s .stop) (c .before .if1 .taken), λ e. absurd (c .before .if1 .taken (sym (ap number (c .refuse .ensures)) ∙ e))))
 
 accept-requires : tie.Need-accept-requires
 accept-requires c κs = search needs
@@ -25,7 +31,7 @@ returns-2 : tie.Need-returns-2
 returns-2 c =
     let s = c .before .before .before .before .before .before .survey .ensures in
     let z = c .before .before .before .if1 .left in
-    (record { places = s .room; none = c .before .before .before .before .before .before .before .before .pre .1 .none }, c .accept .ensures ∙ checked-load _ _ _ (s .stop) z (c .before .if2 .taken) (s .placed z))
+    (record { places = s .room; none = c .before .before .before .before .before .before .before .before .pre .1 .none }, (c .accept .ensures ∙ checked-load _ _ _ (s .stop) z (c .before .if2 .taken) (s .placed z), λ e. surveyed-told _ (c .before .before .before .before .before .before .before .before .pre .0) s z))
 
 bytes-apart-requires : tie.Need-bytes-apart-requires
 bytes-apart-requires c κs = search needs
@@ -42,8 +48,11 @@ returns-3 c =
     let t = c .before .before .bytes-apart .ensures in
     let q = clash-surveyed (element-near (a .args .p .access) (a .pre .0 .valid .sized)) s z in (
       record { places = s .room; none = t .1 },
-      c .accept2 .ensures
-          ∙ checked-apart _ _ _ (s .stop) z _ (c .before .before .before .before .before .if2 .left) q (apart-none _ _ (rw e at (went (t .0) (c .before .if3 .taken)))) (s .placed z),
+      (
+        c .accept2 .ensures
+            ∙ checked-apart _ _ _ (s .stop) z _ (c .before .before .before .before .before .if2 .left) q (apart-none _ _ (rw e at (went (t .0) (c .before .if3 .taken)))) (s .placed z),
+        λ e. surveyed-told _ (a .pre .0) s z,
+      ),
     )
 
 first-clash-requires : tie.Need-first-clash-requires
@@ -62,8 +71,11 @@ returns-4 c =
     let i = rw e at (c .before .first-clash .ensures) in
     let q = clash-surveyed (element-near (a .args .p .access) (a .pre .0 .valid .sized)) s z in (
       record { places = s .room; none = t .1 },
-      c .refuse2 .ensures
-          ∙ checked-clash _ _ _ (s .stop) z _ (c .before .before .before .before .before .before .before .if2 .left) (i ∙ q) (rw i (apart-found _ _ (rw e at (went (t .0) (c .before .before .before .if3 .left))))),
+      (
+        c .refuse2 .ensures
+            ∙ checked-clash _ _ _ (s .stop) z _ (c .before .before .before .before .before .before .before .if2 .left) (i ∙ q) (rw i (apart-found _ _ (rw e at (went (t .0) (c .before .before .before .if3 .left))))),
+        λ e. absurd (omega (arith, ap number (c .refuse2 .ensures), e)),
+      ),
     )
 
 pub check-elements-spec : {M : Type 1} → statement M

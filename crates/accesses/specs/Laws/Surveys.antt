@@ -18,7 +18,7 @@ use Rattle.addressing.specs.Sound.{Sound}
 use Rattle.refusals.specs.declared.Stop.{Stop}
 use Rattle.accesses.specs.declared.Tally.{Tally}
 use Rattle.accesses.specs.Refusals.{elementOutcome, firstRefused, accessRefusal}
-use Rattle.accesses.specs.Entries.{Near, filledEntry, entryOf, entryOutcome, Surveyed}
+use Rattle.accesses.specs.Entries.{Near, filledEntry, entryOf, entryOutcome, Surveyed, Told}
 use Rattle.accesses.specs.Laws.Accepted.{element-sound, element-accepted}
 
 sound-near : (a : Access) → SizedAccess a → (o : Outcome) → Sound a o → Near o
@@ -47,11 +47,17 @@ unfolding firstRefused pick
 none-first f i zero h = refl
 none-first f i (suc m) h = rw (eq-eqb (f i .refusal) 0 (h i (omega arith))) (none-first f (suc i) m (λ k l. h k (omega arith)))
 
--- the entries of a survey of an access that is not refused stand for its elements' outcomes
+-- the entries of a survey that finds no refusal stand for the elements' outcomes
+pub surveyed-told : (p : Plan) → Planned p → {r : Tally} {entries : List ℕ} → Surveyed (elementOutcome (p .access)) (elementsOf (p .access)) r entries
+    → r .stop .number ≡ 0 → Told (p .access) entries
+surveyed-told p ok s z k l =
+    let a = p .access in rw (s .each z k l) (sound-entry a (ok .valid .sized) (elementOutcome a k .outcome) (element-sound a k))
+
+-- and so do those of an access that is not refused
 pub surveyed-outcome : (p : Plan) → Planned p → {r : Tally} {entries : List ℕ} → Surveyed (elementOutcome (p .access)) (elementsOf (p .access)) r entries
     → accessRefusal (p .access) .number ≡ 0 → (k : ℕ) → k < elementsOf (p .access)
     → entryOutcome (p .fill) (getD entries k 0) ≡ elementOutcome (p .access) k .outcome
 surveyed-outcome p ok s h k l =
     let a = p .access in
     let z = ap (λ (x : Stop). x .number) (s .stop) ∙ none-first (elementOutcome a) 0 (elementsOf a) (λ i g. element-accepted a h i (omega arith)) in
-    rw (plan-fill p ok, s .each z k l) (sound-entry a (ok .valid .sized) (elementOutcome a k .outcome) (element-sound a k))
+    rw (plan-fill p ok) (surveyed-told p ok s z k l)

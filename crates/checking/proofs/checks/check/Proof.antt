@@ -61,7 +61,7 @@ returns c =
     let s = c .before .before .before .before .before .before .before .before .before .before .before .before .before .before .before .args in
     c .check-refused .ensures
     ∙ ap checkRefused (c .before .refusal-at .ensures)
-    ∙ checked-stop (s .t1 .steps) (s .t1) (s .memory) (i .k) (i .types) (i .count) (r .check-step .result) (r .check-step .ensures .1) (c .before .before .before .before .before .before .before .before .before .loop-test .taken) (omega (arith, c .before .before .if1 .taken))
+    ∙ checked-stop (s .t1 .steps) (s .t1) (s .memory) (i .k) (i .types) (i .count) (r .check-step .result) (r .check-step .ensures .1 .0) (c .before .before .before .before .before .before .before .before .before .loop-test .taken) (omega (arith, c .before .before .if1 .taken))
     ∙ i .inv .4
 
 add-count : tie.Need-add-count Inv-loop μ-loop
@@ -69,7 +69,7 @@ add-count c =
     let r = c .before .before .before .before .before in
     let i = c .before .before .before .before .before .before .before .before .before .before .loop in
     let s = c .before .before .before .before .before .before .before .before .before .before .before .before .before .before .before in
-    let p : r .check-step .result .placed ≤ matrixPlaces = rw (r .check-step .ensures .1) (step-placed _ _ (i .types) (s .args .memory) _ (i .inv .1)) in
+    let p : r .check-step .result .placed ≤ matrixPlaces = rw (r .check-step .ensures .1 .0) (step-placed _ _ (i .types) (s .args .memory) _ (i .inv .1)) in
     omega (arith, p, i .inv .0, i .inv .2, within-places (s .pre .0))
 
 add-k : tie.Need-add-k Inv-loop μ-loop
@@ -85,12 +85,12 @@ loop-again c =
     let s = c .before .before .before .before .before .before .before .before .before .before .before .before .before .before .before in
     let h = c .before .before .before .before .before .before .before .before .before .loop-test .taken in
     let w = within-step (s .args .t1) (s .pre .0) (i .k) h in
-    let p : r .check-step .result .placed ≤ matrixPlaces = rw (r .check-step .ensures .1) (step-placed _ _ (i .types) (s .args .memory) _ (i .inv .1)) in (
+    let p : r .check-step .result .placed ≤ matrixPlaces = rw (r .check-step .ensures .1 .0) (step-placed _ _ (i .types) (s .args .memory) _ (i .inv .1)) in (
       omega (arith, h),
-      rw (r .check-step .ensures .1) (check-sized _ _ (i .types) (s .args .memory) _ _ _ _ w (i .inv .1)),
+      rw (r .check-step .ensures .1 .0) (check-sized _ _ (i .types) (s .args .memory) _ _ _ _ w (i .inv .1)),
       omega (arith, p, i .inv .2),
       r .check-step .ensures .0,
-      checked-go (s .args .t1 .steps) (s .args .t1) (s .args .memory) (i .k) (i .types) (i .count) (r .check-step .result) (r .check-step .ensures .1) h (omega arith) ∙ i .inv .4,
+      checked-go (s .args .t1 .steps) (s .args .t1) (s .args .memory) (i .k) (i .types) (i .count) (r .check-step .result) (r .check-step .ensures .1 .0) h (omega arith) ∙ i .inv .4,
     )
 
 not-refused-requires : tie.Need-not-refused-requires Inv-loop μ-loop

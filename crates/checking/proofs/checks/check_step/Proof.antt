@@ -49,23 +49,27 @@ check-whole-requires c κs = whole-ok _ _ (rw (c .before .step3 .given .1) at (c
 
 returns : tie.Need-returns
 unfolding checkedStep
-returns c = (c .before .before .before .pre .4, rw (c .before .enum-told .given .1) (c .plain-check .ensures))
+returns c = (c .before .before .before .pre .4, (rw (c .before .enum-told .given .1) (c .plain-check .ensures), λ e. rw (c .before .enum-told .given .1) tt))
 
 returns-2 : tie.Need-returns-2
 unfolding checkedStep
 returns-2 c =
     let e = c .check-window .ensures in
-    (e .0, rw (c .before .before .before .before .before .before .before .step .given .1) (e .1 ∙ rw (c .before .before .before .with-type .ensures, c .before .before .before .before .the-type .ensures, c .before .before .before .before .before .object-register .ensures)))
+    let t = c .before .before .before .before .the-type .ensures in
+    let o = c .before .before .before .before .before .object-register .ensures in
+    (e .0, rw (c .before .before .before .before .before .before .before .step .given .1) (e .1 .0 ∙ rw (c .before .before .before .with-type .ensures, t, o), λ z. rw (t, o) at (e .1 .1 z)))
 
 returns-3 : tie.Need-returns-3
 unfolding checkedStep
 returns-3 c =
     let e = c .check-window2 .ensures in
-    (e .0, rw (c .before .before .before .before .before .step2 .given .1) (e .1 ∙ rw (c .before .before .before .the-type2 .ensures)))
+    let t = c .before .before .before .the-type2 .ensures in
+    (e .0, rw (c .before .before .before .before .before .step2 .given .1) (e .1 .0 ∙ rw t, λ z. rw t at (e .1 .1 z)))
 
 returns-4 : tie.Need-returns-4
 unfolding checkedStep
-returns-4 c = (c .before .before .before .before .pre .4, rw (c .before .before .step3 .given .1) (c .check-whole .ensures))
+returns-4 c =
+    (c .before .before .before .before .pre .4, (rw (c .before .before .step3 .given .1) (c .check-whole .ensures), λ e. rw (c .before .before .step3 .given .1) tt))
 
 pub check-step-spec : {M : Type 1} → statement M
 check-step-spec =
