@@ -10,6 +10,7 @@ use Rattle.sheet.specs.declared.Sheet.{Sheet}
 use Rattle.refusals.specs.Refusals.{memoryTooLarge, refusalAt, notRefused}
 use Rattle.refusals.specs.declared.Refusal.{Refusal}
 use Rattle.sheet_reader.specs.Reading.{readSheet}
+use Rattle.sheet_reader.specs.declared.ReadAnswer.{ReadAnswer}
 use Rattle.registers.specs.Registers.{emptyRegisters}
 use Rattle.registers.specs.declared.MatrixType.{MatrixType}
 use Rattle.checking.specs.Steps.{checkedStep}
@@ -31,6 +32,10 @@ checkedFrom (suc n) sh len k ts count =
 unfoldable pub checked : Sheet → ℕ → CheckAnswer
 checked sh len = checkedFrom (sh .steps) sh len 0 (emptyRegisters .types) 0
 
+-- 18 first, then reading's 1 to 6: with a refusal there is an empty sheet
+unfoldable pub admitted : List ℕ → ℕ → ReadAnswer
+admitted s len = pick (leb len memoryLimit) (readSheet s) (record { refusal = refusalAt memoryTooLarge 0 0; sheet = emptySheet })
+
 -- 18 first, then reading's 1 to 6, then the steps
 unfoldable pub checkedSheet : List ℕ → ℕ → CheckAnswer
 checkedSheet s len =
@@ -39,7 +44,3 @@ checkedSheet s len =
     (checked (readSheet s .sheet) len)
     (checkRefused (readSheet s .refusal)))
     (checkRefused (refusalAt memoryTooLarge 0 0))
-
--- the sheet of a check: what was read, and none where 18 comes first
-unfoldable pub judgedSheet : List ℕ → ℕ → Sheet
-judgedSheet s len = pick (leb len memoryLimit) (readSheet s .sheet) emptySheet

@@ -3,7 +3,7 @@ pub mod checks;
 pub mod windows;
 
 ghost use mathlib.Core.Path.{_≡_};
-ghost use Rattle.checking.specs.Checking.{checkRefused, checkedSheet, judgedSheet};
+ghost use Rattle.checking.specs.Checking.{admitted, checkedSheet};
 use refusals::MEMORY_TOO_LARGE;
 use refusals::Refusal;
 use refusals::Stop;
@@ -12,6 +12,7 @@ use sheet::Sheet;
 use sheet::sizes::MEMORY_LIMIT;
 use sheet::sizes::REGISTERS;
 use sheet_ranges::sheets;
+use sheet_reader::ReadAnswer;
 
 // What the check of a step tells: its refusal, or the types that it leaves and how many of its elements have a byte.
 pub struct StepCheck {
@@ -32,32 +33,32 @@ pub struct Judged {
     pub sheet: Sheet,
 }
 
-fn judged_refused(refusal: Refusal, sheet: Sheet) -> Judged
-    ensures { λ r. ⌜ r .answer ≡ checkRefused refusal ⌝ }
-    ensures { λ r. ⌜ r .sheet ≡ sheet ⌝ }
-{
-    Judged {
-        answer: checks::check_refused(refusal),
-        sheet,
-    }
-}
-
-// 18, the sheet's reading, and its check: what carrying out and translating begin with.
-pub fn judge(sheet: &[u8], memory_len: usize) -> Judged
-    ensures { λ r. ⌜ r .answer ≡ checkedSheet (now (sheet .entry)) «memory_len» ⌝ }
-    ensures { λ r. ⌜ r .sheet ≡ judgedSheet (now (sheet .entry)) «memory_len» ⌝ }
+// 18, then the sheet's reading: what every job on a sheet for a memory begins with.
+pub fn admit(sheet: &[u8], memory_len: usize) -> ReadAnswer
+    ensures { λ r. ⌜ r ≡ admitted (now (sheet .entry)) «memory_len» ⌝ }
 {
     if MEMORY_LIMIT < memory_len {
-        return judged_refused(
-            refusals::refusal_at(MEMORY_TOO_LARGE, 0, 0),
-            sheets::empty_sheet(),
-        );
+        return ReadAnswer {
+            refusal: refusals::refusal_at(MEMORY_TOO_LARGE, 0, 0),
+            sheet: sheets::empty_sheet(),
+        };
     }
-    let read = sheet_reader::read_sheet(sheet);
+    sheet_reader::read_sheet(sheet)
+}
+
+// The sheet admitted and checked: what carrying out and translating begin with.
+pub fn judge(sheet: &[u8], memory_len: usize) -> Judged
+    ensures { λ r. ⌜ r .answer ≡ checkedSheet (now (sheet .entry)) «memory_len» ⌝ }
+    ensures { λ r. ⌜ r .sheet ≡ admitted (now (sheet .entry)) «memory_len» .sheet ⌝ }
+{
+    let read = admit(sheet, memory_len);
     let refusal = read.refusal;
     let model = read.sheet;
     if 0 < refusal.number {
-        return judged_refused(refusal, model);
+        return Judged {
+            answer: checks::check_refused(refusal),
+            sheet: model,
+        };
     }
     let answer = checks::check(model, memory_len);
     Judged {

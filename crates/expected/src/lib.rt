@@ -60,12 +60,12 @@ fn event_of(step: usize, element: usize, o: Outcome) -> Event
     }
 }
 
-// The event of an element by its entry of a survey, where filled elements take these bits.
-pub fn listed_event(entries: &[u32; PLACES], fill: u32, step: usize, element: usize) -> Event
+// The event of an element by its entry of a survey.
+pub fn listed_event(entries: &[u32; PLACES], step: usize, element: usize) -> Event
     requires { ⌜ (step < 65536) × (element < matrixPlaces) ⌝ }
-    ensures { λ r. ⌜ r ≡ listedEvent step (now (entries .entry)) fill element ⌝ }
+    ensures { λ r. ⌜ r ≡ listedEvent step (now (entries .entry)) element ⌝ }
 {
-    event_of(step, element, accesses::outcome_of(entries[element], fill))
+    event_of(step, element, accesses::outcome_of(entries[element], 0))
 }
 
 fn no_outcomes() -> Outcomes
@@ -84,7 +84,7 @@ pub fn survey_step(
 ) -> Outcomes
     requires { ⌜ ClearStep tensors types memory step × (length (now entries) ≡ matrixPlaces) ⌝ }
     ensures { λ _. ⌜ length (now (entries .exit)) ≡ matrixPlaces ⌝ }
-    ensures { λ r. ⌜ StepListed tensors types memory step (now (entries .exit)) r ⌝ }
+    ensures { λ r. ⌜ StepListed tensors types memory step (now (entries .exit)) (r .count) ⌝ }
 {
     match step {
         Step::Nothing => no_outcomes(),

@@ -10,7 +10,7 @@ ghost use Rattle.expected.specs.Listed.{listedEvents};
 ghost use Rattle.replaying.specs.Verdicts.{verdictAt};
 ghost use Rattle.replaying.specs.Replaying.{replayRefused, replayed};
 ghost use Rattle.replaying.specs.Matching.{matched, goesOn, matchOne, matchAll};
-use accepted::Outcomes;
+use accesses::clashes;
 use checking::checks;
 use refusals::Refusal;
 use sheet::Sheet;
@@ -36,6 +36,12 @@ pub struct ReplayAnswer {
 pub struct Matched {
     pub index: usize,
     pub count: usize,
+}
+
+// What the check of a sheet refuses, and the events that came before.
+pub struct Compared {
+    pub refusal: Refusal,
+    pub events: Matched,
 }
 
 // The trace goes on with an event: all before are in it, and its next is this one.
@@ -68,51 +74,72 @@ fn match_event(trace: &[u8], m: Matched, e: Event) -> Matched
     }
 }
 
-// The events of a step, from the entries of its survey.
+// The events of a step, from the entries of its elements.
 fn match_events(
     trace: &[u8],
     before: Matched,
     entries: &[u32; PLACES],
-    o: Outcomes,
+    count: usize,
     step: usize,
 ) -> Matched
-    requires { ⌜ (before .index ≤ before .count) × (before .count + o .count ≤ stepPlaces * matrixPlaces) × (step < stepPlaces) × (o .count ≤ matrixPlaces) ⌝ }
-    ensures { λ r. ⌜ r ≡ matchAll (eventsIn (now (trace .entry))) before (listedEvents step (now (entries .entry)) (o .fill) (o .count)) ⌝ }
+    requires { ⌜ (before .index ≤ before .count) × (before .count + count ≤ stepPlaces * matrixPlaces) × (step < stepPlaces) × (count ≤ matrixPlaces) ⌝ }
+    ensures { λ r. ⌜ r ≡ matchAll (eventsIn (now (trace .entry))) before (listedEvents step (now (entries .entry)) count) ⌝ }
 {
-    let count = o.count;
-    let fill = o.fill;
     let mut m = before;
     let mut k: usize = 0;
     while k < count {
-        let e = expected::listed_event(entries, fill, step, k);
+        let e = expected::listed_event(entries, step, k);
         m = match_event(trace, m, e);
         k += 1;
     }
     m
 }
 
-// The steps in order, from empty registers.
-fn match_trace(trace: &[u8], sheet: Sheet, memory: usize) -> Matched
-    requires { ⌜ Within sheet × (memory ≤ memoryLimit) × (checked sheet memory .refusal .number ≡ 0) ⌝ }
-    ensures { λ r. ⌜ r ≡ matchAll (eventsIn (now (trace .entry))) (matched 0 0) (expected sheet memory) ⌝ }
+// The steps in order, from empty registers: each is checked, and its events are matched with what its check left in the entries, so that no
+// element is located twice.
+fn match_sheet(trace: &[u8], sheet: Sheet, memory: usize) -> Compared
+    requires { ⌜ Within sheet × (memory ≤ memoryLimit) ⌝ }
+    ensures { λ r. ⌜ r .refusal ≡ checked sheet memory .refusal ⌝ }
+    ensures { λ r. ⌜ (r .refusal .number ≡ 0 → r .events ≡ matchAll (eventsIn (now (trace .entry))) (matched 0 0) (expected sheet memory)) ⌝ }
 {
     let none = registers::no_type();
+    let edition = sheet.edition;
     let tensors = sheet.tensors;
     let steps = sheet.steps;
     let mut entries = accesses::no_entries();
+    let mut marks = clashes::no_marks();
     let mut types = [none; REGISTERS];
     let mut m = Matched { index: 0, count: 0 };
     let mut k: usize = 0;
     while k < steps {
         let c = sheet.step[k];
         let step = c.step;
-        let o = expected::survey_step(&mut entries, tensors, types, memory, step);
-        m = match_events(trace, m, &entries, o, k);
-        let after = checks::step_types(types, step);
+        let got = checks::check_step(
+            &mut entries,
+            &mut marks,
+            edition,
+            tensors,
+            types,
+            memory,
+            step,
+        );
+        let stop = got.stop;
+        if 0 < stop.number {
+            return Compared {
+                refusal: refusals::refusal_at(stop.number, k, stop.element),
+                events: m,
+            };
+        }
+        let count = expected::count_events(types, step);
+        m = match_events(trace, m, &entries, count, k);
+        let after = got.types;
         types = after;
         k += 1;
     }
-    m
+    Compared {
+        refusal: refusals::not_refused(),
+        events: m,
+    }
 }
 
 // The verdict on a trace of so many events.
@@ -138,13 +165,18 @@ fn replay_refused(refusal: Refusal) -> ReplayAnswer
     }
 }
 
-// Agrees exactly when the trace is the complete list of the outcomes of the sheet's loads and stores. The trace is judged to its end
-// before it is compared, and nothing of its length is kept.
+// Agrees exactly when the trace is the complete list of the outcomes of the sheet's loads and stores. Nothing of the trace's length is
+// kept; it is judged to its end before the comparison counts.
 pub fn replay(sheet: &[u8], memory_len: usize, trace: &[u8]) -> ReplayAnswer
     ensures { λ r. ⌜ r ≡ replayed (now (sheet .entry)) «memory_len» (now (trace .entry)) ⌝ }
 {
-    let judged = checking::judge(sheet, memory_len);
-    let found = judged.answer;
+    let read = checking::admit(sheet, memory_len);
+    let unread = read.refusal;
+    if 0 < unread.number {
+        return replay_refused(unread);
+    }
+    let model = read.sheet;
+    let found = match_sheet(trace, model, memory_len);
     let refused = found.refusal;
     if 0 < refused.number {
         return replay_refused(refused);
@@ -153,8 +185,7 @@ pub fn replay(sheet: &[u8], memory_len: usize, trace: &[u8]) -> ReplayAnswer
     if 0 < misread.number {
         return replay_refused(misread);
     }
-    let model = judged.sheet;
-    let m = match_trace(trace, model, memory_len);
+    let m = found.events;
     ReplayAnswer {
         refusal: refusals::not_refused(),
         verdict: verdict_at(m, trace.len() / EVENT_LEN),

@@ -11,7 +11,6 @@ ghost use Rattle.traces.specs.Writing.{traceBytes};
 ghost use Rattle.expected.specs.Expected.{expected};
 ghost use Rattle.expected.specs.Listed.{listedEvents};
 ghost use Rattle.tracing.specs.Tracing.{traceAnswer, traced, tracedRoom};
-use accepted::Outcomes;
 use checking::checks;
 use refusals::ROOM_TOO_SHORT;
 use refusals::Refusal;
@@ -48,15 +47,13 @@ fn count_trace(sheet: Sheet) -> usize
 }
 
 // Writes the fields of a step's events from byte `at` on.
-fn write_events(out: &mut [u8], at: usize, entries: &[u32; PLACES], o: Outcomes, step: usize)
-    requires { ⌜ (at + o .count * eventLength ≤ length (now out)) × (step < stepPlaces) × (o .count ≤ matrixPlaces) ⌝ }
-    ensures { λ _. ⌜ now (out .exit) ≡ sets (now (out .entry)) at (traceBytes (listedEvents step (now (entries .entry)) (o .fill) (o .count))) ⌝ }
+fn write_events(out: &mut [u8], at: usize, entries: &[u32; PLACES], count: usize, step: usize)
+    requires { ⌜ (at + count * eventLength ≤ length (now out)) × (step < stepPlaces) × (count ≤ matrixPlaces) ⌝ }
+    ensures { λ _. ⌜ now (out .exit) ≡ sets (now (out .entry)) at (traceBytes (listedEvents step (now (entries .entry)) count)) ⌝ }
 {
-    let count = o.count;
-    let fill = o.fill;
     let mut k: usize = 0;
     while k < count {
-        let e = expected::listed_event(entries, fill, step, k);
+        let e = expected::listed_event(entries, step, k);
         traces::put_event(out, at + k * EVENT_LEN, e);
         k += 1;
     }
@@ -79,7 +76,7 @@ fn write_trace(out: &mut [u8], sheet: Sheet, memory: usize)
         let c = sheet.step[k];
         let step = c.step;
         let o = expected::survey_step(&mut entries, tensors, types, memory, step);
-        write_events(out, at, &entries, o, k);
+        write_events(out, at, &entries, o.count, k);
         at += o.count * EVENT_LEN;
         let after = checks::step_types(types, step);
         types = after;

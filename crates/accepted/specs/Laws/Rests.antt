@@ -20,6 +20,21 @@ use Rattle.checking.specs.Laws.Turns.{first-clear, rest-clear, one-less, within
 use Rattle.accepted.specs.Accepted.{ClearStep}
 use Rattle.accepted.specs.Passes.{passFrom, pass, passRest}
 
+module _ {A : Type 0} (f : List MatrixType → ℕ → Step → List A) (sh : Sheet) (len : ℕ) where
+  pub pass-start : passRest f sh len 0 (emptyRegisters .types) ≡ pass f sh len
+  pass-start = rw (sub-zero (sh .steps)) refl
+
+  pub pass-end : (k : ℕ) (ts : List MatrixType) → sh .steps ≤ k → passRest f sh len k ts ≡ []
+  unfolding passFrom
+  pass-end k ts h = let e : sh .steps - k ≡ 0 = omega arith in rw e refl
+
+-- what step k gives, and the others
+pub pass-on : {A : Type 0} (f : List MatrixType → ℕ → Step → List A) (sh : Sheet) (len k : ℕ) (ts : List MatrixType) → k < sh .steps → {after : List MatrixType}
+    → after ≡ checkedStep (sh .edition) (sh .tensors) ts len (theStep (sh .step) k) .types
+    → passRest f sh len k ts ≡ f ts k (theStep (sh .step) k) ++ passRest f sh len (k + 1) after
+unfolding passFrom
+pass-on f sh len k ts h e = rw (one-less (sh .steps) k h, e) refl
+
 -- types from which the check of the steps from number k on refuses none
 pub record Rest (sh : Sheet) (len k : ℕ) (ts : List MatrixType) : Type 0 where
   pub sized : Sized ts
@@ -62,15 +77,5 @@ module _ (sh : Sheet) (w : Within sh) (len : ℕ) (few : len ≤ memoryLimit) (k
           clear = rw (rest-clear left sh len k ts (r .counted) first) at clear;
         })
 
-    -- what it gives, and the others
     pub pass-go : {A : Type 0} (f : List MatrixType → ℕ → Step → List A) → passRest f sh len k ts ≡ f ts k (theStep (sh .step) k) ++ passRest f sh len (k + 1) after
-    unfolding passFrom
-    pass-go f = rw (one-less (sh .steps) k h, types) refl
-
-module _ {A : Type 0} (f : List MatrixType → ℕ → Step → List A) (sh : Sheet) (len : ℕ) where
-  pub pass-start : passRest f sh len 0 (emptyRegisters .types) ≡ pass f sh len
-  pass-start = rw (sub-zero (sh .steps)) refl
-
-  pub pass-end : (k : ℕ) (ts : List MatrixType) → sh .steps ≤ k → passRest f sh len k ts ≡ []
-  unfolding passFrom
-  pass-end k ts h = let e : sh .steps - k ≡ 0 = omega arith in rw e refl
+    pass-go f = pass-on f sh len k ts h types

@@ -1,18 +1,19 @@
 -- What is known of a sheet that is not refused for a memory of a length.
-use Prim.Native.Nat.{ℕ, _≤_}
-use mathlib.Core.Path.{_≡_, sym, ap, _∙_}
+use Prim.Native.Nat.{ℕ, _<_, _≤_}
+use mathlib.Core.Path.{_≡_, refl, sym, ap, _∙_}
 use mathlib.Core.List.{List}
 use native.Mathlib.Omega.{arith}
-use borrow.Author.Tests.{eqb-true, eqb-false, leb-true, le-leb}
+use borrow.Author.Tests.{eqb-true, eqb-false, eq-eqb, ne-eqb, leb-true, le-leb, lt-leb}
 use lib.Dec.{eqb, leb}
 use Rattle.numbers.specs.Choice.{pick}
-use Rattle.numbers.specs.Laws.Choice.{pick-case}
+use Rattle.numbers.specs.Laws.Choice.{pick-case, by-order}
+use Rattle.refusals.specs.Refusals.{memoryTooLarge}
 use Rattle.sheet.specs.declared.Sheet.{Sheet}
 use Rattle.sheet_reader.specs.Reading.{readSheet}
 use Rattle.sheet.specs.Sizes.{memoryLimit}
 use Rattle.sheet_ranges.specs.Laws.Within.{Within}
 use Rattle.sheet_reader.specs.Laws.Growing.{read-within}
-use Rattle.checking.specs.Checking.{checked, checkedSheet, judgedSheet}
+use Rattle.checking.specs.Checking.{checkRefused, admitted, checked, checkedSheet}
 use Rattle.checking.specs.declared.CheckAnswer.{CheckAnswer}
 
 pub record Readable (s : List ℕ) (len : ℕ) : Type 0 where
@@ -36,8 +37,39 @@ sheet-readable s len =
     P c = c .refusal .number ≡ 0 → Readable s len
 
 -- then its sheet is what was read
-pub judged-read : (s : List ℕ) (len : ℕ) {c : CheckAnswer} {sh : Sheet} → c ≡ checkedSheet s len → sh ≡ judgedSheet s len → c .refusal .number ≡ 0 → sh ≡ readSheet s .sheet
-unfolding judgedSheet pick
+pub judged-read : (s : List ℕ) (len : ℕ) {c : CheckAnswer} {sh : Sheet} → c ≡ checkedSheet s len → sh ≡ admitted s len .sheet → c .refusal .number ≡ 0 → sh ≡ readSheet s .sheet
+unfolding admitted pick
 judged-read s len e is fine =
     let r = sheet-readable s len (ap (λ (x : CheckAnswer). x .refusal .number) (sym e) ∙ fine) in
     rw (le-leb len memoryLimit (r .few)) at is
+
+-- a sheet that is not admitted is refused so by its check
+module _ (s : List ℕ) (len : ℕ) where
+  pub admitted-refused : 0 < admitted s len .refusal .number → checkedSheet s len ≡ checkRefused (admitted s len .refusal)
+  unfolding admitted checkedSheet pick
+  admitted-refused h =
+      by-order memoryLimit len (λ l. rw (lt-leb len memoryLimit l))
+      (λ l.
+      let n : 0 < readSheet s .refusal .number = rw (le-leb len memoryLimit l) at h in
+      rw (le-leb len memoryLimit l, ne-eqb (readSheet s .refusal .number) 0 (λ e. omega arith)))
+
+  -- one that is admitted is within Sizes, and its check is that of its steps
+  pub record Admitted : Type 0 where
+    pub few : len ≤ memoryLimit
+    pub within : Within (admitted s len .sheet)
+    pub same : admitted s len .sheet ≡ readSheet s .sheet
+    pub check : checkedSheet s len ≡ checked (admitted s len .sheet) len
+
+  pub is-admitted : admitted s len .refusal .number ≡ 0 → Admitted
+  unfolding admitted checkedSheet pick
+  is-admitted h =
+      by-order memoryLimit len
+      (λ l. let z : memoryTooLarge ≡ 0 = rw (lt-leb len memoryLimit l) at h in absurd (omega arith))
+      (λ l.
+      let n : readSheet s .refusal .number ≡ 0 = rw (le-leb len memoryLimit l) at h in
+      record {
+        few = l;
+        within = rw (le-leb len memoryLimit l) (read-within s n);
+        same = rw (le-leb len memoryLimit l) refl;
+        check = rw (le-leb len memoryLimit l, eq-eqb (readSheet s .refusal .number) 0 n) refl;
+      })

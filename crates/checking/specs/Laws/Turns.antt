@@ -1,11 +1,11 @@
 -- The check of n steps more, the next of which is number k.
-use Prim.Native.Nat.{ℕ, suc, _+_, _-_, _<_, zero}
+use Prim.Native.Nat.{ℕ, zero, suc, _+_, _-_, _<_, _≤_}
 use mathlib.Core.Path.{_≡_}
-use mathlib.Core.Bool.{true}
+use mathlib.Core.Bool.{true, false}
 use mathlib.Core.List.{List, [], _∷_}
 use native.Mathlib.Omega.{arith}
 use lib.Dec.{eqb}
-use borrow.Author.Tests.{eqb-true, eq-eqb}
+use borrow.Author.Tests.{eqb-true, eq-eqb, ne-eqb}
 use Rattle.numbers.specs.Choice.{pick}
 use Rattle.numbers.specs.Laws.Choice.{pick-case}
 use Rattle.sheet_ranges.specs.Steps.{theStep, stepOk}
@@ -15,7 +15,8 @@ use Rattle.registers.specs.Types.{noType}
 use Rattle.registers.specs.Registers.{emptyRegisters}
 use Rattle.registers.specs.declared.MatrixType.{MatrixType}
 use Rattle.checking.specs.Steps.{checkedStep}
-use Rattle.checking.specs.Checking.{checkedFrom}
+use Rattle.refusals.specs.Refusals.{refusalAt, notRefused}
+use Rattle.checking.specs.Checking.{checkRefused, checkedFrom, checked}
 use Rattle.checking.specs.declared.StepCheck.{StepCheck}
 use Rattle.checking.specs.declared.CheckAnswer.{CheckAnswer}
 
@@ -51,3 +52,24 @@ module _ (n : ℕ) (sh : Sheet) (len k : ℕ) (ts : List MatrixType) (count : �
 -- a step of a sheet within Sizes keeps to them
 pub within-step : (sh : Sheet) → Within sh → (k : ℕ) → k < sh .steps → stepOk (sh .edition) (sh .tensors .layouts) (sh .tensors .views) (theStep (sh .step) k) ≡ true
 within-step sh w k h = w .step .given k h
+
+-- the turns of a loop over the steps
+pub checked-start : (sh : Sheet) (len : ℕ) → checkedFrom (sh .steps - 0) sh len 0 (emptyRegisters .types) 0 ≡ checked sh len
+unfolding checked
+checked-start sh len = let e : sh .steps - 0 ≡ sh .steps = omega arith in rw e
+
+-- a turn: the check of step k goes on or refuses; after the last step the count is the answer
+module _ (n : ℕ) (sh : Sheet) (len k : ℕ) (ts : List MatrixType) (count : ℕ) where
+  pub checked-end : n ≤ k → record { refusal = notRefused; count = count } ≡ checkedFrom (n - k) sh len k ts count
+  unfolding checkedFrom
+  checked-end h = let e : n - k ≡ 0 = omega arith in rw e
+
+  module _ (c : StepCheck) (is : c ≡ checkedStep (sh .edition) (sh .tensors) ts len (theStep (sh .step) k)) (h : k < n) where
+    pub checked-go : c .stop .number ≡ 0 → checkedFrom (n - (k + 1)) sh len (k + 1) (c .types) (count + c .placed) ≡ checkedFrom (n - k) sh len k ts count
+    unfolding checkedFrom pick
+    checked-go e = rw (one-less n k h, ← is, eq-eqb (c .stop .number) 0 e)
+
+    pub checked-stop : 0 < c .stop .number → checkRefused (refusalAt (c .stop .number) k (c .stop .element)) ≡ checkedFrom (n - k) sh len k ts count
+    unfolding checkedFrom pick
+    checked-stop p =
+        let e : eqb (c .stop .number) 0 ≡ false = ne-eqb (c .stop .number) 0 (λ z. omega arith) in rw (one-less n k h, ← is, e)

@@ -20,7 +20,7 @@ outcome-of-requires c κs = search needs
 event-of-requires : tie.Need-event-of-requires
 event-of-requires c κs =
     let s = c .before .before in
-    (s .pre .0, omega arith, rw (c .outcome-of .ensures) (entry-near (s .args .fill) (getD (now (s .args .entries)) (s .args .element) 0)))
+    (s .pre .0, omega arith, rw (c .outcome-of .ensures) (entry-near 0 (getD (now (s .args .entries)) (s .args .element) 0)))
 
 returns : tie.Need-returns
 returns c =

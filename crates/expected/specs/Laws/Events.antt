@@ -1,5 +1,5 @@
 -- The events of a step: those that its survey lists, and how many there are.
-use Prim.Native.Nat.{ℕ, _-_, _*_}
+use Prim.Native.Nat.{ℕ, _-_, _*_, _<_, _≤_}
 use mathlib.Core.Path.{_≡_, refl, sym, ap, _∙_}
 use mathlib.Core.Bool.{Bool, true, false}
 use mathlib.Core.List.{List, [], _∷_}
@@ -8,7 +8,8 @@ use borrow.Author.Tests.{ltb-true, eqb-false}
 use lib.Dec.{eqb, ltb}
 use lib.ListN.{length, getD}
 use Rattle.numbers.specs.Lists.{each}
-use Rattle.numbers.specs.Laws.Choice.{pick-case}
+use Rattle.numbers.specs.Choice.{pick}
+use Rattle.numbers.specs.Laws.Choice.{pick-case, by-test}
 use Rattle.numbers.specs.Laws.Joins.{each-same, length-each}
 use Rattle.outcomes.specs.declared.Outcome.{Outcome}
 use Rattle.outcomes.specs.declared.Outcome.the-variants.{Skipped, Filled, Discarded, Placed}
@@ -20,10 +21,12 @@ use Rattle.sheet.specs.declared.Step.{Step}
 use Rattle.sheet.specs.declared.Step.the-variants.{Nothing, Load, Store, Whole}
 use Rattle.registers.specs.Types.{theType}
 use Rattle.registers.specs.declared.MatrixType.{MatrixType}
-use Rattle.addressing.specs.Rules.{elementsOf}
+use Rattle.addressing.specs.Rules.{elementsOf, lowBits}
 use Rattle.addressing.specs.declared.Access.{Access}
-use Rattle.accesses.specs.Entries.{Near, filledEntry, entryOutcome}
+use Rattle.accesses.specs.Entries.{Near, filledEntry, entryOutcome, Told}
+use Rattle.transfers.specs.Transfers.{outcomeOf}
 use Rattle.checking.specs.Steps.{accessOf, objectRegister}
+use Rattle.checking.specs.Told.{StepTold}
 use Rattle.accepted.specs.Accepted.{entriesOutcome, Listed}
 use Rattle.accepted.specs.declared.Outcomes.{Outcomes}
 use Rattle.traces.specs.declared.Event.{Event}
@@ -42,42 +45,70 @@ pub access-count : (k : ℕ) (a : Access) → length (accessEvents k a) ≡ elem
 unfolding accessEvents
 access-count k a = length-each 1 (elementsOf a) _ (λ e h. refl) ∙ omega arith
 
-listed-count : (k : ℕ) (entries : List ℕ) (fill n : ℕ) → length (listedEvents k entries fill n) ≡ n
+listed-count : (k : ℕ) (entries : List ℕ) (n : ℕ) → length (listedEvents k entries n) ≡ n
 unfolding listedEvents
-listed-count k entries fill n = length-each 1 n _ (λ e h. refl) ∙ omega arith
+listed-count k entries n = length-each 1 n _ (λ e h. refl) ∙ omega arith
 
 -- a step has as many events as its survey counts
-pub step-count : {tensors : Tensors} {ts : List MatrixType} {len : ℕ} {step : Step} {entries : List ℕ} {o : Outcomes} → StepListed tensors ts len step entries o
-    → (k : ℕ) → o .count ≡ length (stepEvents tensors ts len k step)
-step-count {entries = entries} {o = o} l k = sym (listed-count k entries (o .fill) (o .count)) ∙ ap length (l .same k)
+pub step-count : {tensors : Tensors} {ts : List MatrixType} {len : ℕ} {step : Step} {entries : List ℕ} {n : ℕ} → StepListed tensors ts len step entries n
+    → (k : ℕ) → n ≡ length (stepEvents tensors ts len k step)
+step-count {entries = entries} {n = n} l k = sym (listed-count k entries n) ∙ ap length (l .same k)
 
-module _ (k : ℕ) (a : Access) {entries : List ℕ} {o : Outcomes} (l : Listed a entries o) where
-  pub access-listed : listedEvents k entries (o .fill) (o .count) ≡ accessEvents k a
-  unfolding listedEvents accessEvents
-  access-listed =
-      rw (l .count)
-      (each-same (elementsOf a) _ _ (λ e h. rw (l .each e h)))
+-- the bits of a filled element do not show
+same-event : (k e f g x : ℕ) → eventOf k e (entryOutcome f x) ≡ eventOf k e (entryOutcome g x)
+unfolding entryOutcome pick
+same-event k e f g x =
+    by-test (eqb x 0) (λ a. rw a)
+    (λ a. by-test (ltb x filledEntry) (λ b. rw (a, b)) (λ b. by-test (eqb x filledEntry) (λ c. rw (a, b, c)) (λ c. rw (a, b, c))))
 
-module _ (tensors : Tensors) (ts : List MatrixType) (len : ℕ) {entries : List ℕ} {o : Outcomes} where
+-- entries that stand for an access's outcomes, where filled elements take these bits
+access-listed : (k : ℕ) (a : Access) (fill : ℕ) (entries : List ℕ) → ((e : ℕ) → e < elementsOf a → entriesOutcome entries fill e ≡ outcomeOf a e)
+    → listedEvents k entries (elementsOf a) ≡ accessEvents k a
+unfolding listedEvents accessEvents
+access-listed k a fill entries same =
+    each-same (elementsOf a) _ _
+    (λ e h. ap (λ (x : Event). x ∷ []) (same-event k e 0 fill (getD entries e 0) ∙ ap (eventOf k e) (same e h)))
+
+module _ (tensors : Tensors) (ts : List MatrixType) (len : ℕ) {entries : List ℕ} {n : ℕ} where
   -- a step without events
-  pub nothing-listed : o .count ≡ 0 → StepListed tensors ts len Nothing entries o
+  pub nothing-listed : n ≡ 0 → StepListed tensors ts len Nothing entries n
   unfolding listedEvents stepEvents each
   nothing-listed e = record { few = omega arith; same = λ k. rw e }
 
-  pub whole-listed : (whole : _) → o .count ≡ 0 → StepListed tensors ts len (Whole whole) entries o
+  pub whole-listed : (whole : _) → n ≡ 0 → StepListed tensors ts len (Whole whole) entries n
   unfolding listedEvents stepEvents each
   whole-listed whole e = record { few = omega arith; same = λ k. rw e }
 
-  module _ (register : ℕ) (window : Window) where
-    pub load-listed : (object : Object) {t : MatrixType} → t ≡ theType ts (objectRegister register object)
-        → Listed (accessOf tensors true window t len) entries o → StepListed tensors ts len (Load register object window) entries o
-    unfolding stepEvents
-    load-listed object so l = record { few = l .few; same = λ k. rw so at (access-listed k _ l) }
+-- what a survey lists
+surveyed-access : (k : ℕ) (a : Access) {entries : List ℕ} {o : Outcomes} → Listed a entries o → listedEvents k entries (o .count) ≡ accessEvents k a
+surveyed-access k a {entries} {o} l = rw (l .count) (access-listed k a (o .fill) entries (l .each))
 
-    pub store-listed : {t : MatrixType} → t ≡ theType ts register
-        → Listed (accessOf tensors false window t len) entries o → StepListed tensors ts len (Store register window) entries o
-    unfolding stepEvents
-    store-listed so l = record { few = l .few; same = λ k. rw so at (access-listed k _ l) }
+module _ (tensors : Tensors) (ts : List MatrixType) (len register : ℕ) (window : Window) {entries : List ℕ} {o : Outcomes} where
+  pub load-listed : (object : Object) {t : MatrixType} → t ≡ theType ts (objectRegister register object)
+      → Listed (accessOf tensors true window t len) entries o → StepListed tensors ts len (Load register object window) entries (o .count)
+  unfolding stepEvents
+  load-listed object so l = record { few = l .few; same = λ k. rw so at (surveyed-access k _ l) }
+
+  pub store-listed : {t : MatrixType} → t ≡ theType ts register
+      → Listed (accessOf tensors false window t len) entries o → StepListed tensors ts len (Store register window) entries (o .count)
+  unfolding stepEvents
+  store-listed so l = record { few = l .few; same = λ k. rw so at (surveyed-access k _ l) }
+
+-- what the check of an accepted step leaves
+told-access : (k : ℕ) (a : Access) (entries : List ℕ) (n : ℕ) → n ≡ length (accessEvents k a) → Told a entries → listedEvents k entries n ≡ accessEvents k a
+told-access k a entries n e told = rw (e ∙ access-count k a) (access-listed k a (lowBits a) entries told)
+
+told-same : (tensors : Tensors) (ts : List MatrixType) (len k : ℕ) (step : Step) (entries : List ℕ) (n : ℕ) → n ≡ length (stepEvents tensors ts len k step)
+    → StepTold tensors ts len step entries → listedEvents k entries n ≡ stepEvents tensors ts len k step
+unfolding stepEvents listedEvents each
+told-same tensors ts len k Nothing entries n e told = rw e
+told-same tensors ts len k (Load register object window) entries n e told = told-access k _ entries n e told
+told-same tensors ts len k (Store register window) entries n e told = told-access k _ entries n e told
+told-same tensors ts len k (Whole whole) entries n e told = rw e
+
+pub told-listed : {tensors : Tensors} {ts : List MatrixType} {len : ℕ} {step : Step} {entries : List ℕ} {n : ℕ} → n ≤ matrixPlaces
+    → ((k : ℕ) → n ≡ length (stepEvents tensors ts len k step)) → StepTold tensors ts len step entries → StepListed tensors ts len step entries n
+told-listed few count told = record { few = few; same = λ k. told-same _ _ _ k _ _ _ (count k) told }
 
 module _ (tensors : Tensors) (ts : List MatrixType) (len k register : ℕ) (window : Window) where
   pub load-count : (object : Object) {t : MatrixType} {n : ℕ} → t ≡ theType ts (objectRegister register object) → n ≡ t .rows * t .columns

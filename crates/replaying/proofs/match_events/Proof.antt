@@ -14,11 +14,11 @@ use Rattle.replaying.proofs.match_events.Statement.{statement}
 use Rattle.replaying.proofs.match_events.Tie as tie
 
 abbrev Inv-loop : tie.InvT-loop
-Inv-loop trace entries step count fill m₀ k₀ m k =
-    (k ≤ count) × (m ≡ matchAll (eventsIn trace) m₀ (each k (λ (e : ℕ). listedEvent step entries fill e ∷ [])))
+Inv-loop trace entries count step m₀ k₀ m k =
+    (k ≤ count) × (m ≡ matchAll (eventsIn trace) m₀ (each k (λ (e : ℕ). listedEvent step entries e ∷ [])))
 
 abbrev μ-loop : tie.MeasureT-loop
-μ-loop trace entries step count fill m₀ k₀ m k = count - k
+μ-loop trace entries count step m₀ k₀ m k = count - k
 
 loop-holds : tie.Need-loop-holds Inv-loop μ-loop
 loop-holds c = (omega arith, match-none _ _ _)
@@ -33,9 +33,9 @@ match-event-requires c κs =
     let s = c .before .before .before .before in
     let a = s .args in
     let l = c .before .before .loop in
-    let passed = each (l .k) (λ (e : ℕ). listedEvent (a .step) (now (a .entries)) (a .o .fill) e ∷ []) in
+    let passed = each (l .k) (λ (e : ℕ). listedEvent (a .step) (now (a .entries)) e ∷ []) in
     let ys = eventsIn (now (a .trace)) in
-    let n : length passed ≡ l .k = length-each 1 (l .k) (λ (e : ℕ). listedEvent (a .step) (now (a .entries)) (a .o .fill) e ∷ []) (λ e h. refl) ∙ omega arith in
+    let n : length passed ≡ l .k = length-each 1 (l .k) (λ (e : ℕ). listedEvent (a .step) (now (a .entries)) e ∷ []) (λ e h. refl) ∙ omega arith in
     rw (l .inv .1) (match-ordered ys (a .before) passed (s .pre .0), omega (arith, match-count ys (a .before) passed, n, c .before .loop-test .taken, s .pre .1))
 
 add-k : tie.Need-add-k Inv-loop μ-loop
@@ -50,14 +50,14 @@ loop-again c =
     let l = c .before .before .before .loop in (
       omega (arith, c .before .before .loop-test .taken),
       c .match-event .ensures
-          ∙ rw (l .inv .1, c .before .listed-event .ensures) (match-more (eventsIn (now (a .trace))) (a .before) (listedEvent (a .step) (now (a .entries)) (a .o .fill)) (l .k)),
+          ∙ rw (l .inv .1, c .before .listed-event .ensures) (match-more (eventsIn (now (a .trace))) (a .before) (listedEvent (a .step) (now (a .entries))) (l .k)),
     )
 
 returns : tie.Need-returns Inv-loop μ-loop
 unfolding listedEvents
 returns c =
     let l = c .before .loop in
-    let e : l .k ≡ c .before .before .before .args .o .count = omega (arith, l .inv .0, c .loop-test .left) in
+    let e : l .k ≡ c .before .before .before .args .count = omega (arith, l .inv .0, c .loop-test .left) in
     rw e at (l .inv .1)
 
 pub match-events-spec : {M : Type 1} → statement M

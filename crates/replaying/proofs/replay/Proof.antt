@@ -1,6 +1,10 @@
-use mathlib.Core.Path.{_≡_, sym, ap, _∙_}
 use denote.Ref.{now}
-use Rattle.checking.specs.Laws.Readable.{sheet-readable, judged-read}
+use mathlib.Core.Path.{_≡_, sym, ap, _∙_}
+use Prim.Native.Nat.{_<_}
+use Rattle.refusals.specs.declared.Refusal.{Refusal}
+use Rattle.sheet_reader.specs.declared.ReadAnswer.{ReadAnswer}
+use Rattle.checking.specs.Checking.{admitted, checked}
+use Rattle.checking.specs.Laws.Readable.{admitted-refused, is-admitted}
 use Rattle.checking.specs.declared.CheckAnswer.{CheckAnswer}
 use Rattle.replaying.proofs.Laws.{sheet-refused, trace-refused, both-compared}
 use native.Mathlib.Omega.{arith}
@@ -8,39 +12,61 @@ use borrow.Author.Needs.{needs}
 use Rattle.replaying.proofs.replay.Statement.{statement}
 use Rattle.replaying.proofs.replay.Tie as tie
 
-judge-requires : tie.Need-judge-requires
-judge-requires c κs = search needs
+abbrev refusal : CheckAnswer → Refusal
+refusal x = x .refusal
+
+admit-requires : tie.Need-admit-requires
+admit-requires c κs = search needs
 
 replay-refused-requires : tie.Need-replay-refused-requires
 replay-refused-requires c κs = search needs
 
 returns : tie.Need-returns
 returns c =
-    let a = c .before .before .before .before .before .before .before .before .args in
-    c .replay-refused .ensures ∙ sheet-refused (now (a .sheet)) (a .memory-len) (now (a .trace)) (c .before .before .before .before .before .judge .ensures .0) (c .before .if1 .taken)
+    let a = c .before .before .before .before .before .before .before .args in
+    let s = now (a .sheet) in
+    let e = c .before .before .before .before .admit .ensures in
+    let n : 0 < admitted s (a .memory-len) .refusal .number = rw e at (c .before .if1 .taken) in
+    let is = ap (λ (x : ReadAnswer). x .refusal) e ∙ sym (ap refusal (admitted-refused s (a .memory-len) n)) in
+    c .replay-refused .ensures ∙ sheet-refused s (a .memory-len) (now (a .trace)) is (c .before .if1 .taken)
 
-judge-trace-requires : tie.Need-judge-trace-requires
-judge-trace-requires c κs = search needs
+match-sheet-requires : tie.Need-match-sheet-requires
+match-sheet-requires c κs =
+    let a = c .before .before .before .before .before .before .before .args in
+    let e = c .before .before .before .before .admit .ensures in
+    let zero : c .before .before .before .before .admit .result .refusal .number ≡ 0 = omega (arith, c .before .if1 .left) in
+    let r = is-admitted (now (a .sheet)) (a .memory-len) (rw e at zero) in
+    (rw e (r .within), r .few)
 
 replay-refused-requires-2 : tie.Need-replay-refused-requires-2
 replay-refused-requires-2 c κs = search needs
 
 returns-2 : tie.Need-returns-2
 returns-2 c =
-    let a = c .before .before .before .before .before .before .before .before .before .before .before .args in
-    let j = c .before .before .before .before .before .before .before .before .judge in
-    let fine : j .result .answer .refusal .number ≡ 0 = omega (arith, c .before .before .before .before .if1 .left) in
-    c .replay-refused2 .ensures
-    ∙ trace-refused (now (a .sheet)) (a .memory-len) (now (a .trace)) (j .ensures .0) fine (c .before .before .before .judge-trace .ensures) (c .before .if2 .taken)
-
-match-trace-requires : tie.Need-match-trace-requires
-match-trace-requires c κs =
-    let a = c .before .before .before .before .before .before .before .before .before .before .before .args in
+    let a = c .before .before .before .before .before .before .before .before .before .before .before .before .args in
     let s = now (a .sheet) in
-    let j = c .before .before .before .before .before .before .before .before .judge in
-    let fine : j .result .answer .refusal .number ≡ 0 = omega (arith, c .before .before .before .before .if1 .left) in
-    let r = sheet-readable s (a .memory-len) (ap (λ (x : CheckAnswer). x .refusal .number) (sym (j .ensures .0)) ∙ fine) in
-    rw (judged-read s (a .memory-len) (j .ensures .0) (j .ensures .1) fine) (r .within, r .few, r .clear)
+    let e = c .before .before .before .before .before .before .before .before .before .admit .ensures in
+    let zero : c .before .before .before .before .before .before .before .before .before .admit .result .refusal .number ≡ 0 = omega (arith, c .before .before .before .before .before .before .if1 .left) in
+    let r = is-admitted s (a .memory-len) (rw e at zero) in
+    let is = (rw e at (c .before .before .before .before .match-sheet .ensures .0)) ∙ sym (ap refusal (r .check)) in
+    c .replay-refused2 .ensures ∙ sheet-refused s (a .memory-len) (now (a .trace)) is (c .before .if2 .taken)
+
+judge-trace-requires : tie.Need-judge-trace-requires
+judge-trace-requires c κs = search needs
+
+replay-refused-requires-3 : tie.Need-replay-refused-requires-3
+replay-refused-requires-3 c κs = search needs
+
+returns-3 : tie.Need-returns-3
+returns-3 c =
+    let a = c .before .before .before .before .before .before .before .before .before .before .before .before .before .before .before .args in
+    let s = now (a .sheet) in
+    let e = c .before .before .before .before .before .before .before .before .before .before .before .before .admit .ensures in
+    let zero : c .before .before .before .before .before .before .before .before .before .before .before .before .admit .result .refusal .number ≡ 0 = omega (arith, c .before .before .before .before .before .before .before .before .before .if1 .left) in
+    let r = is-admitted s (a .memory-len) (rw e at zero) in
+    let is = (rw e at (c .before .before .before .before .before .before .before .match-sheet .ensures .0)) ∙ sym (ap refusal (r .check)) in
+    let fine : c .before .before .before .before .before .before .before .match-sheet .result .refusal .number ≡ 0 = omega (arith, c .before .before .before .before .if2 .left) in
+    c .replay-refused3 .ensures ∙ trace-refused s (a .memory-len) (now (a .trace)) is fine (c .before .before .before .judge-trace .ensures) (c .before .if3 .taken)
 
 not-refused-requires : tie.Need-not-refused-requires
 not-refused-requires c κs = search needs
@@ -48,29 +74,33 @@ not-refused-requires c κs = search needs
 verdict-at-requires : tie.Need-verdict-at-requires
 verdict-at-requires c κs = search needs
 
-returns-3 : tie.Need-returns-3
-returns-3 c =
-    let a = c .before .before .before .before .before .before .before .before .before .before .before .before .before .before .args in
+returns-4 : tie.Need-returns-4
+returns-4 c =
+    let a = c .before .before .before .before .before .before .before .before .before .before .before .before .before .before .before .before .before .args in
     let s = now (a .sheet) in
-    let j = c .before .before .before .before .before .before .before .before .before .before .before .judge in
-    let q = c .before .before .before .before .before .before .judge-trace in
-    let fine : j .result .answer .refusal .number ≡ 0 = omega (arith, c .before .before .before .before .before .before .before .if1 .left) in
-    let read : q .result .number ≡ 0 = omega (arith, c .before .before .before .before .if2 .left) in
-    let model = judged-read s (a .memory-len) (j .ensures .0) (j .ensures .1) fine in
+    let e = c .before .before .before .before .before .before .before .before .before .before .before .before .before .before .admit .ensures in
+    let zero : c .before .before .before .before .before .before .before .before .before .before .before .before .before .before .admit .result .refusal .number ≡ 0 = omega (arith, c .before .before .before .before .before .before .before .before .before .before .before .if1 .left) in
+    let r = is-admitted s (a .memory-len) (rw e at zero) in
+    let found = c .before .before .before .before .before .before .before .before .before .match-sheet in
+    let is = (rw e at (found .ensures .0)) ∙ sym (ap refusal (r .check)) in
+    let fine : found .result .refusal .number ≡ 0 = omega (arith, c .before .before .before .before .before .before .if2 .left) in
+    let read : c .before .before .before .before .before .judge-trace .result .number ≡ 0 = omega (arith, c .before .before .before .if3 .left) in
     rw (c .before .not-refused .ensures, c .verdict-at .ensures)
-    (both-compared s (a .memory-len) (now (a .trace)) (j .ensures .0) fine (q .ensures) read (rw model at (c .before .before .match-trace .ensures)))
+    (both-compared s (a .memory-len) (now (a .trace)) is fine (c .before .before .before .before .before .judge-trace .ensures) read (rw (e, r .same) at (found .ensures .1 fine)))
 
 pub replay-spec : {M : Type 1} → statement M
 replay-spec =
     tie.close
     (tie.spec
-    judge-requires
+    admit-requires
     replay-refused-requires
     returns
-    judge-trace-requires
+    match-sheet-requires
     replay-refused-requires-2
     returns-2
-    match-trace-requires
+    judge-trace-requires
+    replay-refused-requires-3
+    returns-3
     not-refused-requires
     verdict-at-requires
-    returns-3)
+    returns-4)

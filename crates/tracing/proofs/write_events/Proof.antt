@@ -15,11 +15,11 @@ use Rattle.tracing.proofs.write_events.Statement.{statement}
 use Rattle.tracing.proofs.write_events.Tie as tie
 
 abbrev Inv-loop : tie.InvT-loop
-Inv-loop out₀ at entries step count fill k₀ out k =
-    (k ≤ count) × (length out ≡ length out₀) × (out ≡ sets out₀ at (traceBytes (each k (λ (e : ℕ). listedEvent step entries fill e ∷ []))))
+Inv-loop out₀ at entries count step k₀ out k =
+    (k ≤ count) × (length out ≡ length out₀) × (out ≡ sets out₀ at (traceBytes (each k (λ (e : ℕ). listedEvent step entries e ∷ []))))
 
 abbrev μ-loop : tie.MeasureT-loop
-μ-loop out₀ at entries step count fill k₀ out k = count - k
+μ-loop out₀ at entries count step k₀ out k = count - k
 
 loop-holds : tie.Need-loop-holds Inv-loop μ-loop
 unfolding each traceBytes
@@ -57,7 +57,7 @@ loop-again c =
     let put = c .before .before .put-event in (
       omega (arith, c .before .before .before .before .before .loop-test .taken),
       put .kept .0 ∙ l .inv .1,
-      field-after (now (a .out)) (a .at) (listedEvent (a .step) (now (a .entries)) (a .o .fill)) (l .k) (l .inv .2) (c .before .before .before .before .listed-event .ensures) (put .ensures),
+      field-after (now (a .out)) (a .at) (listedEvent (a .step) (now (a .entries))) (l .k) (l .inv .2) (c .before .before .before .before .listed-event .ensures) (put .ensures),
     )
 
 same-length : tie.Need-same-length Inv-loop μ-loop
@@ -67,7 +67,7 @@ returns : tie.Need-returns Inv-loop μ-loop
 unfolding listedEvents
 returns c =
     let l = c .before .loop in
-    let e : l .k ≡ c .before .before .before .args .o .count = omega (arith, l .inv .0, c .loop-test .left) in
+    let e : l .k ≡ c .before .before .before .args .count = omega (arith, l .inv .0, c .loop-test .left) in
     rw e at (l .inv .2)
 
 pub write-events-spec : {M : Type 1} → statement M

@@ -7,8 +7,7 @@ use Rattle.registers.specs.Laws.Sized.{sized-empty}
 use Rattle.accesses.specs.Marks.{Scratch}
 use Rattle.checking.specs.Checking.{checkedFrom, checked, checkRefused}
 use Rattle.checking.specs.Laws.Steps.{check-sized, step-placed}
-use Rattle.checking.specs.Laws.Turns.{within-step, empty-types}
-use Rattle.checking.proofs.Laws.{checked-start, checked-go, checked-stop, checked-end}
+use Rattle.checking.specs.Laws.Turns.{within-step, empty-types, checked-start, checked-go, checked-stop, checked-end}
 use borrow.Author.Needs.{needs}
 use native.Mathlib.Omega.{arith}
 use Rattle.checking.proofs.checks.check.Statement.{statement}
