@@ -82,9 +82,9 @@
  *
  * Stack
  * -----
- * MOONBLEAT_STACK bytes of stack are enough for a call. This is measured, on 20,000 sheets and their
- * tapes, and tested, not proved: moonbleat_carry_out took 33,096 bytes, every other function less.
- * What a thread needs for itself comes on top.
+ * MOONBLEAT_STACK bytes of stack are enough for a call. This is measured, on 20,000 sheets of each
+ * edition and their tapes and traces, and tested, not proved: moonbleat_carry_out took 33,032 bytes,
+ * every other function less. What a thread needs for itself comes on top.
  *
  * docs/SHEETS.md describes sheets, tapes and traces field by field.
  */
