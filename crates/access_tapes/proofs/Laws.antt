@@ -1,16 +1,13 @@
 -- The outcomes that the entries of a survey stand for: in range, and with the runs of their access.
-use Prim.Native.Nat.{ℕ, _-_, _^_, _<_}
+use Prim.Native.Nat.{ℕ, _^_, _<_}
 use mathlib.Core.Path.{_≡_, sym, ap, _∙_}
 use mathlib.Core.Bool.{Bool}
 use mathlib.Core.List.{List}
 use native.Mathlib.Omega.{arith}
-use borrow.Author.Tests.{eqb-false, ltb-true}
-use lib.Dec.{eqb, ltb}
-use Rattle.numbers.specs.Laws.Choice.{pick-case}
-use Rattle.outcomes.specs.declared.Outcome.the-variants.{Skipped, Filled, Discarded, Placed}
 use Rattle.addressing.specs.Rules.{elementsOf}
 use Rattle.addressing.specs.declared.Access.{Access}
-use Rattle.accesses.specs.Entries.{filledEntry, entryOutcome}
+use Rattle.accesses.specs.Entries.{entryOutcome}
+use Rattle.accesses.specs.Laws.Surveys.{entry-cases}
 use Rattle.transfers.specs.Transfers.{outcomeOf}
 use Rattle.accepted.specs.Accepted.{entriesOutcome, Listed}
 use Rattle.accepted.specs.declared.Outcomes.{Outcomes}
@@ -20,12 +17,8 @@ use Rattle.runs.specs.Runs.{runs, runsRecords}
 use Rattle.runs.specs.Laws.Writing.{runs-same}
 
 -- an entry is of a byte of memory, and the bits that fill an element are 32
-pub entry-near : (fill : ℕ) → fill < 2 ^ 32 → (x : ℕ) → Fitting (entryOutcome fill x)
-unfolding entryOutcome
-entry-near fill h x =
-    pick-case Fitting (eqb x 0) Skipped _ (λ e. tt)
-    (λ e. pick-case Fitting (ltb x filledEntry) (Placed (x - 1)) _ (λ l. omega (arith, ltb-true x filledEntry l, eqb-false x 0 e))
-    (λ l. pick-case Fitting (eqb x filledEntry) (Filled fill) Discarded (λ f. h) (λ f. tt)))
+pub entry-fits : (fill : ℕ) → fill < 2 ^ 32 → (x : ℕ) → Fitting (entryOutcome fill x)
+entry-fits fill h x = entry-cases Fitting fill tt (λ b l. omega (arith, l)) h tt x
 
 -- the runs of an access are those that its entries say
 module _ {a : Access} {entries : List ℕ} {o : Outcomes} (l : Listed a entries o) where

@@ -7,7 +7,7 @@ use Rattle.runs.specs.Runs.{held as theHeld, ended, emit}
 use Rattle.runs.specs.Laws.Ranges.{held-small}
 use Rattle.runs.specs.Laws.Writing.{held-none, held-more, ending-is, count-none, count-more, count-few, count-all, emit-one}
 use Rattle.accepted.specs.Accepted.{entriesOutcome}
-use Rattle.access_tapes.proofs.Laws.{entry-near}
+use Rattle.access_tapes.proofs.Laws.{entry-fits}
 use borrow.Author.Needs.{needs}
 use native.Mathlib.Omega.{arith}
 use Rattle.access_tapes.proofs.count_runs.Statement.{statement}
@@ -38,7 +38,7 @@ next-run-requires c κs =
     let a = s .args in
     let l = c .before .before .before .loop in
     let small : a .fill < 2 ^ 32 = omega arith in
-    let near = entry-near (a .fill) small in (
+    let near = entry-fits (a .fill) small in (
       rw (l .inv .1) (held-small (entriesOutcome (now (a .entries)) (a .fill)) (l .k) (λ i h. near (getD (now (a .entries)) i 0))),
       (omega arith, rw (c .outcome-of .ensures) (near (getD (now (a .entries)) (l .k) 0))),
     )

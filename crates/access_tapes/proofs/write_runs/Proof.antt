@@ -6,7 +6,7 @@ use Rattle.runs.specs.Runs.{held as theHeld}
 use Rattle.runs.specs.Laws.Ranges.{held-small, ending-within, held-within}
 use Rattle.runs.specs.Laws.Writing.{Written, held-none, held-more, ending-is, count-records, written-none, written-more, written-length, written-all, written-place, room-more, room-last}
 use Rattle.accepted.specs.Accepted.{entriesOutcome}
-use Rattle.access_tapes.proofs.Laws.{entry-near}
+use Rattle.access_tapes.proofs.Laws.{entry-fits}
 use borrow.Author.Needs.{needs}
 use native.Mathlib.Omega.{arith}
 use Rattle.access_tapes.proofs.write_runs.Statement.{statement}
@@ -37,7 +37,7 @@ next-run-requires c κs =
     let a = s .args in
     let l = c .before .before .before .loop in
     let small : a .fill < 2 ^ 32 = omega arith in
-    let near = entry-near (a .fill) small in (
+    let near = entry-fits (a .fill) small in (
       rw (l .inv .0 .1) (held-small (entriesOutcome (now (a .entries)) (a .fill)) (l .k) (λ i h. near (getD (now (a .entries)) i 0))),
       (omega (arith, s .pre .0), rw (c .outcome-of .ensures) (near (getD (now (a .entries)) (l .k) 0))),
     )
@@ -55,7 +55,7 @@ write-run-requires c κs =
     let room = rw (count-records (a .load) (a .register) f (a .n)) at (s .pre .2) in
     rw (ending-is f (l .k) (l .inv .0 .1) (p .outcome-of .ensures) (c .before .next-run .ensures)) (
       room-more (a .load) (a .register) f (a .start) (now (a .tape)) (l .k) (l .tape) (l .at) (l .inv .1) (a .n) h room,
-      ending-within (a .load) (a .register) (s .pre .1) f (a .n) (omega (arith, s .pre .0)) (λ i q. entry-near (a .fill) small (getD es i 0)) (l .k) (omega (arith, h)),
+      ending-within (a .load) (a .register) (s .pre .1) f (a .n) (omega (arith, s .pre .0)) (λ i q. entry-fits (a .fill) small (getD es i 0)) (l .k) (omega (arith, h)),
     )
 
 add-k : tie.Need-add-k Inv-loop μ-loop
@@ -91,7 +91,7 @@ write-run-requires-2 c κs =
     let room = rw (count-records (a .load) (a .register) f (a .n)) at (s .pre .2) in
     rw (l .inv .0 .1) (
       room-last (a .load) (a .register) f (a .start) (now (a .tape)) (l .k) (l .tape) (l .at) (l .inv .1) (rw e room),
-      held-within (a .load) (a .register) (s .pre .1) f (a .n) (omega (arith, s .pre .0)) (λ i q. entry-near (a .fill) small (getD es i 0)) (l .k) (omega (arith, e)),
+      held-within (a .load) (a .register) (s .pre .1) f (a .n) (omega (arith, s .pre .0)) (λ i q. entry-fits (a .fill) small (getD es i 0)) (l .k) (omega (arith, e)),
     )
 
 same-length : tie.Need-same-length Inv-loop μ-loop

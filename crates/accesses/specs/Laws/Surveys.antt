@@ -4,8 +4,11 @@ use mathlib.Core.Path.{_≡_, refl, sym, ap, _∙_}
 use mathlib.Core.List.{List}
 use native.Mathlib.Omega.{arith}
 use lib.ListN.{getD}
-use borrow.Author.Tests.{lt-ltb, ne-eqb, eq-eqb}
+use borrow.Author.Tests.{lt-ltb, ne-eqb, eq-eqb, ltb-true, eqb-false}
+use lib.Dec.{eqb, ltb}
 use Rattle.numbers.specs.Choice.{pick}
+use Rattle.numbers.specs.Laws.Choice.{pick-case}
+use Rattle.sheet.specs.Sizes.{memoryLimit}
 use Rattle.outcomes.specs.declared.Outcome.{Outcome}
 use Rattle.outcomes.specs.declared.Outcome.the-variants.{Skipped, Filled, Discarded, Placed}
 use Rattle.addressing.specs.declared.Access.{Access}
@@ -20,6 +23,15 @@ use Rattle.accesses.specs.declared.Tally.{Tally}
 use Rattle.accesses.specs.Refusals.{elementOutcome, firstRefused, accessRefusal}
 use Rattle.accesses.specs.Entries.{Near, filledEntry, entryOf, entryOutcome, Surveyed, Told}
 use Rattle.accesses.specs.Laws.Accepted.{element-sound, element-accepted}
+
+-- what an entry stands for: nothing, a byte of a memory, a fill or a discarded element
+pub entry-cases : (P : Outcome → Type 0) (fill : ℕ) → P Skipped → ((b : ℕ) → b < memoryLimit → P (Placed b)) → P (Filled fill) → P Discarded
+    → (x : ℕ) → P (entryOutcome fill x)
+unfolding entryOutcome
+entry-cases P fill skipped placed filled discarded x =
+    pick-case P (eqb x 0) Skipped _ (λ e. skipped)
+    (λ e. pick-case P (ltb x filledEntry) (Placed (x - 1)) _ (λ l. placed (x - 1) (omega (arith, ltb-true x filledEntry l, eqb-false x 0 e)))
+    (λ l. pick-case P (eqb x filledEntry) (Filled fill) Discarded (λ f. filled) (λ f. discarded)))
 
 sound-near : (a : Access) → SizedAccess a → (o : Outcome) → Sound a o → Near o
 sound-near a ok Skipped h = tt

@@ -4,12 +4,11 @@ use mathlib.Core.Path.{_≡_, refl, sym, ap, _∙_}
 use mathlib.Core.Bool.{Bool, true, false}
 use mathlib.Core.List.{List, [], _∷_}
 use native.Mathlib.Omega.{arith}
-use borrow.Author.Tests.{ltb-true, eqb-false}
 use lib.Dec.{eqb, ltb}
 use lib.ListN.{length, getD}
 use Rattle.numbers.specs.Lists.{each}
 use Rattle.numbers.specs.Choice.{pick}
-use Rattle.numbers.specs.Laws.Choice.{pick-case, by-test}
+use Rattle.numbers.specs.Laws.Choice.{by-test}
 use Rattle.numbers.specs.Laws.Joins.{each-same, length-each}
 use Rattle.outcomes.specs.declared.Outcome.{Outcome}
 use Rattle.outcomes.specs.declared.Outcome.the-variants.{Skipped, Filled, Discarded, Placed}
@@ -23,6 +22,7 @@ use Rattle.registers.specs.Types.{theType}
 use Rattle.registers.specs.declared.MatrixType.{MatrixType}
 use Rattle.addressing.specs.Rules.{elementsOf, lowBits}
 use Rattle.addressing.specs.declared.Access.{Access}
+use Rattle.accesses.specs.Laws.Surveys.{entry-cases}
 use Rattle.accesses.specs.Entries.{Near, filledEntry, entryOutcome, Told}
 use Rattle.transfers.specs.Transfers.{outcomeOf}
 use Rattle.checking.specs.Steps.{accessOf, objectRegister}
@@ -35,11 +35,7 @@ use Rattle.expected.specs.Listed.{listedEvents, StepListed}
 
 -- the byte of an entry is one of a memory's
 pub entry-near : (fill x : ℕ) → Near (entryOutcome fill x)
-unfolding entryOutcome
-entry-near fill x =
-    pick-case Near (eqb x 0) Skipped _ (λ e. tt)
-    (λ e. pick-case Near (ltb x filledEntry) (Placed (x - 1)) _ (λ l. omega (arith, ltb-true x filledEntry l, eqb-false x 0 e))
-    (λ l. pick-case Near (eqb x filledEntry) (Filled fill) Discarded (λ f. tt) (λ f. tt)))
+entry-near fill x = entry-cases Near fill tt (λ b h. h) tt tt x
 
 pub access-count : (k : ℕ) (a : Access) → length (accessEvents k a) ≡ elementsOf a
 unfolding accessEvents

@@ -1,4 +1,4 @@
-use Rattle.small_answers.specs.Small.{carried-small}
+use Rattle.small_answers.specs.Laws.Small.{carried-small}
 use borrow.Author.Needs.{needs}
 use Rattle.moonbleat.proofs.moonbleat_carry_out.Statement.{statement}
 use Rattle.moonbleat.proofs.moonbleat_carry_out.Tie as tie

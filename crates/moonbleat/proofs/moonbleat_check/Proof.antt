@@ -1,4 +1,4 @@
-use Rattle.small_answers.specs.Small.{check-small}
+use Rattle.small_answers.specs.Laws.Small.{check-small}
 use borrow.Author.Needs.{needs}
 use Rattle.moonbleat.proofs.moonbleat_check.Statement.{statement}
 use Rattle.moonbleat.proofs.moonbleat_check.Tie as tie

@@ -1,4 +1,4 @@
-use Rattle.small_answers.specs.Small.{read-small, counts-small}
+use Rattle.small_answers.specs.Laws.Small.{read-small, counts-small}
 use borrow.Author.Needs.{needs}
 use Rattle.moonbleat.proofs.moonbleat_read.Statement.{statement}
 use Rattle.moonbleat.proofs.moonbleat_read.Tie as tie

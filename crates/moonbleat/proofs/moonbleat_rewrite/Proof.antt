@@ -3,7 +3,7 @@ use mathlib.Core.Path.{refl}
 use denote.Ref.{now}
 use lib.ListN.{length}
 use Rattle.sheet_reader.specs.Reading.{readSheet}
-use Rattle.small_answers.specs.Small.{read-small, written-small}
+use Rattle.small_answers.specs.Laws.Small.{read-small, written-small}
 use Rattle.moonbleat.proofs.Laws.{rewritten-refused, room-refused, rewritten-read, room-read}
 use borrow.Author.Needs.{needs}
 use Rattle.moonbleat.proofs.moonbleat_rewrite.Statement.{statement}

@@ -1,4 +1,4 @@
-use Rattle.small_answers.specs.Small.{run-small}
+use Rattle.small_answers.specs.Laws.Small.{run-small}
 use borrow.Author.Needs.{needs}
 use Rattle.moonbleat.proofs.moonbleat_run.Statement.{statement}
 use Rattle.moonbleat.proofs.moonbleat_run.Tie as tie

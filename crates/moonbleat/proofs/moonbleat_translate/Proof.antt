@@ -1,4 +1,4 @@
-use Rattle.small_answers.specs.Small.{translated-small}
+use Rattle.small_answers.specs.Laws.Small.{translated-small}
 use borrow.Author.Needs.{needs}
 use Rattle.moonbleat.proofs.moonbleat_translate.Statement.{statement}
 use Rattle.moonbleat.proofs.moonbleat_translate.Tie as tie
