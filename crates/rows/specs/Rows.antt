@@ -11,7 +11,7 @@ use Rattle.registers.specs.declared.MatrixType.{MatrixType}
 use Rattle.replaying.specs.declared.Verdict.{Verdict}
 use Rattle.replaying.specs.declared.Verdict.the-variants.{Agrees, Differs}
 
--- number, place, second place, byte-elements
+-- number, place, second place, count
 abbrev pub answerRow : Refusal → ℕ → List ℕ
 answerRow r count = r .number ∷ r .place ∷ r .element ∷ count ∷ []
 

@@ -7,7 +7,7 @@ use registers::Registers;
 use replaying::Verdict;
 use sheet::sizes::ELEMENTS;
 
-// Numbers of an answer: number, place, second place, byte-elements.
+// Numbers of an answer: number, place, second place, count.
 pub const ANSWER: usize = 4;
 
 // Numbers of a sheet: layouts, views, steps.
