@@ -20,7 +20,7 @@ pub fn no_cell() -> Cell
     }
 }
 
-fn fill_ok(edition: u8, register: u8, rows: u8, columns: u8, kind: u8, value: u32) -> bool
+pub fn fill_ok(edition: u8, register: u8, rows: u8, columns: u8, kind: u8, value: u32) -> bool
     ensures { λ r. ⌜ r ≡ fillOk edition register rows columns kind value ⌝ }
 {
     if !sizes::register_ok(register) {
@@ -67,7 +67,7 @@ fn window_ok(layouts: usize, views: usize, window: Window) -> bool
     viewing_ok(views, view)
 }
 
-fn load_ok(layouts: usize, views: usize, register: u8, object: Object, window: Window) -> bool
+pub fn load_ok(layouts: usize, views: usize, register: u8, object: Object, window: Window) -> bool
     ensures { λ r. ⌜ r ≡ loadOk layouts views register object window ⌝ }
 {
     if !sizes::register_ok(register) {
@@ -79,7 +79,7 @@ fn load_ok(layouts: usize, views: usize, register: u8, object: Object, window: W
     window_ok(layouts, views, window)
 }
 
-fn store_ok(layouts: usize, views: usize, register: u8, window: Window) -> bool
+pub fn store_ok(layouts: usize, views: usize, register: u8, window: Window) -> bool
     ensures { λ r. ⌜ r ≡ storeOk layouts views register window ⌝ }
 {
     if !sizes::register_ok(register) {
@@ -88,7 +88,7 @@ fn store_ok(layouts: usize, views: usize, register: u8, window: Window) -> bool
     window_ok(layouts, views, window)
 }
 
-fn reduce_ok(edition: u8, result: u8, source: u8, rows: u8, columns: u8) -> bool
+pub fn reduce_ok(edition: u8, result: u8, source: u8, rows: u8, columns: u8) -> bool
     ensures { λ r. ⌜ r ≡ reduceOk edition result source rows columns ⌝ }
 {
     if !sizes::register_ok(result) {
@@ -103,7 +103,7 @@ fn reduce_ok(edition: u8, result: u8, source: u8, rows: u8, columns: u8) -> bool
     editions::side_ok(edition, columns)
 }
 
-fn transpose_ok(result: u8, source: u8) -> bool
+pub fn transpose_ok(result: u8, source: u8) -> bool
     ensures { λ r. ⌜ r ≡ transposeOk result source ⌝ }
 {
     if !sizes::register_ok(result) {
@@ -112,7 +112,7 @@ fn transpose_ok(result: u8, source: u8) -> bool
     sizes::register_ok(source)
 }
 
-fn multiply_ok(result: u8, a: u8, b: u8, c: u8) -> bool
+pub fn multiply_ok(result: u8, a: u8, b: u8, c: u8) -> bool
     ensures { λ r. ⌜ r ≡ multiplyOk result a b c ⌝ }
 {
     if !sizes::register_ok(result) {
@@ -137,7 +137,7 @@ fn bias_ok(v: VectorStep) -> bool
     v.bias == 0
 }
 
-fn vector_ok(edition: u8, v: VectorStep) -> bool
+pub fn vector_ok(edition: u8, v: VectorStep) -> bool
     ensures { λ r. ⌜ r ≡ vectorOk edition v ⌝ }
 {
     if !editions::has_vectors(edition) {

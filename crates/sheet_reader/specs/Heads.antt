@@ -1,4 +1,4 @@
--- How the code judges a field: a step by its head alone, since its content is judged as it is put in its place.
+-- How the code judges a field: a step by its head alone, since its content is judged as it is read.
 use Prim.Native.Nat.{ℕ}
 use mathlib.Core.List.{List}
 use lib.Dec.{eqb}

@@ -135,7 +135,7 @@ fn view_refusal(s: &[u8], start: usize, len: usize, given: Given) -> u8
     0
 }
 
-// Refusals 2, 3 and 4 of a step: its content is judged as it is put in its place.
+// Refusals 2, 3 and 4 of a step: its content is judged as it is read.
 fn step_head_refusal(tag: u8, len: usize, given: Given) -> u8
     ensures { λ r. ⌜ r ≡ stepHeadRefusal tag len given ⌝ }
 {
@@ -209,7 +209,8 @@ fn end_read(sheet: Sheet, place: usize) -> ReadAnswer
 }
 
 // The sheet that the bytes are, or the number and the place of the first refusal with an empty sheet. Each part is put in its place as
-// it is read, so that no field copies the sheet; a step is judged where it lies, so that it is decoded once and not copied.
+// it is read, so that no field copies the sheet. Loads and stores are put apart from whole steps, so that a step's fields are not put together
+// with those of every other kind.
 pub fn read_sheet(s: &[u8]) -> ReadAnswer
     ensures { λ r. ⌜ r ≡ readSheet (now (s .entry)) ⌝ }
 {
@@ -255,14 +256,27 @@ pub fn read_sheet(s: &[u8]) -> ReadAnswer
             tensors = more;
             continue;
         }
-        step[count] = Cell {
-            step: step_contents::step_at(s, edition, tag, start),
-        };
-        let placed = step[count];
-        let found = placed.step;
-        if !steps::step_ok(edition, given.layouts, given.views, found) {
+        if step_contents::is_access(tag) {
+            let found = step_contents::access_at(
+                s,
+                edition,
+                tag,
+                start,
+                given.layouts,
+                given.views,
+            );
+            if steps::step_unused(found) {
+                return refused_read(BEYOND_SIZES, at);
+            }
+            step[count] = Cell { step: found };
+            count += 1;
+            continue;
+        }
+        let found = step_contents::whole_at(s, edition, tag, start);
+        if steps::step_unused(found) {
             return refused_read(BEYOND_SIZES, at);
         }
+        step[count] = Cell { step: found };
         count += 1;
     }
     end_read(

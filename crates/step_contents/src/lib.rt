@@ -1,8 +1,13 @@
-// What the content of a step's field says.
+// What the content of a step's field says. A step is judged by its fields as they are read, so that it is not taken apart again, and is nothing
+// where it is beyond Sizes.
 ghost use mathlib.Core.Path.{_≡_};
-ghost use Prim.Native.Nat.{_+_, _≤_};
+ghost use mathlib.Core.Bool.{true, false};
+ghost use Prim.Native.Nat.{ℕ, _+_, _≤_};
 ghost use lib.ListN.{length};
+ghost use Rattle.numbers.specs.Choice.{between};
+ghost use Rattle.sheet.specs.Codes.{loadTag, storeTag};
 ghost use Rattle.step_contents.specs.Contents.{fillAt, windowAt, loadAt, storeAt, reduceAt, transposeAt, multiplyAt, vectorNumbers, vectorAt, stepAt, stepLength};
+ghost use Rattle.step_contents.specs.Judged.{judged};
 use numbers::u16_at;
 use numbers::u32_at;
 use numbers::wide;
@@ -12,17 +17,26 @@ use sheet::WholeStep;
 use sheet::Window;
 use sheet::codes;
 use sheet::editions;
+use sheet_ranges::steps;
 
-fn fill_at(s: &[u8], p: usize) -> Step
+fn fill_at(s: &[u8], edition: u8, p: usize) -> Step
     requires { ⌜ p + 8 ≤ length (now s) ⌝ }
-    ensures { λ r. ⌜ r ≡ fillAt (now (s .entry)) p ⌝ }
+    ensures { λ r. ⌜ ((layouts views : ℕ) → r ≡ judged edition layouts views (fillAt (now (s .entry)) p)) ⌝ }
 {
+    let register = s[p];
+    let rows = s[p + 1];
+    let columns = s[p + 2];
+    let kind = s[p + 3];
+    let value = u32_at(s, p + 4);
+    if !steps::fill_ok(edition, register, rows, columns, kind, value) {
+        return Step::Nothing;
+    }
     let whole = WholeStep::Fill {
-        register: s[p],
-        rows: s[p + 1],
-        columns: s[p + 2],
-        kind: s[p + 3],
-        value: u32_at(s, p + 4),
+        register,
+        rows,
+        columns,
+        kind,
+        value,
     };
     Step::Whole(whole)
 }
@@ -39,13 +53,16 @@ fn window_at(s: &[u8], p: usize) -> Window
     }
 }
 
-fn load_at(s: &[u8], p: usize) -> Step
+fn load_at(s: &[u8], p: usize, layouts: usize, views: usize) -> Step
     requires { ⌜ p + 8 ≤ length (now s) ⌝ }
-    ensures { λ r. ⌜ r ≡ loadAt (now (s .entry)) p ⌝ }
+    ensures { λ r. ⌜ ((edition : ℕ) → r ≡ judged edition layouts views (loadAt (now (s .entry)) p)) ⌝ }
 {
     let register = s[p];
     let object = codes::object_of(s[p + 1]);
     let window = window_at(s, p + 2);
+    if !steps::load_ok(layouts, views, register, object, window) {
+        return Step::Nothing;
+    }
     Step::Load {
         register,
         object,
@@ -53,19 +70,22 @@ fn load_at(s: &[u8], p: usize) -> Step
     }
 }
 
-fn store_at(s: &[u8], p: usize) -> Step
+fn store_at(s: &[u8], p: usize, layouts: usize, views: usize) -> Step
     requires { ⌜ p + 7 ≤ length (now s) ⌝ }
-    ensures { λ r. ⌜ r ≡ storeAt (now (s .entry)) p ⌝ }
+    ensures { λ r. ⌜ ((edition : ℕ) → r ≡ judged edition layouts views (storeAt (now (s .entry)) p)) ⌝ }
 {
     let register = s[p];
     let window = window_at(s, p + 1);
+    if !steps::store_ok(layouts, views, register, window) {
+        return Step::Nothing;
+    }
     Step::Store { register, window }
 }
 
 // A reduce whose mode or combine is not in the table is no step.
-fn reduce_at(s: &[u8], p: usize) -> Step
+fn reduce_at(s: &[u8], edition: u8, p: usize) -> Step
     requires { ⌜ p + 6 ≤ length (now s) ⌝ }
-    ensures { λ r. ⌜ r ≡ reduceAt (now (s .entry)) p ⌝ }
+    ensures { λ r. ⌜ ((layouts views : ℕ) → r ≡ judged edition layouts views (reduceAt (now (s .entry)) p)) ⌝ }
 {
     let mode = s[p + 4];
     let combine = s[p + 5];
@@ -75,13 +95,20 @@ fn reduce_at(s: &[u8], p: usize) -> Step
     if 5 < combine {
         return Step::Nothing;
     }
+    let result = s[p];
+    let source = s[p + 1];
+    let rows = s[p + 2];
+    let columns = s[p + 3];
+    if !steps::reduce_ok(edition, result, source, rows, columns) {
+        return Step::Nothing;
+    }
     let over = codes::reduce_mode(mode);
     let by = codes::combine_of(combine);
     let whole = WholeStep::Reduce {
-        result: s[p],
-        source: s[p + 1],
-        rows: s[p + 2],
-        columns: s[p + 3],
+        result,
+        source,
+        rows,
+        columns,
         mode: over,
         combine: by,
     };
@@ -90,25 +117,29 @@ fn reduce_at(s: &[u8], p: usize) -> Step
 
 fn transpose_at(s: &[u8], p: usize) -> Step
     requires { ⌜ p + 2 ≤ length (now s) ⌝ }
-    ensures { λ r. ⌜ r ≡ transposeAt (now (s .entry)) p ⌝ }
+    ensures { λ r. ⌜ ((edition layouts views : ℕ) → r ≡ judged edition layouts views (transposeAt (now (s .entry)) p)) ⌝ }
 {
-    let whole = WholeStep::Transpose {
-        result: s[p],
-        source: s[p + 1],
-    };
+    let result = s[p];
+    let source = s[p + 1];
+    if !steps::transpose_ok(result, source) {
+        return Step::Nothing;
+    }
+    let whole = WholeStep::Transpose { result, source };
     Step::Whole(whole)
 }
 
 fn multiply_at(s: &[u8], p: usize) -> Step
     requires { ⌜ p + 4 ≤ length (now s) ⌝ }
-    ensures { λ r. ⌜ r ≡ multiplyAt (now (s .entry)) p ⌝ }
+    ensures { λ r. ⌜ ((edition layouts views : ℕ) → r ≡ judged edition layouts views (multiplyAt (now (s .entry)) p)) ⌝ }
 {
-    let whole = WholeStep::MultiplyAdd {
-        result: s[p],
-        a: s[p + 1],
-        b: s[p + 2],
-        c: s[p + 3],
-    };
+    let result = s[p];
+    let a = s[p + 1];
+    let b = s[p + 2];
+    let c = s[p + 3];
+    if !steps::multiply_ok(result, a, b, c) {
+        return Step::Nothing;
+    }
+    let whole = WholeStep::MultiplyAdd { result, a, b, c };
     Step::Whole(whole)
 }
 
@@ -134,9 +165,9 @@ fn vector_numbers(s: &[u8], p: usize) -> VectorStep
 }
 
 // A vector step whose memory layout is not in the table, or whose bias is neither 0 nor 1, is no step.
-fn vector_at(s: &[u8], p: usize) -> Step
+fn vector_at(s: &[u8], edition: u8, p: usize) -> Step
     requires { ⌜ p + 19 ≤ length (now s) ⌝ }
-    ensures { λ r. ⌜ r ≡ vectorAt (now (s .entry)) p ⌝ }
+    ensures { λ r. ⌜ ((layouts views : ℕ) → r ≡ judged edition layouts views (vectorAt (now (s .entry)) p)) ⌝ }
 {
     if 1 < s[p + 7] {
         return Step::Nothing;
@@ -144,23 +175,47 @@ fn vector_at(s: &[u8], p: usize) -> Step
     if 1 < s[p + 14] {
         return Step::Nothing;
     }
-    let whole = WholeStep::Vector(vector_numbers(s, p));
+    let v = vector_numbers(s, p);
+    if !steps::vector_ok(edition, v) {
+        return Step::Nothing;
+    }
+    let whole = WholeStep::Vector(v);
     Step::Whole(whole)
 }
 
-// The step of a step's tag whose content starts at p and has its tag's length.
-pub fn step_at(s: &[u8], edition: u8, tag: u8, p: usize) -> Step
-    requires { ⌜ p + stepLength edition tag ≤ length (now s) ⌝ }
-    ensures { λ r. ⌜ r ≡ stepAt (now (s .entry)) tag p ⌝ }
+// Whether a step's tag is a load's or a store's.
+pub fn is_access(tag: u8) -> bool
+    ensures { λ r. ⌜ r ≡ between loadTag storeTag tag ⌝ }
+{
+    numbers::between(
+        codes::LOAD_TAG as usize,
+        codes::STORE_TAG as usize,
+        tag as usize,
+    )
+}
+
+// The load or the store whose content starts at p and has its tag's length, in a sheet of so many layouts and views.
+pub fn access_at(s: &[u8], edition: u8, tag: u8, p: usize, layouts: usize, views: usize) -> Step
+    requires { ⌜ (p + stepLength edition tag ≤ length (now s)) × (between loadTag storeTag tag ≡ true) ⌝ }
+    ensures { λ r. ⌜ r ≡ judged edition layouts views (stepAt (now (s .entry)) tag p) ⌝ }
+{
+    if tag == codes::LOAD_TAG {
+        return load_at(s, p, layouts, views);
+    }
+    store_at(s, p, layouts, views)
+}
+
+// The whole step whose content starts at p and has its tag's length.
+pub fn whole_at(s: &[u8], edition: u8, tag: u8, p: usize) -> Step
+    requires { ⌜ (p + stepLength edition tag ≤ length (now s)) × (between loadTag storeTag tag ≡ false) ⌝ }
+    ensures { λ r. ⌜ ((layouts views : ℕ) → r ≡ judged edition layouts views (stepAt (now (s .entry)) tag p)) ⌝ }
 {
     match tag {
-        codes::FILL_TAG => fill_at(s, p),
-        codes::LOAD_TAG => load_at(s, p),
-        codes::STORE_TAG => store_at(s, p),
-        codes::REDUCE_TAG => reduce_at(s, p),
+        codes::FILL_TAG => fill_at(s, edition, p),
+        codes::REDUCE_TAG => reduce_at(s, edition, p),
         codes::TRANSPOSE_TAG => transpose_at(s, p),
         codes::MULTIPLY_TAG => multiply_at(s, p),
-        _ => vector_at(s, p),
+        _ => vector_at(s, edition, p),
     }
 }
 

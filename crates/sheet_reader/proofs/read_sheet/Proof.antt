@@ -3,27 +3,27 @@ use mathlib.Core.Path.{_≡_, refl, sym, ap, _∙_}
 use native.Mathlib.Omega.{arith}
 use denote.Ref.{now}
 use lib.ListN.{length, length-set, length-replicate}
-use lib.Seq.{getD-set-same}
-use mathlib.Core.Bool.{Bool}
+use mathlib.Core.Bool.{Bool, true, false}
 use borrow.Author.Needs.{needs}
 use mathlib.Core.List.{List}
 use Rattle.numbers.specs.Choice.{pick}
-use Rattle.numbers.specs.Laws.Choice.{taken, left, went-not, went-past}
+use Rattle.numbers.specs.Laws.Choice.{taken, left, went}
 use Rattle.refusals.specs.Refusals.{beyondSizes}
 use Rattle.sheet.specs.Sizes.{stepPlaces}
 use Rattle.sheet.specs.Codes.{fillTag}
-use Rattle.sheet_ranges.specs.Steps.{stepOk, noCell}
+use Rattle.sheet_ranges.specs.Steps.{stepOk, stepUnused, noCell}
 use Rattle.sheet_ranges.specs.Sheets.{emptySheet}
 use Rattle.sheet.specs.declared.Sheet.{Sheet}
-use Rattle.sheet.specs.declared.Cell.{Cell}
 use Rattle.sheet.specs.declared.Step.{Step}
 use Rattle.fields.specs.Fields.{fieldAt}
 use Rattle.fields.specs.declared.Cursor.{Cursor}
 use Rattle.fields.specs.declared.Field.the-variants.{Whole}
 use Rattle.fields.specs.Laws.Bounds.{FieldIn, field-in}
-use Rattle.step_contents.specs.Contents.{stepAt}
+use Rattle.step_contents.specs.Contents.{stepAt, stepLength}
+use Rattle.step_contents.specs.Judged.{judged}
+use Rattle.step_contents.specs.Laws.Judged.{judged-bad, judged-good}
 use Rattle.contents.specs.Laws.Heads.{layout-room, view-room}
-use Rattle.sheet_reader.specs.Reading.{givenOf, fieldRefusal, withField, readFrom, readSheet}
+use Rattle.sheet_reader.specs.Reading.{givenOf, fieldRefusal, withStep, withField, refusedRead, readFrom, readSheet}
 use Rattle.sheet_reader.specs.Heads.{headRefusal}
 use Rattle.sheet_reader.specs.Laws.Taken.{Took, took, took-edition, took-layout, took-view, layout-place, view-place, step-place}
 use Rattle.sheet_reader.specs.Laws.Heads.{head-refused, head-whole, StepHead, head-step, content-decides}
@@ -234,78 +234,98 @@ module _ (c : tie.Else5 Inv-loop μ-loop) where
   decided : refusal field ≡ pick (stepOk (sofar field .edition) (sofar field .tensors .layouts) (sofar field .tensors .views) (stepAt (s field) (tag field) (start field))) 0 beyondSizes
   decided = content-decides _ _ _ _ _ its-head
 
-step-at-requires : tie.Need-step-at-requires Inv-loop μ-loop
-step-at-requires c κs = omega (arith, its-place (field c), its-head c .long)
+  abbrev its-step : Step
+  its-step = stepAt (s field) (tag field) (start field)
 
-mul-step : tie.Need-mul-step Inv-loop μ-loop
-mul-step c = omega (arith, step-room (c .before))
+  -- it is found as it is judged, and ends the reading where it is nothing
+  module _ {found : Step} {unused : Bool} (e : found ≡ judged (sofar field .edition) (sofar field .tensors .layouts) (sofar field .tensors .views) its-step) (u : unused ≡ stepUnused found) where
+    stops : unused ≡ true → refusedRead beyondSizes (here field) ≡ readSheet (s field)
+    stops h =
+        let i = c .before .before .before .before .before .before .before .before .before .before .before .loop in
+        let bad = judged-bad _ _ _ its-step (ap stepUnused (sym e) ∙ went u h) in
+        sym
+        (turn-over _ (i .c .at) _ (i .inv .1 .0) (omega (arith, i .inv, inside field))
+        (turn-refused _ _ (sofar field) (inside field) (the-field field) (left 0 bad refl ∙ sym decided) (omega arith)))
+        ∙ i .inv .1 .1 .1
 
-array-set-from-step : tie.Need-array-set-from-step Inv-loop μ-loop
-array-set-from-step c = step-room (c .before)
+    goes-past : unused ≡ false → Left (s field) (next field .at) (withStep (sofar field) found)
+    goes-past h =
+        let good = judged-good _ _ _ its-step (ap stepUnused (sym e) ∙ went u h) in
+        goes-on (c .before .before .before) (decided ∙ sym (taken beyondSizes (good .0) refl)) _
+        (with-step _ _ _ (sofar field) (c .before .before .if3 .left) (c .before .if4 .left) (c .if5 .left) (e ∙ good .1))
+        (length-set (sofar field .step) (sofar field .steps) (record { step = found }) ∙ long (c .before .before .before))
 
-mul-placed : tie.Need-mul-placed Inv-loop μ-loop
-mul-placed c = omega (arith, step-room (c .before))
+  content-in : start field + stepLength (sofar field .edition) (tag field) ≤ length (s field)
+  content-in = omega (arith, its-place field, its-head .long)
 
-array-copy-out-placed : tie.Need-array-copy-out-placed Inv-loop μ-loop
-array-copy-out-placed c = step-room (c .before)
+is-access-requires : tie.Need-is-access-requires Inv-loop μ-loop
+is-access-requires c κs = search needs
 
-step-ok-requires : tie.Need-step-ok-requires Inv-loop μ-loop
-step-ok-requires c κs = search needs
+access-at-requires : tie.Need-access-at-requires Inv-loop μ-loop
+access-at-requires c κs = (content-in (c .before .before), went (c .before .is-access .ensures) (c .if6 .taken))
 
--- what is judged is the step that was put in its place
-module _ (c : tie.After-step-ok Inv-loop μ-loop) where
-  abbrev step-field : tie.Else5 Inv-loop μ-loop
-  step-field = c .before .before .before
-
-  abbrev before-it : Sheet
-  before-it = sofar (field step-field)
-
-  abbrev ok : Step → Bool
-  ok st = stepOk (before-it .edition) (before-it .tensors .layouts) (before-it .tensors .views) st
-
-  judged : c .step-ok .result ≡ ok (stepAt (s (field step-field)) (tag (field step-field)) (start (field step-field)))
-  judged =
-      let found = c .before .before .step-at in
-      let room = step-room step-field in
-      c .step-ok .ensures
-      ∙ ap (λ (x : Cell). ok (x .step)) (getD-set-same (before-it .step) (before-it .steps) (record { step = found .result }) noCell (omega (arith, room, long (step-field .before .before .before))))
-      ∙ ap ok (found .ensures)
+step-unused-requires : tie.Need-step-unused-requires Inv-loop μ-loop
+step-unused-requires c κs = search needs
 
 refused-read-requires-3 : tie.Need-refused-read-requires-3 Inv-loop μ-loop
 refused-read-requires-3 c κs = search needs
 
 returns-3 : tie.Need-returns-3 Inv-loop μ-loop
 returns-3 c =
-    let d = c .before .before .before .before .before in
-    let k = field d in
-    let i = k .before .before .before .before .before .before .loop in
-    let bad = went-not (judged (c .before .before)) (c .before .if6 .taken) in
     c .refused-read3 .ensures
-    ∙ sym
-    (turn-over _ (i .c .at) _ (i .inv .1 .0) (omega (arith, i .inv, inside k))
-    (turn-refused _ _ (sofar k) (inside k) (the-field k) (left 0 bad refl ∙ sym (decided d)) (omega arith)))
-    ∙ i .inv .1 .1 .1
+    ∙ stops (c .before .before .before .before .before .before) (c .before .before .before .access-at .ensures) (c .before .before .step-unused .ensures) (c .before .if7 .taken)
+
+mul-step : tie.Need-mul-step Inv-loop μ-loop
+mul-step c = omega (arith, step-room (c .before .before .before .before .before))
+
+array-set-from-step : tie.Need-array-set-from-step Inv-loop μ-loop
+array-set-from-step c = step-room (c .before .before .before .before .before)
 
 add-count : tie.Need-add-count Inv-loop μ-loop
-add-count c = omega (arith, step-room (c .before .before .before .before))
+add-count c = omega (arith, step-room (c .before .before .before .before .before))
 
 loop-less-4 : tie.Need-loop-less-4 Inv-loop μ-loop
-loop-less-4 c = further (c .before .before .before .before .before .before .before)
+loop-less-4 c = further (c .before .before .before .before .before .before .before .before)
 
 loop-again-4 : tie.Need-loop-again-4 Inv-loop μ-loop
 loop-again-4 c =
-    let d = c .before .before .before .before in
-    let found = c .before .before .before .step-at .ensures in
-    let good = went-past (judged (c .before)) (c .if6 .left) in
-    goes-on (d .before .before .before) (decided d ∙ sym (taken beyondSizes good refl)) _
-    (with-step _ _ _ (sofar (field d)) (d .before .before .if3 .left) (d .before .if4 .left) (d .if5 .left) found)
-    (length-set (sofar (field d) .step) (sofar (field d) .steps) (record { step = c .before .before .before .step-at .result }) ∙ long (d .before .before .before))
+    goes-past (c .before .before .before .before .before) (c .before .before .access-at .ensures) (c .before .step-unused .ensures) (c .if7 .left)
+
+whole-at-requires : tie.Need-whole-at-requires Inv-loop μ-loop
+whole-at-requires c κs = (content-in (c .before .before), went (c .before .is-access .ensures) (c .if6 .left))
+
+step-unused-requires-2 : tie.Need-step-unused-requires-2 Inv-loop μ-loop
+step-unused-requires-2 c κs = search needs
+
+refused-read-requires-4 : tie.Need-refused-read-requires-4 Inv-loop μ-loop
+refused-read-requires-4 c κs = search needs
+
+returns-4 : tie.Need-returns-4 Inv-loop μ-loop
+returns-4 c =
+    c .refused-read4 .ensures
+    ∙ stops (c .before .before .before .before .before .before) (c .before .before .before .whole-at .ensures _ _) (c .before .before .step-unused2 .ensures) (c .before .if8 .taken)
+
+mul-step-2 : tie.Need-mul-step-2 Inv-loop μ-loop
+mul-step-2 c = omega (arith, step-room (c .before .before .before .before .before))
+
+array-set-from-step-2 : tie.Need-array-set-from-step-2 Inv-loop μ-loop
+array-set-from-step-2 c = step-room (c .before .before .before .before .before)
+
+add-count-2 : tie.Need-add-count-2 Inv-loop μ-loop
+add-count-2 c = omega (arith, step-room (c .before .before .before .before .before))
+
+loop-less-5 : tie.Need-loop-less-5 Inv-loop μ-loop
+loop-less-5 c = further (c .before .before .before .before .before .before .before .before)
+
+loop-again-5 : tie.Need-loop-again-5 Inv-loop μ-loop
+loop-again-5 c =
+    goes-past (c .before .before .before .before .before) (c .before .before .whole-at .ensures _ _) (c .before .step-unused2 .ensures) (c .if8 .left)
 
 end-read-requires : tie.Need-end-read-requires Inv-loop μ-loop
 end-read-requires c κs = search needs
 
-returns-4 : tie.Need-returns-4 Inv-loop μ-loop
-returns-4 c =
+returns-5 : tie.Need-returns-5 Inv-loop μ-loop
+returns-5 c =
     let i = c .before .before .before .loop in
     c .end-read .ensures
     ∙ sym (turn-over _ (i .c .at) _ (i .inv .1 .0) (omega (arith, i .inv)) (turn-end _ _ _ (c .before .if1 .left)))
@@ -338,16 +358,24 @@ read-sheet-spec =
     more-view-requires
     loop-less-3
     loop-again-3
-    step-at-requires
-    mul-step
-    array-set-from-step
-    mul-placed
-    array-copy-out-placed
-    step-ok-requires
+    is-access-requires
+    access-at-requires
+    step-unused-requires
     refused-read-requires-3
     returns-3
+    mul-step
+    array-set-from-step
     add-count
     loop-less-4
     loop-again-4
+    whole-at-requires
+    step-unused-requires-2
+    refused-read-requires-4
+    returns-4
+    mul-step-2
+    array-set-from-step-2
+    add-count-2
+    loop-less-5
+    loop-again-5
     end-read-requires
-    returns-4)
+    returns-5)

@@ -1,4 +1,7 @@
+use mathlib.Core.Path.{refl}
+use Rattle.numbers.specs.Laws.Choice.{went-not, went-past}
 use Rattle.step_contents.specs.Contents.{loadAt}
+use Rattle.step_contents.specs.Laws.Judged.{judged-none, judged-some}
 use borrow.Author.Needs.{needs}
 use Rattle.step_contents.proofs.load_at.Statement.{statement}
 use Rattle.step_contents.proofs.load_at.Tie as tie
@@ -21,9 +24,16 @@ add-window-at c = search needs
 window-at-requires : tie.Need-window-at-requires
 window-at-requires c κs = search needs
 
+load-ok-requires : tie.Need-load-ok-requires
+load-ok-requires c κs = search needs
+
 returns : tie.Need-returns
 unfolding loadAt
-returns c = cc
+returns c edition = rw (← c .before .before .before .object-of .ensures, ← c .before .before .window-at .ensures) (judged-none _ _ _ refl (went-not (c .before .load-ok .ensures) (c .if1 .taken)))
+
+returns-2 : tie.Need-returns-2
+unfolding loadAt
+returns-2 c edition = rw (← c .before .before .before .object-of .ensures, ← c .before .before .window-at .ensures) (judged-some _ _ _ refl (went-past (c .before .load-ok .ensures) (c .if1 .left)))
 
 pub load-at-spec : {M : Type 1} → statement M
 load-at-spec =
@@ -35,4 +45,6 @@ load-at-spec =
     object-of-requires
     add-window-at
     window-at-requires
-    returns)
+    load-ok-requires
+    returns
+    returns-2)
