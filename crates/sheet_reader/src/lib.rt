@@ -3,7 +3,7 @@ ghost use mathlib.Core.Path.{_≡_};
 ghost use Prim.Native.Nat.{_+_, _≤_, _<_};
 ghost use lib.ListN.{length};
 ghost use Rattle.sheet.specs.Sizes.{layoutPlaces, viewPlaces};
-ghost use Rattle.sheet_reader.specs.Reading.{layoutMayCome, viewMayCome, stepMayCome, editionRefusal, layoutRefusal, viewRefusal, moreLayout, moreView, refusedRead, endRead, readSheet};
+ghost use Rattle.sheet_reader.specs.Reading.{layoutMayCome, viewMayCome, stepMayCome, editionRefusal, layoutRefusal, viewRefusal, moreLayout, moreView, refusedRead, readSheet};
 ghost use Rattle.sheet_reader.specs.Heads.{stepHeadRefusal, headRefusal};
 use fields::Cursor;
 use fields::Field;
@@ -195,19 +195,6 @@ fn refused_read(number: u8, place: usize) -> ReadAnswer
     }
 }
 
-fn end_read(sheet: Sheet, place: usize) -> ReadAnswer
-    ensures { λ r. ⌜ r ≡ endRead sheet place ⌝ }
-{
-    let edition = sheet.edition;
-    if edition < 1 {
-        return refused_read(OUT_OF_ORDER, place);
-    }
-    ReadAnswer {
-        refusal: refusals::not_refused(),
-        sheet,
-    }
-}
-
 // The sheet that the bytes are, or the number and the place of the first refusal with an empty sheet. Each part is put in its place as
 // it is read, so that no field copies the sheet. Loads and stores are put apart from whole steps, so that a step's fields are not put together
 // with those of every other kind.
@@ -279,13 +266,16 @@ pub fn read_sheet(s: &[u8]) -> ReadAnswer
         step[count] = Cell { step: found };
         count += 1;
     }
-    end_read(
-        Sheet {
+    if edition < 1 {
+        return refused_read(OUT_OF_ORDER, s.len());
+    }
+    ReadAnswer {
+        refusal: refusals::not_refused(),
+        sheet: Sheet {
             edition,
             tensors,
             steps: count,
             step,
         },
-        s.len(),
-    )
+    }
 }

@@ -5,6 +5,7 @@ use denote.Ref.{now}
 use lib.ListN.{length, length-set, length-replicate}
 use mathlib.Core.Bool.{Bool, true, false}
 use borrow.Author.Needs.{needs}
+use borrow.Author.Tests.{lt-ltb, le-ltb}
 use mathlib.Core.List.{List}
 use Rattle.numbers.specs.Choice.{pick}
 use Rattle.numbers.specs.Laws.Choice.{taken, left, went}
@@ -23,11 +24,12 @@ use Rattle.step_contents.specs.Contents.{stepAt, stepLength}
 use Rattle.step_contents.specs.Judged.{judged}
 use Rattle.step_contents.specs.Laws.Judged.{judged-bad, judged-good}
 use Rattle.contents.specs.Laws.Heads.{layout-room, view-room}
-use Rattle.sheet_reader.specs.Reading.{givenOf, fieldRefusal, withStep, withField, refusedRead, readFrom, readSheet}
+use Rattle.sheet_reader.specs.Reading.{givenOf, fieldRefusal, withStep, withField, refusedRead, acceptedRead, endRead, readFrom, readSheet}
 use Rattle.sheet_reader.specs.Heads.{headRefusal}
 use Rattle.sheet_reader.specs.Laws.Taken.{Took, took, took-edition, took-layout, took-view, layout-place, view-place, step-place}
 use Rattle.sheet_reader.specs.Laws.Heads.{head-refused, head-whole, StepHead, head-step, content-decides}
 use Rattle.sheet_reader.specs.Laws.Turns.{turn-on, turn-over, turn-end, turn-short, turn-refused, turn-next, with-edition, with-layout, with-view, with-step}
+use Rattle.sheet_reader.specs.declared.ReadAnswer.{ReadAnswer}
 use Rattle.sheet_reader.proofs.read_sheet.Statement.{statement}
 use Rattle.sheet_reader.proofs.read_sheet.Tie as tie
 
@@ -321,15 +323,34 @@ loop-again-5 : tie.Need-loop-again-5 Inv-loop μ-loop
 loop-again-5 c =
     goes-past (c .before .before .before .before .before) (c .before .before .whole-at .ensures _ _) (c .before .step-unused2 .ensures) (c .if8 .left)
 
-end-read-requires : tie.Need-end-read-requires Inv-loop μ-loop
-end-read-requires c κs = search needs
+-- at the end of the bytes reading is over
+module _ (c : tie.Else1 Inv-loop μ-loop) where
+  abbrev whole : Sheet
+  whole =
+      let i = c .before .before .loop in
+      record { edition = i .edition; tensors = i .tensors; steps = i .count; step = i .step }
+
+  abbrev bytes : List ℕ
+  bytes = now (c .before .before .before .before .before .before .before .args .s)
+
+  ends : {r : ReadAnswer} → r ≡ endRead whole (length bytes) → r ≡ readSheet bytes
+  ends e =
+      let i = c .before .before .loop in
+      e ∙ sym (turn-over _ (i .c .at) _ (i .inv .1 .0) (omega (arith, i .inv)) (turn-end _ _ _ (c .if1 .left))) ∙ i .inv .1 .1 .1
+
+refused-read-requires-5 : tie.Need-refused-read-requires-5 Inv-loop μ-loop
+refused-read-requires-5 c κs = search needs
 
 returns-5 : tie.Need-returns-5 Inv-loop μ-loop
-returns-5 c =
-    let i = c .before .before .before .loop in
-    c .end-read .ensures
-    ∙ sym (turn-over _ (i .c .at) _ (i .inv .1 .0) (omega (arith, i .inv)) (turn-end _ _ _ (c .before .if1 .left)))
-    ∙ i .inv .1 .1 .1
+unfolding endRead
+returns-5 c = ends (c .before .before) (taken _ (lt-ltb _ _ (c .before .if9 .taken)) (c .refused-read5 .ensures))
+
+not-refused-requires : tie.Need-not-refused-requires Inv-loop μ-loop
+not-refused-requires c κs = search needs
+
+returns-6 : tie.Need-returns-6 Inv-loop μ-loop
+unfolding endRead acceptedRead
+returns-6 c = ends (c .before .before) (left _ (le-ltb _ _ (c .before .if9 .left)) (rw (c .not-refused .ensures)))
 
 pub read-sheet-spec : {M : Type 1} → statement M
 read-sheet-spec =
@@ -377,5 +398,7 @@ read-sheet-spec =
     add-count-2
     loop-less-5
     loop-again-5
-    end-read-requires
-    returns-5)
+    refused-read-requires-5
+    returns-5
+    not-refused-requires
+    returns-6)
