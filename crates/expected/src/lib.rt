@@ -8,7 +8,7 @@ ghost use Rattle.sheet_ranges.specs.Steps.{stepOk};
 ghost use Rattle.sheet.specs.declared.Tensors.{Tensors};
 ghost use Rattle.registers.specs.Sized.{Sized, SizedType};
 ghost use Rattle.accesses.specs.Entries.{Near};
-ghost use Rattle.accepted.specs.Accepted.{ClearStep, entriesOutcome};
+ghost use Rattle.accepted.specs.Accepted.{ClearStep};
 ghost use Rattle.expected.specs.Expected.{sortOf, byteOf, eventOf, stepEvents};
 ghost use Rattle.expected.specs.Listed.{listedEvent, StepListed};
 use accepted::Outcomes;

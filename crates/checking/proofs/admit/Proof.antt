@@ -3,7 +3,6 @@ use borrow.Author.Tests.{le-leb, lt-leb}
 use Rattle.numbers.specs.Choice.{pick}
 use Rattle.sheet.specs.Sizes.{memoryLimit}
 use Rattle.checking.specs.Checking.{admitted}
-use native.Mathlib.Omega.{arith}
 use borrow.Author.Needs.{needs}
 use Rattle.checking.proofs.admit.Statement.{statement}
 use Rattle.checking.proofs.admit.Tie as tie

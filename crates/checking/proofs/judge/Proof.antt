@@ -3,7 +3,7 @@ use mathlib.Core.Path.{_≡_, sym, ap, _∙_}
 use Prim.Native.Nat.{_<_}
 use Rattle.sheet_reader.specs.declared.ReadAnswer.{ReadAnswer}
 use Rattle.checking.specs.Checking.{checkRefused, admitted, checked}
-use Rattle.checking.specs.Laws.Readable.{admitted-refused, Admitted, is-admitted}
+use Rattle.checking.specs.Laws.Readable.{admitted-refused, is-admitted}
 use native.Mathlib.Omega.{arith}
 use borrow.Author.Needs.{needs}
 use Rattle.checking.proofs.judge.Statement.{statement}

@@ -1,4 +1,3 @@
-use native.Mathlib.Omega.{arith}
 use borrow.Author.Needs.{needs}
 use Rattle.expected.proofs.event_of.Statement.{statement}
 use Rattle.expected.proofs.event_of.Tie as tie

@@ -3,7 +3,6 @@ use Rattle.accepted.specs.Laws.Clear.{load-clear, store-clear}
 use Rattle.expected.specs.Laws.Events.{nothing-listed, whole-listed, load-listed, store-listed}
 use mathlib.Core.Path.{ap, _∙_}
 use Rattle.registers.specs.Types.{theType}
-use native.Mathlib.Omega.{arith}
 use borrow.Author.Needs.{needs}
 use Rattle.expected.proofs.survey_step.Statement.{statement}
 use Rattle.expected.proofs.survey_step.Tie as tie

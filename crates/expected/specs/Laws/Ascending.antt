@@ -5,7 +5,6 @@ use mathlib.Core.Bool.{true, false}
 use mathlib.Core.List.{List, [], _∷_, _++_, append-assoc}
 use native.Mathlib.Omega.{arith}
 use borrow.Author.Tests.{eq-eqb, ne-eqb, lt-ltb}
-use lib.Dec.{eqb, ltb}
 use Rattle.numbers.specs.Choice.{pick, both}
 use Rattle.numbers.specs.Lists.{each}
 use Rattle.numbers.specs.Laws.Choice.{by-place}

@@ -1,7 +1,7 @@
 -- The events of a step: those that its survey lists, and how many there are.
-use Prim.Native.Nat.{ℕ, _-_, _*_, _<_, _≤_}
+use Prim.Native.Nat.{ℕ, _*_, _<_, _≤_}
 use mathlib.Core.Path.{_≡_, refl, sym, ap, _∙_}
-use mathlib.Core.Bool.{Bool, true, false}
+use mathlib.Core.Bool.{true, false}
 use mathlib.Core.List.{List, [], _∷_}
 use native.Mathlib.Omega.{arith}
 use lib.Dec.{eqb, ltb}
@@ -10,8 +10,6 @@ use Rattle.numbers.specs.Lists.{each}
 use Rattle.numbers.specs.Choice.{pick}
 use Rattle.numbers.specs.Laws.Choice.{by-test}
 use Rattle.numbers.specs.Laws.Joins.{each-same, length-each}
-use Rattle.outcomes.specs.declared.Outcome.{Outcome}
-use Rattle.outcomes.specs.declared.Outcome.the-variants.{Skipped, Filled, Discarded, Placed}
 use Rattle.sheet.specs.Sizes.{matrixPlaces}
 use Rattle.sheet.specs.declared.Object.{Object}
 use Rattle.sheet.specs.declared.Window.{Window}

@@ -1,6 +1,5 @@
 use Rattle.rows.specs.Rows.{capped}
 use Rattle.small_answers.specs.Laws.Small.{replayed-small}
-use native.Mathlib.Omega.{arith}
 use borrow.Author.Needs.{needs}
 use Rattle.moonbleat.proofs.moonbleat_replay.Statement.{statement}
 use Rattle.moonbleat.proofs.moonbleat_replay.Tie as tie

@@ -1,5 +1,4 @@
 use Rattle.small_answers.specs.Laws.Small.{traced-small}
-use native.Mathlib.Omega.{arith}
 use borrow.Author.Needs.{needs}
 use Rattle.moonbleat.proofs.moonbleat_trace.Statement.{statement}
 use Rattle.moonbleat.proofs.moonbleat_trace.Tie as tie

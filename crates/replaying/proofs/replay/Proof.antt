@@ -3,7 +3,7 @@ use mathlib.Core.Path.{_≡_, sym, ap, _∙_}
 use Prim.Native.Nat.{_<_}
 use Rattle.refusals.specs.declared.Refusal.{Refusal}
 use Rattle.sheet_reader.specs.declared.ReadAnswer.{ReadAnswer}
-use Rattle.checking.specs.Checking.{admitted, checked}
+use Rattle.checking.specs.Checking.{admitted}
 use Rattle.checking.specs.Laws.Readable.{admitted-refused, is-admitted}
 use Rattle.checking.specs.declared.CheckAnswer.{CheckAnswer}
 use Rattle.replaying.proofs.Laws.{sheet-refused, trace-refused, both-compared}

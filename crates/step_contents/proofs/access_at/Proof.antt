@@ -3,7 +3,6 @@ use Rattle.numbers.specs.Choice.{pick}
 use Rattle.numbers.specs.Laws.Choice.{between-low, between-high}
 use Rattle.sheet.specs.Codes.{loadTag, storeTag}
 use Rattle.step_contents.specs.Contents.{stepAt, stepLength}
-use borrow.Author.Needs.{needs}
 use native.Mathlib.Omega.{arith}
 use Rattle.step_contents.proofs.access_at.Statement.{statement}
 use Rattle.step_contents.proofs.access_at.Tie as tie

@@ -7,7 +7,6 @@ use Rattle.numbers.specs.Laws.Choice.{between-true}
 use Rattle.sheet.specs.Codes.{loadTag, storeTag}
 use Rattle.sheet.specs.Editions.{fillLength}
 use Rattle.step_contents.specs.Contents.{stepAt, stepLength}
-use borrow.Author.Needs.{needs}
 use native.Mathlib.Omega.{arith}
 use Rattle.step_contents.proofs.whole_at.Statement.{statement}
 use Rattle.step_contents.proofs.whole_at.Tie as tie

@@ -3,10 +3,9 @@ use mathlib.Core.Path.{_≡_, sym, ap, _∙_}
 use Prim.Native.Nat.{ℕ, _*_, _<_, _≤_}
 use lib.ListN.{length}
 use Rattle.checking.specs.declared.CheckAnswer.{CheckAnswer}
-use Rattle.checking.specs.Laws.Readable.{Readable, sheet-readable, judged-read}
-use Rattle.sheet_reader.specs.Reading.{readSheet}
+use Rattle.checking.specs.Laws.Readable.{sheet-readable, judged-read}
 use Rattle.traces.specs.Events.{eventLength}
-use Rattle.tracing.specs.Tracing.{traceAnswer, tracedLength}
+use Rattle.tracing.specs.Tracing.{tracedLength}
 use Rattle.tracing.proofs.Laws.{refused-answer, refused-room, short-answer, short-room, trace-answer, trace-room}
 use native.Mathlib.Omega.{arith}
 use borrow.Author.Needs.{needs}
