@@ -24,6 +24,11 @@ use Rattle.accesses.specs.declared.Tally.{Tally}
 use Rattle.accesses.specs.Refusals.{elementOutcome, firstRefused, sameByte, sameAt, meets, clashFrom, apart, clashRefusal, elementsRefusal, placedOne, placedCount, checkedBy, checkedElements, misplaced, otherRank, storeBlocked, accessRefusal, checkedAccess}
 use Rattle.accesses.specs.Entries.{Near, filledEntry, discardedEntry, entryOf, hasByte, hits, sameEntry, Surveyed}
 use Rattle.sheet.specs.Sizes.{matrixPlaces, memoryLimit}
+use Rattle.accesses.specs.declared.Checked.{Checked}
+
+-- the number of a check's refusal
+abbrev pub number : Checked → ℕ
+number c = c .stop .number
 
 -- The search of refusal 15
 module _ (same : ℕ → ℕ → Bool) where

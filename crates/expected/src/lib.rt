@@ -3,7 +3,7 @@ ghost use mathlib.Core.Path.{_≡_};
 ghost use mathlib.Core.Bool.{true};
 ghost use Prim.Native.Nat.{ℕ, _*_, _≤_, _<_};
 ghost use lib.ListN.{length};
-ghost use Rattle.sheet.specs.Sizes.{matrixPlaces};
+ghost use Rattle.sheet.specs.Sizes.{stepPlaces, matrixPlaces};
 ghost use Rattle.sheet_ranges.specs.Steps.{stepOk};
 ghost use Rattle.sheet.specs.declared.Tensors.{Tensors};
 ghost use Rattle.registers.specs.Sized.{Sized, SizedType};
@@ -11,7 +11,6 @@ ghost use Rattle.accesses.specs.Entries.{Near};
 ghost use Rattle.accepted.specs.Accepted.{ClearStep};
 ghost use Rattle.expected.specs.Expected.{sortOf, byteOf, eventOf, stepEvents};
 ghost use Rattle.expected.specs.Listed.{listedEvent, StepListed};
-use accepted::Outcomes;
 use checking::checks;
 use outcomes::Outcome;
 use registers::MatrixType;
@@ -49,7 +48,7 @@ fn byte_of(o: Outcome) -> u32
 }
 
 fn event_of(step: usize, element: usize, o: Outcome) -> Event
-    requires { ⌜ (step < 65536) × (element < 65536) × Near o ⌝ }
+    requires { ⌜ (step < stepPlaces) × (element < matrixPlaces) × Near o ⌝ }
     ensures { λ r. ⌜ r ≡ eventOf step element o ⌝ }
 {
     Event {
@@ -60,47 +59,43 @@ fn event_of(step: usize, element: usize, o: Outcome) -> Event
     }
 }
 
-// The event of an element by its entry of a survey.
+// The event of an element by its entry of a survey. The bits of a filled element do not show in its event, so any will do.
 pub fn listed_event(entries: &[u32; PLACES], step: usize, element: usize) -> Event
-    requires { ⌜ (step < 65536) × (element < matrixPlaces) ⌝ }
+    requires { ⌜ (step < stepPlaces) × (element < matrixPlaces) ⌝ }
     ensures { λ r. ⌜ r ≡ listedEvent step (now (entries .entry)) element ⌝ }
 {
     event_of(step, element, accesses::outcome_of(entries[element], 0))
 }
 
-fn no_outcomes() -> Outcomes
-    ensures { λ r. ⌜ r .count ≡ 0 ⌝ }
-{
-    Outcomes { count: 0, fill: 0 }
-}
-
-// The outcomes of a step's elements, into lent entries; none for a step that is no load and no store.
+// The outcomes of a step's elements, into lent entries, and how many there are: none of a step that is no load and no store.
 pub fn survey_step(
     entries: &mut [u32; PLACES],
     tensors: Tensors,
     types: [MatrixType; REGISTERS],
     memory: usize,
     step: Step,
-) -> Outcomes
+) -> usize
     requires { ⌜ ClearStep tensors types memory step × (length (now entries) ≡ matrixPlaces) ⌝ }
     ensures { λ _. ⌜ length (now (entries .exit)) ≡ matrixPlaces ⌝ }
-    ensures { λ r. ⌜ StepListed tensors types memory step (now (entries .exit)) (r .count) ⌝ }
+    ensures { λ r. ⌜ StepListed tensors types memory step (now (entries .exit)) r ⌝ }
 {
     match step {
-        Step::Nothing => no_outcomes(),
+        Step::Nothing => 0,
         Step::Load {
             register,
             object,
             window,
         } => {
             let t = registers::the_type(types, checks::object_register(register, object));
-            accepted::survey_window(entries, tensors, true, window, t, memory)
+            let o = accepted::survey_window(entries, tensors, true, window, t, memory);
+            o.count
         }
         Step::Store { register, window } => {
             let t = registers::the_type(types, register);
-            accepted::survey_window(entries, tensors, false, window, t, memory)
+            let o = accepted::survey_window(entries, tensors, false, window, t, memory);
+            o.count
         }
-        Step::Whole(_) => no_outcomes(),
+        Step::Whole(_) => 0,
     }
 }
 

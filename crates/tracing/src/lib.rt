@@ -75,9 +75,9 @@ fn write_trace(out: &mut [u8], sheet: Sheet, memory: usize)
     while k < steps {
         let c = sheet.step[k];
         let step = c.step;
-        let o = expected::survey_step(&mut entries, tensors, types, memory, step);
-        write_events(out, at, &entries, o.count, k);
-        at += o.count * EVENT_LEN;
+        let count = expected::survey_step(&mut entries, tensors, types, memory, step);
+        write_events(out, at, &entries, count, k);
+        at += count * EVENT_LEN;
         let after = checks::step_types(types, step);
         types = after;
         k += 1;

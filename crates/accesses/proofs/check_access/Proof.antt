@@ -1,17 +1,12 @@
-use Prim.Native.Nat.{ℕ}
 use mathlib.Core.Path.{ap, _∙_}
 use native.Mathlib.Omega.{arith}
-use Rattle.accesses.specs.declared.Checked.{Checked}
 use borrow.Author.Needs.{needs}
 use Rattle.numbers.specs.Laws.Choice.{went, tests}
 use Rattle.addressing.specs.Laws.Plans.{planned-access}
 use Rattle.accesses.specs.Laws.Accepted.{ranks-agree}
-use Rattle.accesses.proofs.Laws.{access-nine, access-ten, access-eleven, access-elements}
+use Rattle.accesses.proofs.Laws.{number, access-nine, access-ten, access-eleven, access-elements}
 use Rattle.accesses.proofs.check_access.Statement.{statement}
 use Rattle.accesses.proofs.check_access.Tie as tie
-
-abbrev number : Checked → ℕ
-number c = c .stop .number
 
 refuse-requires : tie.Need-refuse-requires
 refuse-requires c κs = search needs

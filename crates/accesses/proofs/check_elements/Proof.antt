@@ -1,17 +1,12 @@
-use Prim.Native.Nat.{ℕ}
 use mathlib.Core.Path.{sym, ap, _∙_}
 use native.Mathlib.Omega.{arith}
 use Rattle.numbers.specs.Laws.Choice.{went}
 use Rattle.addressing.specs.Laws.Plans.{plan-count}
 use Rattle.accesses.specs.Laws.Surveys.{element-near, surveyed-told}
-use Rattle.accesses.proofs.Laws.{clash-surveyed, apart-none, apart-found, checked-refused, checked-load, checked-clash, checked-apart}
-use Rattle.accesses.specs.declared.Checked.{Checked}
+use Rattle.accesses.proofs.Laws.{number, clash-surveyed, apart-none, apart-found, checked-refused, checked-load, checked-clash, checked-apart}
 use borrow.Author.Needs.{needs}
 use Rattle.accesses.proofs.check_elements.Statement.{statement}
 use Rattle.accesses.proofs.check_elements.Tie as tie
-
-abbrev number : Checked → ℕ
-number c = c .stop .number
 
 survey-requires : tie.Need-survey-requires
 survey-requires c κs = search needs

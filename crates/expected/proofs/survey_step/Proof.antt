@@ -1,7 +1,7 @@
 use Rattle.checking.specs.Laws.Names.{load-object, store-register}
 use Rattle.accepted.specs.Laws.Clear.{load-clear, store-clear}
 use Rattle.expected.specs.Laws.Events.{nothing-listed, whole-listed, load-listed, store-listed}
-use mathlib.Core.Path.{ap, _∙_}
+use mathlib.Core.Path.{refl, ap, _∙_}
 use Rattle.registers.specs.Types.{theType}
 use borrow.Author.Needs.{needs}
 use Rattle.expected.proofs.survey_step.Statement.{statement}
@@ -9,9 +9,6 @@ use Rattle.expected.proofs.survey_step.Tie as tie
 
 enum-told : tie.Need-enum-told
 enum-told c = search needs
-
-no-outcomes-requires : tie.Need-no-outcomes-requires
-no-outcomes-requires c κs = search needs
 
 enum-known-step : tie.Need-enum-known-step
 enum-known-step c = search needs
@@ -41,43 +38,39 @@ survey-window-requires-2 c κs =
 enum-told-2 : tie.Need-enum-told-2
 enum-told-2 c = search needs
 
-no-outcomes-requires-2 : tie.Need-no-outcomes-requires-2
-no-outcomes-requires-2 c κs = search needs
-
 returns : tie.Need-returns
 returns c =
-    let s = c .before .before .before in
+    let s = c .before .before in
     let a = s .args in
-    (s .pre .1, rw (c .before .enum-told .given .1) (nothing-listed (a .tensors) (a .types) (a .memory) (c .no-outcomes .ensures)))
+    (s .pre .1, rw (c .enum-told .given .1) (nothing-listed (a .tensors) (a .types) (a .memory) refl))
 
 returns-2 : tie.Need-returns-2
 returns-2 c =
-    let s = c .before .before .before .before .before .before .before in
-    let a = s .args in
+    let a = c .before .before .before .before .before .before .before .args in
     let g = c .before .before .before .before .before .step .given in
     let so = c .before .before .the-type .ensures ∙ ap (theType (a .types)) (c .before .before .before .object-register .ensures) in
-    (c .survey-window .ensures .0, rw (g .1) (load-listed (a .tensors) (a .types) (a .memory) (g .0 .0) (g .0 .1 .1 .0) (g .0 .1 .0) so (c .survey-window .ensures .1)))
+    let e = c .survey-window .ensures in
+    (e .0, rw (g .1) (load-listed (a .tensors) (a .types) (a .memory) (g .0 .0) (g .0 .1 .1 .0) (g .0 .1 .0) so (e .1)))
 
 returns-3 : tie.Need-returns-3
 returns-3 c =
-    let s = c .before .before .before .before .before .before in
-    let a = s .args in
+    let a = c .before .before .before .before .before .before .args in
     let g = c .before .before .before .before .step2 .given in
-    (c .survey-window2 .ensures .0, rw (g .1) (store-listed (a .tensors) (a .types) (a .memory) (g .0 .0) (g .0 .1 .0) (c .before .before .the-type2 .ensures) (c .survey-window2 .ensures .1)))
+    let e = c .survey-window2 .ensures in
+    (e .0, rw (g .1) (store-listed (a .tensors) (a .types) (a .memory) (g .0 .0) (g .0 .1 .0) (c .before .before .the-type2 .ensures) (e .1)))
 
 returns-4 : tie.Need-returns-4
 returns-4 c =
-    let s = c .before .before .before in
+    let s = c .before .before in
     let a = s .args in
-    let g = c .before .enum-told2 .given in
-    (s .pre .1, rw (g .1) (whole-listed (a .tensors) (a .types) (a .memory) (g .0 .0) (c .no-outcomes2 .ensures)))
+    let g = c .enum-told2 .given in
+    (s .pre .1, rw (g .1) (whole-listed (a .tensors) (a .types) (a .memory) (g .0 .0) refl))
 
 pub survey-step-spec : {M : Type 1} → statement M
 survey-step-spec =
     tie.close
     (tie.spec
     enum-told
-    no-outcomes-requires
     enum-known-step
     object-register-requires
     the-type-requires
@@ -86,7 +79,6 @@ survey-step-spec =
     the-type-requires-2
     survey-window-requires-2
     enum-told-2
-    no-outcomes-requires-2
     returns
     returns-2
     returns-3

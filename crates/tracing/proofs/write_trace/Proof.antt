@@ -82,44 +82,44 @@ write-events-requires c κs =
     (omega (arith, l .inv .2, l .inv .3, go, both, step-count (o .ensures .1) (l .k)), omega (arith, h, within-places (q .0)), o .ensures .1 .few)
 
 mul-at : tie.Need-mul-at Inv-loop μ-loop
-mul-at c = omega (arith, c .before .before .before .before .before .before .survey-step .ensures .1 .few)
+mul-at c = omega (arith, c .before .before .before .before .before .survey-step .ensures .1 .few)
 
 add-at : tie.Need-add-at Inv-loop μ-loop
 add-at c =
+    let s = c .before .before .before .before .before .before .before .before .before .before .before .before .before .before in
+    let a = s .args in
+    let q = s .pre .0 in
+    let l = c .before .before .before .before .before .before .before .before .before .loop in
+    let h = c .before .before .before .before .before .before .before .before .loop-test .taken in
+    let o = c .before .before .before .before .before .survey-step in
+    let step = theStep (a .t2 .step) (l .k) in
+    let after = stepTypes (l .types) step in
+    let go = ap length (pass-go (a .t2) (q .0) (a .memory) (q .1) (l .k) (l .types) h (l .inv .1) {after = after} refl (eventsAt (a .t2) (a .memory))) in
+    let both = length-append (stepEvents (a .t2 .tensors) (l .types) (a .memory) (l .k) step) (passRest (eventsAt (a .t2) (a .memory)) (a .t2) (a .memory) (l .k + 1) after) in
+    let room : l .at + o .result * eventLength ≤ length (now (a .out)) = omega (arith, l .inv .3, go, both, step-count (o .ensures .1) (l .k)) in
+    search needs
+
+step-types-requires : tie.Need-step-types-requires Inv-loop μ-loop
+step-types-requires c κs =
+    let s = c .before .before .before .before .before .before .before .before .before .before .before .before .before .before in
+    let sh = s .args .t2 in
+    (sh .edition, sh .tensors .layouts, sh .tensors .views, within-step sh (s .pre .0 .0) (c .before .before .before .before .before .before .before .before .before .loop .k) (c .before .before .before .before .before .before .before .before .loop-test .taken))
+
+add-k : tie.Need-add-k Inv-loop μ-loop
+add-k c = omega (arith, c .before .before .before .before .before .before .before .before .before .loop-test .taken, within-places (c .before .before .before .before .before .before .before .before .before .before .before .before .before .before .before .pre .0 .0))
+
+loop-less : tie.Need-loop-less Inv-loop μ-loop
+loop-less c = omega (arith, c .before .before .before .before .before .before .before .before .before .loop-test .taken)
+
+loop-again : tie.Need-loop-again Inv-loop μ-loop
+loop-again c =
     let s = c .before .before .before .before .before .before .before .before .before .before .before .before .before .before .before in
     let a = s .args in
     let q = s .pre .0 in
     let l = c .before .before .before .before .before .before .before .before .before .before .loop in
     let h = c .before .before .before .before .before .before .before .before .before .loop-test .taken in
     let o = c .before .before .before .before .before .before .survey-step in
-    let step = theStep (a .t2 .step) (l .k) in
-    let after = stepTypes (l .types) step in
-    let go = ap length (pass-go (a .t2) (q .0) (a .memory) (q .1) (l .k) (l .types) h (l .inv .1) {after = after} refl (eventsAt (a .t2) (a .memory))) in
-    let both = length-append (stepEvents (a .t2 .tensors) (l .types) (a .memory) (l .k) step) (passRest (eventsAt (a .t2) (a .memory)) (a .t2) (a .memory) (l .k + 1) after) in
-    let room : l .at + o .result .count * eventLength ≤ length (now (a .out)) = omega (arith, l .inv .3, go, both, step-count (o .ensures .1) (l .k)) in
-    search needs
-
-step-types-requires : tie.Need-step-types-requires Inv-loop μ-loop
-step-types-requires c κs =
-    let s = c .before .before .before .before .before .before .before .before .before .before .before .before .before .before .before in
-    let sh = s .args .t2 in
-    (sh .edition, sh .tensors .layouts, sh .tensors .views, within-step sh (s .pre .0 .0) (c .before .before .before .before .before .before .before .before .before .before .loop .k) (c .before .before .before .before .before .before .before .before .before .loop-test .taken))
-
-add-k : tie.Need-add-k Inv-loop μ-loop
-add-k c = omega (arith, c .before .before .before .before .before .before .before .before .before .before .loop-test .taken, within-places (c .before .before .before .before .before .before .before .before .before .before .before .before .before .before .before .before .pre .0 .0))
-
-loop-less : tie.Need-loop-less Inv-loop μ-loop
-loop-less c = omega (arith, c .before .before .before .before .before .before .before .before .before .before .loop-test .taken)
-
-loop-again : tie.Need-loop-again Inv-loop μ-loop
-loop-again c =
-    let s = c .before .before .before .before .before .before .before .before .before .before .before .before .before .before .before .before in
-    let a = s .args in
-    let q = s .pre .0 in
-    let l = c .before .before .before .before .before .before .before .before .before .before .before .loop in
-    let h = c .before .before .before .before .before .before .before .before .before .before .loop-test .taken in
-    let o = c .before .before .before .before .before .before .before .survey-step in
-    let w = c .before .before .before .before .write-events in
+    let w = c .before .before .before .write-events in
     let es = stepEvents (a .t2 .tensors) (l .types) (a .memory) (l .k) (theStep (a .t2 .step) (l .k)) in
     let rest = passRest (eventsAt (a .t2) (a .memory)) (a .t2) (a .memory) (l .k + 1) (c .step-types .result) in
     let go = pass-go (a .t2) (q .0) (a .memory) (q .1) (l .k) (l .types) h (l .inv .1) (c .step-types .ensures) (eventsAt (a .t2) (a .memory)) in
