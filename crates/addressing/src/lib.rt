@@ -166,7 +166,7 @@ fn reach(a: Access, numbers: &[u16; LAYOUT_NUMBERS], fill: u32, index: u64) -> L
 }
 
 // Rules 1 and 2: element number k. Without a view the index is that number.
-fn index_of(
+pub fn index_of(
     p: Plan,
     permutation: &[u8; RANK],
     sizes: &[u32; RANK],

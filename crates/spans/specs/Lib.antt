@@ -1,0 +1,4 @@
+pub mod Spans
+pub mod Needed
+pub mod Laws
+pub mod Theorems
