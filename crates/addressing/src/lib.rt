@@ -21,7 +21,7 @@ use tensors::LAYOUT_NUMBERS;
 use view_indices::wide;
 
 // 2 to the 32nd, from which on an index gets 12.
-const INDEX_LIMIT: u64 = 4294967296;
+pub const INDEX_LIMIT: u64 = 4294967296;
 
 // A load or a store of a matrix: its layout, its view where it is `viewed`, its base, the bytes of an element and of memory, the sides.
 pub struct Access {
