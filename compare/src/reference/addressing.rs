@@ -37,15 +37,9 @@ pub struct Addressing<'a> {
 impl Addressing<'_> {
     /// The outcome of an element, or 12, 13 or 14.
     pub fn locate(&self, element: usize) -> Result<Outcome, Cause> {
-        let row = element / self.type_.columns;
-        let column = element % self.type_.columns;
-        let Some(index) = self.matrix_index(row, column) else {
+        let Some(index) = self.index(element)? else {
             return Ok(Outcome::Skipped);
         };
-        let index = self.view_index(index);
-        if index >= 1 << 32 {
-            return Err(Cause::IndexTooLarge);
-        }
         let span_coordinates = span_coordinates(&self.layout.dimensions, index);
         match self.tensor_coordinates(&span_coordinates)? {
             Clamped::Inside(coordinates) => self.byte(&coordinates),
@@ -54,6 +48,20 @@ impl Addressing<'_> {
             }
             Clamped::Discarded => Ok(Outcome::Discarded),
         }
+    }
+
+    /// Rules 1 and 2: an element's index, none if it is skipped; or 12.
+    pub fn index(&self, element: usize) -> Result<Option<u64>, Cause> {
+        let row = element / self.type_.columns;
+        let column = element % self.type_.columns;
+        let Some(index) = self.matrix_index(row, column) else {
+            return Ok(None);
+        };
+        let index = self.view_index(index);
+        if index >= 1 << 32 {
+            return Err(Cause::IndexTooLarge);
+        }
+        Ok(Some(index))
     }
 
     /// Rule 1: the element's number, with a view within its clip; none outside the clip.
@@ -156,6 +164,28 @@ fn span_coordinates(dimensions: &[Dimension], index: u64) -> [u64; 5] {
     coordinates
 }
 
+/// The index that rule 3 has at each dimension: what the divisions by the later spans leave.
+pub fn indices(dimensions: &[Dimension], index: u64) -> [u64; 5] {
+    let mut indices = [0; DIMENSIONS_MAX];
+    let mut rest = index;
+    for (i, dimension) in dimensions.iter().enumerate().rev() {
+        indices[i] = rest;
+        rest /= u64::from(dimension.span);
+    }
+    indices
+}
+
+/// Whether rule 3 counts a division in a dimension: its span is above 1 while the index isn't 0.
+pub fn divides(dimension: &Dimension, index: u64) -> bool {
+    dimension.span > 1 && index != 0
+}
+
+/// The divisions that rule 3 counts for an index.
+pub fn divisions(dimensions: &[Dimension], index: u64) -> u32 {
+    let met = dimensions.iter().zip(indices(dimensions, index));
+    met.filter(|&(dimension, index)| divides(dimension, index)).count() as u32
+}
+
 /// MirrorRepeat; for a dimension of 1, where the source divides by zero, 0.
 fn mirrored(c: i64, n: i64) -> i64 {
     if n == 1 {
@@ -200,6 +230,37 @@ mod tests {
         assert_eq!(around, [1, 0, 1, 2, 3, 2, 1, 0, 1, 2, 3, 2, 1, 0, 1, 2]);
         assert!((-5..6).all(|c| mirrored(c, 1) == 0));
         assert_eq!((-3..4).map(|c| mirrored(c, 2)).collect::<Vec<_>>(), [1, 0, 1, 0, 1, 0, 1]);
+    }
+
+    /// Dimensions of which the spans alone matter.
+    fn with_spans(spans: &[u16]) -> Vec<Dimension> {
+        let of_span = |&span| Dimension { block_size: 1, size: 1, stride: 1, offset: 0, span };
+        spans.iter().map(of_span).collect()
+    }
+
+    #[test]
+    fn a_division_takes_a_span_above_1_and_an_index_above_0() {
+        let spans = with_spans(&[1, 1, 4, 1, 8]);
+        assert_eq!(indices(&spans, 37), [1, 1, 4, 4, 37]);
+        assert_eq!(divisions(&spans, 37), 2);
+        assert_eq!(indices(&spans, 5), [0, 0, 0, 0, 5]);
+        assert_eq!(divisions(&spans, 5), 1);
+        // 8 leaves 1, which 4 divides; what is left is 0 or, from the spans' product on, more.
+        assert_eq!([7, 8, 31, 32, 4_000_000_000].map(|i| divisions(&spans, i)), [1, 2, 2, 2, 2]);
+        assert_eq!(divisions(&spans, 0), 0);
+        assert_eq!(divisions(&with_spans(&[1, 1, 1, 1, 1]), u64::from(u32::MAX)), 0);
+    }
+
+    #[test]
+    fn a_dimension_counts_by_the_index_that_the_later_ones_leave() {
+        let twos = with_spans(&[2, 2, 2, 2, 2]);
+        let counts = [0, 1, 2, 3, 4, 8, 15, 16, 31, 32, 33].map(|index| divisions(&twos, index));
+        assert_eq!(counts, [0, 1, 2, 2, 3, 4, 4, 5, 5, 5, 5]);
+        let past = with_spans(&[3, 1, 2]);
+        assert_eq!(indices(&past, 13)[..3], [6, 6, 13]);
+        assert_eq!(divisions(&past, 13), 2);
+        assert_eq!(divisions(&with_spans(&[1, 3]), 1), 1);
+        assert_eq!(divisions(&with_spans(&[3, 1]), 1), 1);
     }
 
     #[test]

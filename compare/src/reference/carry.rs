@@ -1,7 +1,7 @@
 //! Carrying out a sheet: first every refusal, which depends on types and lengths alone, then
 //! the steps, which can no longer fail.
 
-use super::addressing::{Access, Addressing, Outcome};
+use super::addressing::{divisions, Access, Addressing, Outcome};
 use super::refusal::{Cause, Refusal};
 use super::registers::{Matrix, Registers, Type};
 use super::sheet::{read_sheet, Sheet, Step};
@@ -11,17 +11,43 @@ use super::{check_memory, REGISTERS};
 /// The types of the registers.
 pub type Types = [Option<Type>; REGISTERS];
 
-/// An accepted sheet: for each step what becomes of its elements, none for a whole step.
+/// A sheet that is accepted for a memory length: for each step the types that it finds, and what
+/// becomes of its elements, none for a whole step.
+#[derive(Clone)]
 pub struct Checked {
     pub sheet: Sheet,
+    pub memory_len: usize,
+    pub types: Vec<Types>,
     pub outcomes: Vec<Vec<Outcome>>,
 }
 
 impl Checked {
+    /// What each load and store addresses with, and what becomes of its elements.
+    pub fn addressings(&self) -> impl Iterator<Item = (Addressing<'_>, &[Outcome])> {
+        let steps = self.sheet.steps.iter().zip(&self.types).zip(&self.outcomes);
+        steps.filter_map(|((step, types), outcomes)| {
+            let addressing = addressing(&self.sheet, step, types, self.memory_len)?;
+            Some((addressing.expect("accepted"), &outcomes[..]))
+        })
+    }
+
     /// How many elements of loads and stores have a byte.
     pub fn byte_elements(&self) -> u32 {
         let placed = |outcome: &&Outcome| matches!(outcome, Outcome::Placed(_));
         self.outcomes.iter().flatten().filter(placed).count() as u32
+    }
+
+    /// How many divisions rule 3 counts over all elements of loads and stores, skipped ones aside.
+    pub fn divisions(&self) -> u32 {
+        let mut count = 0;
+        for (addressing, _) in self.addressings() {
+            for element in 0..addressing.type_.elements() {
+                if let Some(index) = addressing.index(element).expect("accepted") {
+                    count += divisions(&addressing.layout.dimensions, index);
+                }
+            }
+        }
+        count
     }
 }
 
@@ -35,14 +61,16 @@ pub struct Carried {
 pub fn check(sheet: &[u8], memory_len: usize) -> Result<Checked, Refusal> {
     check_memory(memory_len)?;
     let sheet = read_sheet(sheet)?;
-    let mut types = Types::default();
+    let mut now = Types::default();
+    let mut types = Vec::with_capacity(sheet.steps.len());
     let mut outcomes = Vec::with_capacity(sheet.steps.len());
     for (number, step) in sheet.steps.iter().enumerate() {
-        let of_step = check_step(&sheet, step, &mut types, memory_len);
+        types.push(now);
+        let of_step = check_step(&sheet, step, &mut now, memory_len);
         outcomes
             .push(of_step.map_err(|(cause, element)| Refusal::at_element(cause, number, element))?);
     }
-    Ok(Checked { sheet, outcomes })
+    Ok(Checked { sheet, memory_len, types, outcomes })
 }
 
 /// Checks one step, gives what becomes of its elements and updates the types. A refusal has the
@@ -53,38 +81,37 @@ pub fn check_step(
     types: &mut Types,
     memory_len: usize,
 ) -> Result<Vec<Outcome>, (Cause, usize)> {
-    let at_step = |cause| (cause, 0);
-    let (type_, outcomes) = match *step {
-        Step::Load { register, object, layout, view, base } => {
-            let type_ = read(types[object.unwrap_or(register)]).map_err(at_step)?;
-            let access = Access::Load;
-            let addressing = addressing(sheet, access, layout, view, base, type_, memory_len);
-            (type_, check_access(&addressing)?)
+    let (type_, outcomes) = match addressing(sheet, step, types, memory_len) {
+        Some(addressing) => {
+            let addressing = addressing.map_err(|cause| (cause, 0))?;
+            (addressing.type_, check_access(&addressing)?)
         }
-        Step::Store { register, layout, view, base } => {
-            let type_ = read(types[register]).map_err(at_step)?;
-            let access = Access::Store;
-            let addressing = addressing(sheet, access, layout, view, base, type_, memory_len);
-            (type_, check_access(&addressing)?)
-        }
-        _ => (whole_type(step, types, memory_len).expect("a whole step")?, Vec::new()),
+        None => (whole_type(step, types, memory_len).expect("a whole step")?, Vec::new()),
     };
     types[step.register()] = Some(type_);
     Ok(outcomes)
 }
 
-fn addressing(
-    sheet: &Sheet,
-    access: Access,
-    layout: usize,
-    view: Option<usize>,
-    base: u32,
-    type_: Type,
+/// What a load or a store addresses with, or 7; None for a whole step.
+fn addressing<'a>(
+    sheet: &'a Sheet,
+    step: &Step,
+    types: &Types,
     memory_len: usize,
-) -> Addressing<'_> {
+) -> Option<Result<Addressing<'a>, Cause>> {
+    let (access, source, layout, view, base) = match *step {
+        Step::Load { register, object, layout, view, base } => {
+            (Access::Load, object.unwrap_or(register), layout, view, base)
+        }
+        Step::Store { register, layout, view, base } => {
+            (Access::Store, register, layout, view, base)
+        }
+        _ => return None,
+    };
     let layout = &sheet.layouts[layout];
     let view = view.map(|view| &sheet.views[view]);
-    Addressing { access, layout, view, base, type_, memory_len }
+    let of_type = |type_| Addressing { access, layout, view, base, type_, memory_len };
+    Some(read(types[source]).map(of_type))
 }
 
 /// Refusals 9 to 15 of a load or a store, and its outcomes.
@@ -184,4 +211,55 @@ pub fn bits_at(memory: &[u8], byte: usize, size: usize) -> u32 {
 /// Writes raw bits at a byte, little-endian.
 pub fn put_bits(memory: &mut [u8], byte: usize, size: usize, bits: u32) {
     memory[byte..byte + size].copy_from_slice(&bits.to_le_bytes()[..size]);
+}
+
+#[cfg(test)]
+mod tests {
+    use super::super::sheet::{sheet_bytes, ClampMode, Clip, Dimension, Layout, View};
+    use super::super::Kind;
+    use super::*;
+
+    fn fill(register: usize, rows: usize, columns: usize) -> Step {
+        Step::Fill { register, rows, columns, kind: Kind::U8, value: 0 }
+    }
+
+    fn dimension(size: u16, stride: u16, span: u16) -> Dimension {
+        Dimension { block_size: 1, size, stride, offset: 0, span }
+    }
+
+    /// The divisions of some steps after fills of register 0, 2 by 4, and register 1, 1 by 1. The
+    /// layout has spans 2 by 4, of which 1 by 3 places are inside; the view has columns 1 and 2.
+    fn divisions_of(steps: &[&Step]) -> u32 {
+        let layout = Layout {
+            clamp_mode: ClampMode::Constant,
+            clamp_value: 0,
+            dimensions: vec![dimension(1, 3, 2), dimension(3, 1, 4)],
+        };
+        let view = View {
+            permutation: vec![0, 1],
+            dimensions: None,
+            clip: Clip { row_offset: 0, row_span: 2, column_offset: 1, column_span: 2 },
+        };
+        let mut sheet = Sheet { layouts: vec![layout], views: vec![view], ..Sheet::default() };
+        sheet.steps = vec![fill(0, 2, 4), fill(1, 1, 1)];
+        sheet.steps.extend(steps.iter().copied().cloned());
+        check(&sheet_bytes(&sheet), 3).map(|checked| checked.divisions()).expect("accepted")
+    }
+
+    #[test]
+    fn divisions_are_those_of_all_elements_of_loads_and_stores() {
+        let load = Step::Load { register: 1, object: Some(0), layout: 0, view: None, base: 0 };
+        let clipped = Step::Load { register: 0, object: None, layout: 0, view: Some(0), base: 0 };
+        let store = Step::Store { register: 1, layout: 0, view: None, base: 0 };
+        let transpose = Step::Transpose { result: 2, source: 0 };
+        // The object's indices 0 to 7: one each for 1 to 3, two each from 4 on. Those from 3 on
+        // are outside.
+        assert_eq!(divisions_of(&[&load]), 11);
+        // Four elements are skipped; the others have indices 0 to 3.
+        assert_eq!(divisions_of(&[&clipped]), 3);
+        assert_eq!(divisions_of(&[&store]), 0);
+        assert_eq!(divisions_of(&[&load, &store]), 22);
+        assert_eq!(divisions_of(&[&transpose]), 0);
+        assert_eq!(divisions_of(&[&clipped, &load, &transpose, &store]), 25);
+    }
 }

@@ -14,7 +14,7 @@ mod trace;
 mod vector;
 mod whole;
 
-pub use addressing::{Access, Outcome};
+pub use addressing::{divides, divisions, indices, Access, Addressing, Outcome};
 pub use carry::{carry_out, check, check_step, do_step, Carried, Checked, Types};
 pub use edition::Edition;
 pub use kind::Kind;
