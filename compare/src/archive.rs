@@ -76,9 +76,16 @@ extern "C" {
         verdict: *mut u32,
         answer: *mut u32,
     ) -> u32;
+
+    fn moonbleat_divisions(
+        sheet: *const u8,
+        sheet_len: usize,
+        memory_len: usize,
+        answer: *mut u32,
+    ) -> u32;
 }
 
-/// The archive's eight functions. They ask nothing of their arguments but that each pointer has
+/// The archive's nine functions. They ask nothing of their arguments but that each pointer has
 /// the length that is passed with it or that the header names, as references in Rust have.
 pub struct Archive;
 
@@ -207,5 +214,10 @@ impl Jobs for Archive {
                 answer.as_mut_ptr(),
             )
         }
+    }
+
+    fn divisions(&self, sheet: &[u8], memory_len: usize, answer: &mut Answer) -> u32 {
+        // SAFETY: as above; the memory's length comes without a memory.
+        unsafe { moonbleat_divisions(sheet.as_ptr(), sheet.len(), memory_len, answer.as_mut_ptr()) }
     }
 }

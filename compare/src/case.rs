@@ -136,6 +136,7 @@ pub enum Job {
     Run,
     Trace,
     Replay,
+    Divisions,
 }
 
 /// Everything that a call was lent and may have changed, as it is afterwards, and its result.
@@ -259,6 +260,12 @@ fn replay_exit(jobs: &dyn Jobs, case: &Case, trace: &[u8]) -> Exit {
     exit
 }
 
+fn divisions_exit(jobs: &dyn Jobs, case: &Case) -> Exit {
+    let mut exit = Exit::lent(&[], 0);
+    exit.returned = jobs.divisions(&case.sheet, case.told_len, &mut exit.answer);
+    exit
+}
+
 /// The two sides of a comparison and what it has met.
 pub struct Comparison<'a> {
     pub archive: &'a dyn Jobs,
@@ -285,6 +292,7 @@ impl Comparison<'_> {
         self.round_trip(case)?;
         self.tape_agrees(case, &carried)?;
         self.trace_agrees(case)?;
+        self.same(Job::Divisions, |jobs| divisions_exit(jobs, case))?;
         // The compiler may think that what is lent to be read stays as it is; look again.
         let Case { sheet, tapes, traces, .. } = black_box(case);
         if (sheet, tapes, traces) != (&inputs.0, &inputs.1, &inputs.2) {

@@ -18,7 +18,7 @@ const PLACES: usize = 3;
 const PLACES_KEPT: usize = 1_000;
 /// One in so many sheets is to have a vector step, where the edition has such steps.
 const VECTORS_ONE_IN: u64 = 3;
-const JOBS: [Job; 8] = [
+const JOBS: [Job; 9] = [
     Job::Read,
     Job::Rewrite,
     Job::Check,
@@ -27,6 +27,7 @@ const JOBS: [Job; 8] = [
     Job::Run,
     Job::Trace,
     Job::Replay,
+    Job::Divisions,
 ];
 
 /// Counts of answers, causes and outcomes of the sheets that were made for an edition.
@@ -51,7 +52,7 @@ fn numbers(job: Job) -> Vec<u32> {
     match job {
         Job::Read => (0..=6).collect(),
         Job::Rewrite => (0..=6).chain([19]).collect(),
-        Job::Check | Job::CarryOut => (0..=15).chain([18]).collect(),
+        Job::Check | Job::CarryOut | Job::Divisions => (0..=15).chain([18]).collect(),
         Job::Translate => (0..=16).chain([18]).collect(),
         Job::Run => (0..=6).chain([17, 18]).collect(),
         Job::Trace => (0..=15).chain([18, 19]).collect(),

@@ -221,6 +221,10 @@ impl Jobs for Faulty {
         }
         answer[0]
     }
+
+    fn divisions(&self, sheet: &[u8], memory_len: usize, answer: &mut Answer) -> u32 {
+        self.reference.divisions(sheet, memory_len, answer)
+    }
 }
 
 impl Faulty {

@@ -5,7 +5,7 @@ use std::cell::Cell;
 use crate::reference::{self, Carried, Cause, Refusal, Registers, Verdict, RECORD_NUMBERS};
 
 /// The row of four: number, place, second place, byte-elements (of a rewrite and a trace: bytes;
-/// of a replay: accesses).
+/// of a replay: accesses; of divisions: their number).
 pub type Answer = [u32; 4];
 
 /// A replay's verdict: 1 and 0, or 0 and the index of the first difference.
@@ -49,7 +49,7 @@ impl State {
     }
 }
 
-/// The eight functions of `include/moonbleat.h`: each returns the refusal's number.
+/// The nine functions of `include/moonbleat.h`: each returns the refusal's number.
 pub trait Jobs {
     fn read(&self, sheet: &[u8], counts: &mut [u32; 3], answer: &mut Answer) -> u32;
 
@@ -94,6 +94,8 @@ pub trait Jobs {
         verdict: &mut VerdictRow,
         answer: &mut Answer,
     ) -> u32;
+
+    fn divisions(&self, sheet: &[u8], memory_len: usize, answer: &mut Answer) -> u32;
 }
 
 /// The plain implementation. It remembers why it refused last, which the C interface does not
@@ -213,5 +215,10 @@ impl Jobs for Reference {
         let replayed = reference::replay(sheet, memory_len, trace);
         *verdict = replayed.as_ref().map_or([0; 2], |replayed| verdict_row(replayed.verdict));
         self.finish(answer, replayed.map(|replayed| replayed.accesses))
+    }
+
+    fn divisions(&self, sheet: &[u8], memory_len: usize, answer: &mut Answer) -> u32 {
+        let checked = reference::check(sheet, memory_len);
+        self.finish(answer, checked.map(|checked| checked.divisions()))
     }
 }

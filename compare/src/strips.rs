@@ -92,6 +92,19 @@ const ACCESSES: [(&str, &[[Access; 8]]); 4] = [
     ("08-clip", &[[SKIPPED, SKIPPED, at(0), at(1), SKIPPED, SKIPPED, at(4), at(5)]]),
 ];
 
+/// Strips with the divisions that rule 3 counts over all elements of their loads and stores.
+const DIVISIONS: [(&str, u32); 5] = [
+    // Indices 0 to 7 by 8, in the store as in the load.
+    ("01-constant", 7),
+    ("06-clamped-store", 14),
+    // Indices 0 to 5 by 3, and 3 to 5 then by 2.
+    ("07-permuted-view", 8),
+    // Indices 0, 1, 4 and 5 by 8.
+    ("08-clip", 3),
+    // Indices 0 and 1, then 0 to 2 by 3.
+    ("13-two-layer-network", 3),
+];
+
 /// Reads hex digits, two a byte, with blanks between them and comments from `#` to the line's end.
 pub fn bytes_of_hex(text: &str) -> Vec<u8> {
     let digits: Vec<u32> = text
@@ -111,9 +124,13 @@ pub fn check_strips(jobs: &dyn Jobs) -> Result<usize, String> {
         check_strip(jobs, strip).map_err(|what| format!("strip {}: {what}", strip.name))?;
     }
     check_strip_4_tape(jobs)?;
+    let named = |name| strips.iter().find(|strip| strip.name == name).expect("there is one");
     for (name, steps) in ACCESSES {
-        let strip = strips.iter().find(|strip| strip.name == name).expect("there is one");
-        check_trace(jobs, strip, steps).map_err(|what| format!("strip {name}: {what}"))?;
+        check_trace(jobs, named(name), steps).map_err(|what| format!("strip {name}: {what}"))?;
+    }
+    for (name, count) in DIVISIONS {
+        check_divisions(jobs, named(name), count)
+            .map_err(|what| format!("strip {name}: {what}"))?;
     }
     Ok(strips.len())
 }
@@ -178,6 +195,12 @@ fn check_trace(jobs: &dyn Jobs, strip: &Strip, steps: &[[Access; 8]]) -> Result<
     jobs.replay(&strip.sheet, memory_len, &expected, &mut verdict, &mut answer);
     equal("answer of its replay", &answer, &[0, 0, 0, entries.len() as u32])?;
     equal("verdict", &verdict, &AGREES)
+}
+
+fn check_divisions(jobs: &dyn Jobs, strip: &Strip, count: u32) -> Result<(), String> {
+    let mut answer = [0; 4];
+    jobs.divisions(&strip.sheet, strip.memory.len(), &mut answer);
+    equal("answer of its divisions", &answer, &[0, 0, 0, count])
 }
 
 #[cfg(test)]
