@@ -292,7 +292,7 @@ impl Comparison<'_> {
         self.round_trip(case)?;
         self.tape_agrees(case, &carried)?;
         self.trace_agrees(case)?;
-        self.same(Job::Divisions, |jobs| divisions_exit(jobs, case))?;
+        self.divisions_agree(case)?;
         // The compiler may think that what is lent to be read stays as it is; look again.
         let Case { sheet, tapes, traces, .. } = black_box(case);
         if (sheet, tapes, traces) != (&inputs.0, &inputs.1, &inputs.2) {
@@ -362,6 +362,15 @@ impl Comparison<'_> {
             return Err(format!("a sheet's own trace differs: {:?}", replayed.verdict));
         }
         self.coverage.replay(&own, case.told_len, traced.bytes());
+        Ok(())
+    }
+
+    /// Both sides count the same divisions, or refuse alike.
+    fn divisions_agree(&mut self, case: &Case) -> Result<(), String> {
+        self.same(Job::Divisions, |jobs| divisions_exit(jobs, case))?;
+        if let Ok(checked) = check(&case.sheet, case.told_len) {
+            self.coverage.divisions(&checked);
+        }
         Ok(())
     }
 }

@@ -10,7 +10,7 @@ use crate::reference::{
     Step, RECORD_NUMBERS, WHOLE_STEP,
 };
 use crate::tapes::Tape;
-use crate::{trace_sights, vector_sights};
+use crate::{span_sights, trace_sights, vector_sights};
 
 /// How many different places a refusal is to be met at, where it has more than one.
 const PLACES: usize = 3;
@@ -220,6 +220,13 @@ impl Coverage {
         }
     }
 
+    /// Notes what rule 3 does in an accepted sheet, whose divisions were counted.
+    pub fn divisions(&mut self, checked: &Checked) {
+        for sight in span_sights::of_accepted(checked) {
+            self.sight(String::from(sight));
+        }
+    }
+
     fn sight(&mut self, sight: String) {
         *self.sights.entry(sight).or_default() += 1;
     }
@@ -294,6 +301,7 @@ impl Coverage {
 /// Everything that sheets of an edition are to be seen doing.
 fn sights(edition: Edition) -> Vec<String> {
     let mut sights = trace_sights::every();
+    sights.extend(span_sights::every());
     if edition.has_vectors() {
         sights.extend(vector_sights::every());
     }

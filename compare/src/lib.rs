@@ -11,6 +11,7 @@ pub mod jobs;
 pub mod random;
 pub mod reference;
 pub mod shrink;
+mod span_sights;
 pub mod strips;
 pub mod tapes;
 mod trace_sights;
