@@ -2,12 +2,14 @@
 
 use crate::case::{Case, Comparison};
 use crate::coverage::Coverage;
+use crate::generate::UNCLIPPED;
 use crate::jobs::{verdict_row, Answer, Jobs, Reference, State, VerdictRow, AGREES};
 use crate::reference::{
-    check, do_step, entries, read_sheet, read_trace, trace_bytes, verdict, Cause, Checked, Edition,
-    Entry, Interpretation, Kind, Matrix, MemoryLayout, Registers, Step, VectorStep, ACCESS_LENGTH,
-    BIAS_SIZE, PLACED,
+    check, divides, do_step, entries, indices, read_sheet, read_trace, trace_bytes, verdict,
+    Addressing, Cause, Checked, Dimension, Edition, Entry, Interpretation, Kind, Matrix,
+    MemoryLayout, Outcome, Registers, Step, VectorStep, View, ACCESS_LENGTH, BIAS_SIZE, PLACED,
 };
+use crate::span_sights::is_outside;
 use crate::traces::{mended, BYTE, SORT};
 
 /// So many cases find each fault out.
@@ -16,6 +18,7 @@ const CASES: u64 = 400;
 /// What an implementation does wrong.
 #[derive(Clone, Copy, Debug)]
 enum Fault {
+    Nothing,
     ChangesMemoryOfRefused,
     KeepsRegistersOfRefused,
     KeepsCountsOfRefused,
@@ -46,6 +49,15 @@ enum Fault {
     KeepsTheVerdictOfRefused,
     WritesPastTheTrace,
     WritesWhatFits,
+    CountsSpansOf1,
+    CountsIndicesOf0,
+    OverlooksQuotientsOf0,
+    CountsSkippedElements,
+    OverlooksElementsOutside,
+    EndsAtADimensionOutside,
+    CountsByTheElementsNumber,
+    CountsByTheRegistersSize,
+    KeepsTheDivisionsOfRefused,
 }
 
 const FAULTS: [Fault; 8] = [
@@ -87,6 +99,19 @@ const TRACE_FAULTS: [Fault; 15] = [
     Fault::KeepsTheVerdictOfRefused,
     Fault::WritesPastTheTrace,
     Fault::WritesWhatFits,
+];
+
+/// Faults that take divisions to show.
+const DIVISION_FAULTS: [Fault; 9] = [
+    Fault::CountsSpansOf1,
+    Fault::CountsIndicesOf0,
+    Fault::OverlooksQuotientsOf0,
+    Fault::CountsSkippedElements,
+    Fault::OverlooksElementsOutside,
+    Fault::EndsAtADimensionOutside,
+    Fault::CountsByTheElementsNumber,
+    Fault::CountsByTheRegistersSize,
+    Fault::KeepsTheDivisionsOfRefused,
 ];
 
 /// The reference with a fault.
@@ -223,7 +248,16 @@ impl Jobs for Faulty {
     }
 
     fn divisions(&self, sheet: &[u8], memory_len: usize, answer: &mut Answer) -> u32 {
-        self.reference.divisions(sheet, memory_len, answer)
+        let number = self.reference.divisions(sheet, memory_len, answer);
+        match (self.fault, check(sheet, memory_len)) {
+            (Fault::CountsByTheRegistersSize, Ok(checked)) => {
+                answer[3] = divisions_with(self.fault, &by_the_registers_size(&checked));
+            }
+            (_, Ok(checked)) => answer[3] = divisions_with(self.fault, &checked),
+            (Fault::KeepsTheDivisionsOfRefused, Err(_)) if number > 6 => answer[3] = 1,
+            _ => {}
+        }
+        number
     }
 }
 
@@ -324,6 +358,66 @@ fn by_the_registers_size(checked: &Checked) -> Checked {
     checked
 }
 
+/// Counts the divisions of an accepted sheet with a fault.
+fn divisions_with(fault: Fault, checked: &Checked) -> u32 {
+    let mut divisions = 0;
+    for (addressing, outcomes) in checked.addressings() {
+        for (element, &outcome) in outcomes.iter().enumerate() {
+            if let Some(index) = index_with(fault, &addressing, element, outcome) {
+                divisions += count_with(fault, &addressing.layout.dimensions, index, outcome);
+            }
+        }
+    }
+    divisions
+}
+
+/// The index by which an element is counted, none if it is not, with a fault.
+fn index_with(
+    fault: Fault,
+    addressing: &Addressing,
+    element: usize,
+    outcome: Outcome,
+) -> Option<u64> {
+    match (fault, outcome) {
+        (Fault::CountsSkippedElements, Outcome::Skipped) => unclipped_index(addressing, element),
+        (_, Outcome::Skipped) => None,
+        (Fault::OverlooksElementsOutside, Outcome::Filled(_) | Outcome::Discarded) => None,
+        (Fault::CountsByTheElementsNumber, _) => Some(element as u64),
+        _ => addressing.index(element).expect("accepted"),
+    }
+}
+
+/// The index that an element would have if its view clipped nothing, unless it is too large.
+fn unclipped_index(addressing: &Addressing, element: usize) -> Option<u64> {
+    let view = addressing.view.map(|view| View { clip: UNCLIPPED, ..view.clone() });
+    Addressing { view: view.as_ref(), ..*addressing }.index(element).ok()?
+}
+
+/// Counts the divisions of an index with a fault.
+fn count_with(fault: Fault, dimensions: &[Dimension], index: u64, outcome: Outcome) -> u32 {
+    let met: Vec<(&Dimension, u64)> = dimensions.iter().zip(indices(dimensions, index)).collect();
+    let first = match (fault, outcome) {
+        (Fault::EndsAtADimensionOutside, Outcome::Filled(_) | Outcome::Discarded) => {
+            met.iter().rposition(|&(dimension, index)| is_outside(dimension, index))
+        }
+        _ => None,
+    };
+    let divides = |&&(dimension, index): &&(&Dimension, u64)| divides_with(fault, dimension, index);
+    met[first.unwrap_or(0)..].iter().filter(divides).count() as u32
+}
+
+/// Whether a dimension at an index counts, with a fault.
+fn divides_with(fault: Fault, dimension: &Dimension, index: u64) -> bool {
+    match fault {
+        Fault::CountsSpansOf1 => index != 0,
+        Fault::CountsIndicesOf0 => dimension.span > 1,
+        Fault::OverlooksQuotientsOf0 => {
+            divides(dimension, index) && index >= u64::from(dimension.span)
+        }
+        _ => divides(dimension, index),
+    }
+}
+
 const EDITION_1: [u8; 4] = [1, 1, 0, 1];
 const EDITION_2: [u8; 4] = [1, 1, 0, 2];
 
@@ -402,13 +496,13 @@ fn each_fault_is_found_out() {
     for fault in VECTOR_FAULTS {
         assert!(found_out(&faulty(fault), Edition::Two), "{fault:?}");
     }
-    for fault in TRACE_FAULTS {
+    for fault in [&TRACE_FAULTS[..], &DIVISION_FAULTS].concat() {
         for edition in Edition::ALL {
             assert!(found_out(&faulty(fault), edition), "{fault:?}");
         }
     }
     for edition in Edition::ALL {
-        assert!(!found_out(&Reference::default(), edition));
+        assert!(!found_out(&faulty(Fault::Nothing), edition));
     }
 }
 

@@ -12,7 +12,7 @@ const STEPS_MAX: usize = 32;
 /// The most words of a packed input.
 const WORDS_MAX: usize = SIDE_MAX.div_ceil(COMPONENTS_A_WORD);
 /// Clip numbers that clip nothing.
-const UNCLIPPED: Clip =
+pub const UNCLIPPED: Clip =
     Clip { row_offset: 0, row_span: 65_535, column_offset: 0, column_span: 65_535 };
 
 /// A sheet and the length of the memory that it is for.

@@ -127,7 +127,7 @@ fn of_outside(dimensions: &[Dimension], indices: &[u64], outcome: &Outcome) -> V
 }
 
 /// Whether the coordinate of an index in a dimension is outside.
-fn is_outside(dimension: &Dimension, index: u64) -> bool {
+pub fn is_outside(dimension: &Dimension, index: u64) -> bool {
     let coordinate = (index % u64::from(dimension.span)) as i64 + i64::from(dimension.offset);
     !(0..i64::from(dimension.size)).contains(&coordinate)
 }
