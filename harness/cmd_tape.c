@@ -22,7 +22,7 @@ static void print_json(const struct refused *translated, const int32_t *numbers,
     struct json json = {false};
     open_answer(&json, &tape_command, translated);
     json_number(&json, "memory", (int64_t)translated->memory_len);
-    json_number(&json, BYTE_ELEMENTS_KEY, translated->answer[MOONBLEAT_BYTE_ELEMENTS]);
+    json_number(&json, BYTE_ELEMENTS, translated->answer[MOONBLEAT_BYTE_ELEMENTS]);
     json_open(&json, "records", '[');
     for (size_t i = 0; i < records; i++) {
         json_open(&json, NULL, '[');

@@ -64,9 +64,9 @@ static void print_register(unsigned number, const uint8_t *type, const uint32_t 
     print_matrix(type, elements);
 }
 
-void print_accepted(const uint32_t answer[4])
+void print_accepted(const char *name, const uint32_t answer[4])
 {
-    printf("accepted, byte-elements: %" PRIu32 "\n", answer[MOONBLEAT_BYTE_ELEMENTS]);
+    printf("accepted, %s: %" PRIu32 "\n", name, answer[MOONBLEAT_BYTE_ELEMENTS]);
 }
 
 /* The type and the elements of a register. */
@@ -85,7 +85,7 @@ void print_result(const struct result *result)
     for (unsigned i = 0; i < MOONBLEAT_REGISTERS; i++) {
         print_register(i, type_of(result, i), elements_of(result, i));
     }
-    print_accepted(result->answer);
+    print_accepted(BYTE_ELEMENTS, result->answer);
 }
 
 static void json_matrix(struct json *json, const uint8_t *type, const uint32_t *elements)
@@ -108,7 +108,7 @@ static void json_matrix(struct json *json, const uint8_t *type, const uint32_t *
 
 void json_result(struct json *json, const struct result *result)
 {
-    json_number(json, BYTE_ELEMENTS_KEY, result->answer[MOONBLEAT_BYTE_ELEMENTS]);
+    json_number(json, BYTE_ELEMENTS, result->answer[MOONBLEAT_BYTE_ELEMENTS]);
     json_open(json, "registers", '[');
     for (unsigned i = 0; i < MOONBLEAT_REGISTERS; i++) {
         if (type_of(result, i)[MOONBLEAT_TYPE_ROWS] == 0) {

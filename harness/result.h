@@ -23,15 +23,16 @@ void registers_bytes(const struct result *result, uint8_t bytes[REGISTERS_BYTES]
 /* The other way: types and elements of a file's bytes; the answer stays. */
 void registers_result(const uint8_t bytes[REGISTERS_BYTES], struct result *result);
 
-/* Prints how many elements had a byte. */
-void print_accepted(const uint32_t answer[4]);
+/* What the count of most answers is called. */
+#define BYTE_ELEMENTS "byte-elements"
+
+/* Prints the count of an accepted input's answer by its name. */
+void print_accepted(const char *name, const uint32_t answer[4]);
 
 /* Prints the registers, then the above. */
 void print_result(const struct result *result);
 
 /* The same as members of an object. */
 void json_result(struct json *json, const struct result *result);
-
-#define BYTE_ELEMENTS_KEY "byte elements"
 
 #endif
