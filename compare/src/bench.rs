@@ -7,12 +7,21 @@ use crate::jobs::{Jobs, State, AGREES};
 use crate::reference::{
     sheet_bytes, trace, ClampMode, Clip, Combine, Dimension, Edition, Interpretation, Kind, Layout,
     MemoryLayout, ReduceMode, Sheet, Step, VectorStep, View, ViewDimension, COMPONENTS_A_WORD,
-    MEMORY_MAX, RECORDS_MAX, RECORD_NUMBERS,
+    MEMORY_MAX, RECORDS_MAX, RECORD_NUMBERS, SIDE_MAX,
 };
 
 /// A sample lasts at least so long, so that the clock's grain does not matter.
 const SAMPLE: Duration = Duration::from_micros(500);
 const STEPS: usize = 32;
+/// Spans for the elements of a 16 by 16 matrix: none to four leading ones of 1, three between.
+const SPANS: [[u16; 5]; 6] = [
+    [2, 2, 4, 4, 4],
+    [1, 4, 4, 4, 4],
+    [1, 1, 4, 8, 8],
+    [1, 1, 1, 16, 16],
+    [1, 1, 1, 1, 256],
+    [16, 1, 1, 1, 16],
+];
 
 /// Prints the medians and their ratios.
 pub fn bench(archive: &dyn Jobs, reference: &dyn Jobs, samples: usize) {
@@ -34,6 +43,14 @@ pub fn bench(archive: &dyn Jobs, reference: &dyn Jobs, samples: usize) {
     for side in [1, 2, 4, 8, 12, 16] {
         bench_side(side, archive, reference, samples);
     }
+    println!("\ncarry_out of {STEPS} steps, a fill and 16 by 16 loads, by the spans of the layout");
+    println!(
+        "{:<14}{:>14}{:>16}{:>18}{:>8}",
+        "spans", "divisions/el", "archive ns/el", "reference ns/el", "ratio"
+    );
+    for spans in SPANS {
+        bench_spans(spans, archive, reference, samples);
+    }
 }
 
 fn bench_sheet(name: &str, sheet: &[u8], archive: &dyn Jobs, reference: &dyn Jobs, samples: usize) {
@@ -45,6 +62,7 @@ fn bench_sheet(name: &str, sheet: &[u8], archive: &dyn Jobs, reference: &dyn Job
         ("run_tape", Bench::run),
         ("trace", Bench::trace),
         ("replay", Bench::replay),
+        ("divisions", Bench::divisions),
     ] {
         let [one, other] = bench.medians([archive, reference], call, samples);
         let ratio = one / other;
@@ -56,9 +74,23 @@ fn bench_side(side: usize, archive: &dyn Jobs, reference: &dyn Jobs, samples: us
     let sheet = sheet_bytes(&plain_loads(side));
     let elements = (STEPS - 1) * side * side;
     let mut bench = Bench::new(&sheet, reference);
-    let medians = bench.medians([archive, reference], Bench::carry_out, samples);
-    let [one, other] = medians.map(|seconds| seconds * 1e9 / elements as f64);
+    let [one, other] = bench.carry_out_an_element([archive, reference], elements, samples);
     println!("{side:<8}{elements:>10}{one:>16.2}{other:>18.2}{:>8.2}", one / other);
+}
+
+fn bench_spans(spans: [u16; 5], archive: &dyn Jobs, reference: &dyn Jobs, samples: usize) {
+    let sheet = sheet_bytes(&loads_by_spans(spans));
+    let elements = (STEPS - 1) * SIDE_MAX * SIDE_MAX;
+    let mut bench = Bench::new(&sheet, reference);
+    let [counted, expected] = [archive, reference].map(|jobs| {
+        bench.divisions(jobs);
+        bench.answer
+    });
+    assert_eq!(counted, expected, "divisions of spans {spans:?}");
+    let divisions = f64::from(counted[3]) / elements as f64;
+    let [one, other] = bench.carry_out_an_element([archive, reference], elements, samples);
+    let (spans, ratio) = (spaced(spans), one / other);
+    println!("{spans:<14}{divisions:>14.2}{one:>16.2}{other:>18.2}{ratio:>8.2}");
 }
 
 /// The lent arrays of one sheet's calls.
@@ -125,6 +157,21 @@ impl Bench {
         assert_eq!(verdict, AGREES, "a trace of the timings differs");
     }
 
+    fn divisions(&mut self, jobs: &dyn Jobs) {
+        jobs.divisions(&self.sheet, MEMORY_MAX, &mut self.answer);
+    }
+
+    /// The median time of carrying out on each side, in nanoseconds an element.
+    fn carry_out_an_element(
+        &mut self,
+        sides: [&dyn Jobs; 2],
+        elements: usize,
+        samples: usize,
+    ) -> [f64; 2] {
+        let medians = self.medians(sides, Bench::carry_out, samples);
+        medians.map(|seconds| seconds * 1e9 / elements as f64)
+    }
+
     /// The median time of a call of each side, in seconds; the sides take turns.
     fn medians(
         &mut self,
@@ -167,8 +214,20 @@ fn median(mut times: Vec<f64>) -> f64 {
     times[times.len() / 2]
 }
 
-/// The sheets of the timings, each of 32 steps.
-pub fn named_sheets() -> Vec<(&'static str, Vec<u8>)> {
+/// The sheets of the timings, those of smaller matrices aside.
+pub fn timed_sheets() -> Vec<(String, Vec<u8>)> {
+    let by_spans = SPANS
+        .map(|spans| (format!("spans {}", spaced(spans)), sheet_bytes(&loads_by_spans(spans))));
+    let named = named_sheets().into_iter().map(|(name, sheet)| (String::from(name), sheet));
+    named.chain(by_spans).collect()
+}
+
+fn spaced(spans: [u16; 5]) -> String {
+    spans.map(|span| span.to_string()).join(" ")
+}
+
+/// The sheets whose jobs are all timed, each of 32 steps.
+fn named_sheets() -> Vec<(&'static str, Vec<u8>)> {
     [
         ("plain 16 by 16 loads", plain_loads(16)),
         ("padded loads", padded_loads()),
@@ -222,6 +281,16 @@ fn plain_loads(side: usize) -> Sheet {
     let mut steps = vec![fill(0, side, 0)];
     steps.extend((1..STEPS).map(|step| load(0, None, base(step))));
     Sheet { layouts: vec![square_layout(side)], steps, ..Sheet::default() }
+}
+
+/// Loads of whole registers through a layout of five dimensions, which are as long as their spans.
+fn loads_by_spans(spans: [u16; 5]) -> Sheet {
+    let mut dimensions = spans.map(|span| dimension(span, 1));
+    for i in (1..spans.len()).rev() {
+        dimensions[i - 1].stride = dimensions[i].stride * spans[i];
+    }
+    let layouts = vec![layout(ClampMode::Undefined, dimensions.to_vec())];
+    Sheet { layouts, ..plain_loads(SIDE_MAX) }
 }
 
 /// A quarter of the rows lies outside and is mirrored.
@@ -323,9 +392,9 @@ mod tests {
 
     #[test]
     fn the_sheets_of_the_timings_are_accepted() {
-        for (name, sheet) in named_sheets() {
+        for (name, sheet) in timed_sheets() {
             let mut bench = Bench::new(&sheet, &Reference::default());
-            for call in [Bench::run, Bench::trace, Bench::replay] {
+            for call in [Bench::run, Bench::trace, Bench::replay, Bench::divisions] {
                 call(&mut bench, &Reference::default());
                 assert_eq!(bench.answer[0], 0, "{name}");
             }

@@ -8,7 +8,7 @@ use std::process::ExitCode;
 use std::time::Instant;
 
 use archive::Archive;
-use compare::bench::{bench, named_sheets};
+use compare::bench::{bench, timed_sheets};
 use compare::case::{Case, Comparison};
 use compare::coverage::Coverage;
 use compare::jobs::Reference;
@@ -33,7 +33,7 @@ compare dump FOLDER [--sheets N] [--seed S] [--edition E]
 const SHEETS_FOR_COVERAGE: u64 = 20_000;
 const SEED: u64 = 1;
 /// Each sheet of the timings is compared so often, with other traces each time.
-const TIMES_TIMED: u64 = 20;
+const TIMES_TIMED: u64 = 10;
 
 struct Options {
     help: bool,
@@ -150,7 +150,7 @@ fn compare_timed(seed: u64) -> Result<(), String> {
     let reference = Reference::default();
     let coverage = Coverage::new(edition);
     let mut comparison = Comparison { archive: &Archive, reference: &reference, coverage };
-    let sheets = named_sheets();
+    let sheets = timed_sheets();
     for (name, sheet) in &sheets {
         for number in 0..TIMES_TIMED {
             let random = &mut Random::of_case(seed, number);
