@@ -86,7 +86,7 @@ static void print_tool_help(void)
     print_usage(stdout, NULL);
     printf("  moonbleat --version\n\n");
     for (const struct command *const *command = commands; *command != NULL; command++) {
-        printf("  %-10s%s\n", (*command)->name, (*command)->summary);
+        printf("  %-11s%s\n", (*command)->name, (*command)->summary);
     }
     for (size_t i = 0; i < SECTIONS; i++) {
         printf("\n%s\n%s", sections[i].heading, sections[i].lines);

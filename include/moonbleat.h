@@ -24,7 +24,8 @@
  *   answer[3]  byte-elements: how many elements of loads and stores had a byte in memory (what a
  *              vector step reads is not counted); for a running tape those of takes and puts, for
  *              a rewritten sheet or a written trace its length in bytes, for a replayed trace how
- *              many elements loads and stores have, with a byte or without, for a read sheet 0
+ *              many elements loads and stores have, with a byte or without, for counted divisions
+ *              their number, for a read sheet 0
  *
  * A refused input changes nothing: memory and the rooms of a tape, a sheet and a trace are as
  * before, counts, records, types, elements and the verdict are all 0, and so is answer[3]. Of an
@@ -100,7 +101,7 @@ extern "C" {
 
 /* The version of this interface: a major one may break callers, a minor one adds to it. */
 #define MOONBLEAT_VERSION_MAJOR 1
-#define MOONBLEAT_VERSION_MINOR 3
+#define MOONBLEAT_VERSION_MINOR 4
 #define MOONBLEAT_VERSION_PATCH 0
 
 /* The newest edition of sheets that is taken, from 1 on. */
@@ -336,6 +337,17 @@ uint32_t moonbleat_trace(const uint8_t *sheet, size_t sheet_len, size_t memory_l
  */
 uint32_t moonbleat_replay(const uint8_t *sheet, size_t sheet_len, size_t memory_len, const uint8_t *trace,
                           size_t trace_len, uint32_t verdict[2], uint32_t answer[4]);
+
+/*
+ * Counts the divisions by spans that the elements of a sheet's loads and stores take on a memory of
+ * some length, without a memory. Rule 3 of docs/SHEETS.md divides an element's index by its layout's
+ * spans, from the last dimension to the first: a division for each span above 1 while the index is
+ * not 0. A span of 1 and an index of 0 need none. An element outside the view's clip takes none; for
+ * every other one they are counted, with a byte or without. answer[3] is their number. Nothing else
+ * depends on it: it is there for those who time layouts. Refusals 18 and 1 to 15, as moonbleat_check
+ * gives them.
+ */
+uint32_t moonbleat_divisions(const uint8_t *sheet, size_t sheet_len, size_t memory_len, uint32_t answer[4]);
 
 #ifdef __cplusplus
 }

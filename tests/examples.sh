@@ -1,8 +1,8 @@
 #!/bin/sh
 # Tries the examples of docs/SHEETS.md. Each block is named by its kind: a `sheet` is assembled, and
-# the `run`, `tape`, `trace` or `refusal` behind it must be what the tool prints for it, on a memory of
-# 256 bytes in which byte i holds i; `hex` must be the bytes of the sheet before it that has a run. A
-# `recorded` is a card's trace in hex, and the `replay` behind it what the tool says of it.
+# the `run`, `tape`, `trace`, `divisions` or `refusal` behind it must be what the tool prints for it, on
+# a memory of 256 bytes in which byte i holds i; `hex` must be the bytes of the sheet before it that has
+# a run. A `recorded` is a card's trace in hex, and the `replay` behind it what the tool says of it.
 #
 #   tests/examples.sh FOLDER      FOLDER has the programs moonbleat and unhex
 
@@ -43,6 +43,7 @@ for block in [0-9]*; do
         *.run) gives "$block" "$bin/moonbleat" run sheet memory ;;
         *.tape) gives "$block" "$bin/moonbleat" tape sheet ;;
         *.trace) gives "$block" "$bin/moonbleat" trace sheet --memory 256 ;;
+        *.divisions) gives "$block" "$bin/moonbleat" divisions sheet --memory 256 ;;
         *.recorded) "$bin/unhex" < "$block" > recorded || fail "docs/SHEETS.md, block $block: hex" ;;
         *.replay) gives "$block" "$bin/moonbleat" replay sheet recorded --memory 256 ;;
         *.hex) "$bin/unhex" < "$block" > bytes && gives bytes cat sheet ;;

@@ -139,6 +139,12 @@ static void replay_nothing_for_no_access(uint8_t *nothing, int32_t *no_numbers, 
         moonbleat_replay(fill_sheet, sizeof fill_sheet, 0, nothing, 0, result->verdict, result->answer);
 }
 
+static void divisions_of_nothing(uint8_t *nothing, int32_t *no_numbers, struct result *result)
+{
+    (void)no_numbers;
+    result->returned = moonbleat_divisions(nothing, 0, 0, result->answer);
+}
+
 static const struct {
     const char *name;
     call *call;
@@ -161,6 +167,7 @@ static const struct {
     {"replay for nothing", replay_for_nothing, MOONBLEAT_REFUSED_ORDER},
     {"replay nothing", replay_nothing, 0},
     {"replay nothing for no access", replay_nothing_for_no_access, 0},
+    {"divisions of nothing", divisions_of_nothing, MOONBLEAT_REFUSED_ORDER},
 };
 
 enum { CASES = sizeof cases / sizeof cases[0], GARBAGE = 0xA5 };

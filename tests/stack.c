@@ -79,6 +79,11 @@ static void do_replay(void)
                      lent.answer);
 }
 
+static void do_divisions(void)
+{
+    moonbleat_divisions(lent.sheet.at, lent.sheet.len, sizeof lent.memory, lent.answer);
+}
+
 static struct {
     const char *name;
     void (*call)(void);
@@ -88,6 +93,7 @@ static struct {
     {"moonbleat_check", do_check, 0},         {"moonbleat_carry_out", do_carry_out, 0},
     {"moonbleat_translate", do_translate, 0}, {"moonbleat_run", do_run, 0},
     {"moonbleat_trace", do_trace, 0},         {"moonbleat_replay", do_replay, 0},
+    {"moonbleat_divisions", do_divisions, 0},
 };
 
 enum { FUNCTIONS = sizeof functions / sizeof functions[0] };

@@ -50,6 +50,11 @@ accepted_strip() {
         "$bin/unhex" < "$strips/$1/trace.hex" > trace || fail "$1: trace"
         same "$1: trace" out trace
     fi
+    if [ -e "$strips/$1/divisions.txt" ]; then
+        call 0 divisions sheet --memory "$(wc -c < memory)"
+        grep -v '^#' "$strips/$1/divisions.txt" > expected
+        same "$1: divisions" stdout expected
+    fi
     call 0 replay sheet out --memory "$(wc -c < memory)"
     echo "agrees, $(($(wc -c < out) / 12)) accesses" | sed 's/ 1 accesses/ 1 access/' > expected
     same "$1: replay" stdout expected
@@ -64,6 +69,9 @@ refused_strip() {
     call 1 check sheet --memory "$(wc -c < memory)"
     silent
     same "$1: the refusal of check" stderr line
+    call 1 divisions sheet --memory "$(wc -c < memory)"
+    silent
+    same "$1: the refusal of divisions" stderr line
     call 1 run sheet memory -o out
     silent
     same "$1: the refusal of run" stderr line
@@ -166,6 +174,7 @@ unreadable() {
     refused_tape "$wanted_place" "$wanted_cause" tape sheet
     refused "$wanted_place" "$wanted_cause" trace sheet -o out
     refused_replay "$wanted_place" "$wanted_cause" replay sheet no_trace
+    refused "$wanted_place" "$wanted_cause" divisions sheet
     absent out
 }
 
@@ -181,6 +190,7 @@ misstepped() {
     refused_tape "$wanted_place" "$wanted_cause" tape sheet --memory 64
     refused "$wanted_place" "$wanted_cause" trace sheet --memory 64 -o out
     refused_replay "$wanted_place" "$wanted_cause" replay sheet no_trace --memory 64
+    refused "$wanted_place" "$wanted_cause" divisions sheet --memory 64
     absent out
 }
 
@@ -546,6 +556,8 @@ for hex in "$edition $fill" 01; do
     refused_tape '18 0 0' 'the memory is longer than 65536 bytes' tape sheet --memory 65537
     refused '18 0 0' 'the memory is longer than 65536 bytes' trace sheet --memory 65537 -o out
     refused_replay '18 0 0' 'the memory is longer than 65536 bytes' replay sheet no_trace --memory 65537
+    refused '18 0 0' 'the memory is longer than 65536 bytes' divisions sheet --memory 65537
+    refused '18 0 0' 'the memory is longer than 65536 bytes' divisions sheet --memory 18446744073709551615
     absent out
 done
 
@@ -649,6 +661,13 @@ wrong 'replay does not take -o' replay sheet no_trace -o out
 wrong '--memory -1: not a length in bytes' replay sheet no_trace --memory -1
 wrong '--memory is given twice' replay sheet no_trace --memory 64 --memory 64
 wrong 'standard input can be read only once' replay - -
+wrong 'divisions takes SHEET' divisions
+wrong 'divisions takes SHEET, and memory is one more' divisions sheet memory
+wrong 'divisions does not take -o' divisions sheet -o out
+wrong '--memory needs a word after it' divisions sheet --memory
+wrong '--memory 12x: not a length in bytes' divisions sheet --memory 12x
+wrong '--memory is given twice' divisions sheet --memory 64 --memory 64
+wrong '--json takes no word after it' divisions sheet --json=1
 wrong 'show takes SHEET' show
 wrong 'show does not take --memory' show sheet --memory 64
 
@@ -690,11 +709,13 @@ broken "nowhere: $gone" run-tape sheet tape nowhere -o out
 broken "nowhere: $gone" trace nowhere -o out
 broken "nowhere: $gone" replay nowhere no_trace
 broken "nowhere: $gone" replay sheet nowhere
+broken "nowhere: $gone" divisions nowhere
 broken '.: Is a directory' check . --memory 64
 broken '.: Is a directory' run sheet . -o out
 broken '.: Is a directory' run-tape sheet . memory -o out
 broken '.: Is a directory' trace . -o out
 broken '.: Is a directory' replay sheet .
+broken '.: Is a directory' divisions .
 broken 'sheet/inside: Not a directory' show sheet/inside
 absent out
 
@@ -907,7 +928,7 @@ if [ "$(ls -A folder)" = out ]; then pass; else fail "left on a full disk: $(ls 
 if [ -c /dev/full ]; then
     tool trace sheet -o trace
     for words in 'run sheet memory' 'tape sheet' 'show sheet' 'check sheet --memory 64' 'trace sheet' \
-        'trace sheet -o -' 'replay sheet trace' '--help'; do
+        'trace sheet -o -' 'replay sheet trace' 'divisions sheet' '--help'; do
         # shellcheck disable=SC2086
         tool $words > /dev/full 2> stderr
         if [ $? -eq 3 ]; then pass; else fail "$words to a full device"; fi
@@ -1503,6 +1524,111 @@ bytes sheet "$edition $zigzag $sixteen $seven $seven $seven $seven $load $load $
 call 0 trace sheet --memory 36 -o trace
 if [ "$(wc -c < trace)" -eq $((31 * 256 * 12)) ]; then pass; else fail 'the length of the longest trace'; fi
 replays 0 'agrees, 7936 accesses'
+
+# -- Divisions -----------------------------------------------------------------------------------
+
+# divides COUNT WORD..: so many are counted for the sheet.
+divides() {
+    echo "accepted, divisions: $1" > expected
+    shift
+    call 0 divisions sheet "$@"
+    same 'divisions' stdout expected
+    if [ -s stderr ]; then fail "divisions: standard error is '$(head -c 100 stderr)'"; else pass; fi
+}
+
+# Index 0 takes none. 1 to 7 are divided by 8 and are then 0. 8 to 31 are divided by 8, passed over by a span
+# of 1, and divided by 4. So are 32 to 63, of which a 1 is left for the leading spans of 1.
+# 0 + 7 * 1 + 24 * 2 + 32 * 2 = 119.
+cat > text << 'END'
+edition 1
+layout L0 Undefined
+  dim size 1 stride 32 span 1
+  dim size 1 stride 32 span 1
+  dim size 4 stride 8 span 4
+  dim size 1 stride 8 span 1
+  dim size 8 stride 1 span 8
+fill r0 4x16 u16 0
+load r0 L0 base 0
+END
+call 0 asm text -o sheet
+divides 119
+divides 119 --memory 64
+divides 119 --memory=0x40
+call 0 divisions - --memory 64 < sheet
+same 'divisions -' stdout expected
+refused '14 1 31' 'load: row 1, column 15: bytes 62 to 63 do not all lie in the memory of 63 bytes' \
+    divisions sheet --memory 63
+json '. == {command: "divisions", accepted: true, refusal: null, memory: 64, divisions: 119}' \
+    call 0 divisions sheet --memory 64
+json '. == {command: "divisions", accepted: false, refusal: {number: 14, place: 1, second_place: 31,
+    at: "step 1, element 31",
+    sentence: "load: row 1, column 15: bytes 62 to 63 do not all lie in the memory of 63 bytes"}}' \
+    call 1 divisions sheet --memory 63
+
+# A view: the first column is skipped, and the other three have indices 0, 1 and 2, which its stride makes 0, 4
+# and 8. 4 is divided by 4, and the 1 by 2; 8 by 4, and the 2 by 2. 0 + 2 + 2 = 4. With a stride of 0 every index
+# is 0.
+cat > text << 'END'
+edition 1
+layout L0 Undefined
+  dim size 2 stride 4 span 2
+  dim size 4 stride 1 span 4
+view V0 permutation 0
+  dim size 4 stride 4
+  clip columns 1 65535
+view V1 permutation 0
+  dim size 4 stride 0
+fill r0 1x4 u8 0
+load r0 L0 V0 base 0
+END
+call 0 asm text -o sheet
+divides 4
+sed -i 's/ V0 base/ V1 base/' text
+call 0 asm text -o sheet
+divides 0
+# A clip that skips all.
+sed -i 's/ V1 base/ V0 base/;s/columns 1/columns 4/' text
+call 0 asm text -o sheet
+divides 0
+
+# Elements that lie outside, in both dimensions or in the first or the last alone: indices 0 to 3 take
+# 0 + 1 + 2 + 2 = 5 of spans 2 and 2. A load has the elements of its object, not of its register, and a store
+# those of its register.
+cat > text << 'END'
+edition 1
+layout L0 Constant
+  dim size 2 stride 2 offset OUTER span 2
+  dim size 2 stride 1 offset INNER span 2
+fill r0 2x2 u8 7
+fill r1 16x16 u8 7
+load r1 object r0 L0 base 0
+store r1 L0 base 0
+END
+for offsets in '-2 -2' '-2 0' '0 -2' '2 2' '0 0'; do
+    sed "s/OUTER/${offsets% *}/;s/INNER/${offsets#* }/" text > placed_text
+    call 0 asm placed_text -o sheet
+    divides 10
+done
+
+# No steps, and none that goes through a layout.
+bytes sheet "$edition"
+divides 0
+divides 0 --memory 0
+bytes sheet "$edition_2 $column $vector" 24 0200 02 00 23 0600 03 00 01 01 03 00 20 0800 01 01 01 05 00000000 \
+    25 0400 01 01 01 01
+divides 0
+
+# The most steps: 31 loads of 256 elements. Of an index below 256 in five spans of 3, so many divisions are taken as
+# it has digits to the base 3, at most five: 2 have one, 6 two, 18 three, 54 four, and 81 to 255 five.
+# 2 * 1 + 6 * 2 + 18 * 3 + 54 * 4 + 175 * 5 = 1159.
+{
+    printf '%s\n' 'edition 1' 'layout L0 Undefined'
+    yes '  dim size 3 stride 0 span 3' | head -n 5
+    echo 'fill r0 16x16 s32 0'
+    yes 'load r0 L0 base 0' | head -n 31
+} > text
+call 0 asm text -o sheet
+divides $((31 * 1159)) --memory 4
 
 # The examples, and what README.md says that they print.
 ${RUNNER:-} "$bin/example" > stdout 2> stderr
