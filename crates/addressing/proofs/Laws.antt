@@ -22,18 +22,19 @@ use Rattle.sheet.specs.declared.ClampMode.{ClampMode}
 use Rattle.sheet.specs.declared.ClampMode.the-variants.{Undefined, Constant, ClampToEdge, Repeat, MirrorRepeat}
 use Rattle.sheet.specs.declared.Clip.{Clip}
 use Rattle.sheet.specs.declared.Dimension.{Dimension}
-use Rattle.sheet.specs.declared.Layout.{Layout}
 use Rattle.sheet.specs.declared.View.{View}
-use Rattle.tensor_ranges.specs.Layouts.{theDimension}
 use Rattle.addressing.specs.declared.Access.{Access}
 use Rattle.addressing.specs.declared.Clamped.{Clamped}
 use Rattle.addressing.specs.declared.Clamped.the-variants.{Refused, Discarded, Filled, At}
 use Rattle.sheet.specs.Sizes.{rankPlaces, matrixPlaces, sizeLimit}
 use Rattle.view_indices.specs.Plans.{sizesOf, stridesOf}
 use Rattle.view_indices.specs.Laws.Indices.{five-at}
-use Rattle.addressing.specs.Plans.{dimensionNumbers, layoutNumbers, dimensionIn, planned}
+use Rattle.dimensions.specs.declared.Tail.{Tail}
+use Rattle.dimensions.specs.Dimensions.{tailOf, tailNumbers}
+use Rattle.addressing.specs.Plans.{planned}
 use Rattle.view_indices.specs.Indices.{viewSizes, viewStrides, spanOf}
-use Rattle.addressing.specs.Rules.{outsideClip, outsideView, clipWidth, twos, turnedBack, mirrored, onLoad, onStore, outside, clamped, scaled, part, tensorIndex, spanCoordinates, refused, settled, reached}
+use Rattle.spans.specs.Spans.{spanCoordinates}
+use Rattle.addressing.specs.Rules.{outsideClip, outsideView, elementsOf, clipWidth, lowBits, twos, turnedBack, mirrored, onLoad, onStore, outside, clamped, scaled, part, tensorIndex, refused, settled, reached}
 
 -- Rule 1: inside the clip the offset can be subtracted
 pub clip-low : (c : Clip) (x : ℕ) → outsideClip c x ≡ false → c .offset ≤ x
@@ -146,15 +147,13 @@ view-sizes-in a ok e i h =
     (λ t. rw (five-at (λ (k : ℕ). theViewDimension (a .view .dimensions) k .size) i m) (view-size (a .view) (ok .sized .view e) i h t))
     (λ t. rw (five-at (spanOf (a .layout)) i m) (layout-span (a .layout) (ok .sized .layout) i (omega (arith, ok .ranks e t))))
 
--- the numbers of a layout have its dimensions
-pub numbers-dimension : (l : Layout) (d : ℕ) → d < rankPlaces → dimensionIn (layoutNumbers l) (dimensionNumbers * d) ≡ theDimension (l .dimensions) d
-unfolding layoutNumbers
-numbers-dimension l zero h = refl
-numbers-dimension l (suc zero) h = refl
-numbers-dimension l (suc (suc zero)) h = refl
-numbers-dimension l (suc (suc (suc zero))) h = refl
-numbers-dimension l (suc (suc (suc (suc zero)))) h = refl
-numbers-dimension l (suc (suc (suc (suc (suc d))))) h = absurd (omega arith)
+-- a plan is put together of its parts
+pub plan-is : (a : Access) {width fill : ℕ} {sizes strides numbers : List ℕ} {tail : Tail}
+    → width ≡ clipWidth (a .view) (a .columns) → fill ≡ lowBits a → sizes ≡ sizesOf (a .viewed) (a .layout) (a .view) → strides ≡ stridesOf (a .viewed) (a .layout) (a .view)
+    → tail ≡ tailOf (a .layout) → numbers ≡ tailNumbers (a .layout)
+    → record { access = a; count = elementsOf a; width = width; fill = fill; sizes = sizes; strides = strides; tail = tail; numbers = numbers } ≡ planned a
+unfolding planned
+plan-is a e f g h i j = rw (e, f, g, h, i, j) refl
 
 -- the parts of a plan
 module _ (p : Plan) (ok : Planned p) where
@@ -170,9 +169,13 @@ module _ (p : Plan) (ok : Planned p) where
   unfolding planned stridesOf pick
   plan-strides e = rw e at (ap (λ (q : Plan). q .strides) (ok .same))
 
-  pub plan-numbers : p .numbers ≡ layoutNumbers (p .access .layout)
+  pub plan-numbers : p .numbers ≡ tailNumbers (p .access .layout)
   unfolding planned
   plan-numbers = ap (λ (q : Plan). q .numbers) (ok .same)
+
+  pub plan-tail : p .tail ≡ tailOf (p .access .layout)
+  unfolding planned
+  plan-tail = ap (λ (q : Plan). q .tail) (ok .same)
 
 -- a fact, and what follows from it
 pub and-so : {P Q : Type 0} → P → (P → Q) → P × Q

@@ -3,15 +3,15 @@ use Prim.Native.Nat.{ℕ, zero, suc, _+_, _-_, _*_, _/_, _%_, _^_, _<_, _≤_}
 use mathlib.Core.Path.{_≡_, refl, sym, ap, _∙_}
 use mathlib.Core.Bool.{Bool, true, false}
 use mathlib.Core.List.{List}
-use native.Mathlib.Nat.{add-zero, zero-add, not-suc-le-zero}
+use native.Mathlib.Nat.{add-zero, not-suc-le-zero}
 use native.Mathlib.Omega.{arith}
 use lib.Dec.{leb}
 use lib.IntN.{ℤ, pos, negsuc, _+ℤ_}
 use lib.ListN.{length, getD, set, replicate, length-set}
-use lib.Seq.{getD-set-same, getD-set-other}
+use lib.Seq.{getD-set-same}
 use Rattle.numbers.specs.Choice.{pick}
 use Rattle.numbers.specs.Laws.Choice.{pick-case}
-use Rattle.tensor_ranges.specs.Laws.Facts.{layout-most}
+use Rattle.tensor_ranges.specs.Laws.Facts.{layout-most, layout-span}
 use Rattle.tensor_ranges.specs.Layouts.{theDimension, layoutOk}
 use Rattle.sheet.specs.declared.ClampMode.{ClampMode}
 use Rattle.sheet.specs.declared.ClampMode.the-variants.{Undefined, Constant, ClampToEdge, Repeat, MirrorRepeat}
@@ -21,18 +21,16 @@ use Rattle.sheet.specs.Sizes.{rankPlaces}
 use Rattle.addressing.specs.declared.Clamped.{Clamped}
 use Rattle.addressing.specs.declared.Clamped.the-variants.{Refused, Discarded, Filled, At}
 use Rattle.view_indices.specs.Indices.{spanOf, coordinates}
-use Rattle.addressing.specs.Rules.{spanCoordinates, twos, onLoad, onStore, outside, clamped, scaled, part, plus, tensorIndex}
-use Rattle.addressing.specs.Plans.{dimensionNumbers, dimensionIn, layoutNumbers}
+use Rattle.spans.specs.Spans.{spanCoordinates, splitBy}
+use Rattle.addressing.specs.Rules.{twos, onLoad, onStore, outside, clamped, scaled, part, plus, tensorIndex}
+use Rattle.spans.specs.Laws.Splits.{split-rest, split-quotient}
+use Rattle.spans.specs.declared.Split.{Split}
+use Rattle.dimensions.specs.Dimensions.{dimensionNumbers, dimensionIn, lead, leadStart, tailOf, tailNumbers}
+use Rattle.dimensions.specs.Laws.Tails.{lead-most, tail-dimension}
+use Rattle.dimensions.specs.declared.Tail.{Tail}
 use Rattle.view_indices.specs.Laws.Indices.{coordinates-more}
-use Rattle.addressing.proofs.Laws.{numbers-dimension}
-
--- Rule 3: the coordinates of later dimensions are not touched
-coordinates-keep : (size : ℕ → ℕ) (k index : ℕ) (cs : List ℕ) (i : ℕ) → k ≤ i → getD (coordinates (λ (d : ℕ). d) size k index cs) i 0 ≡ getD cs i 0
-unfolding coordinates
-coordinates-keep size zero index cs i h = refl
-coordinates-keep size (suc k) index cs i h =
-    let q : i ≡ k → ⊥ = λ r. omega arith in
-    coordinates-keep size k (index / size k) (set cs k (index % size k)) i (omega arith) ∙ getD-set-other cs k i (index % size k) 0 q
+use Rattle.spans.specs.Laws.Coordinates.{coordinates-keep}
+use Rattle.addressing.proofs.Tails.{lead-sum}
 
 -- Rule 4: what all dimensions that are outside have in common
 abbrev loadStop : ClampMode → Clamped
@@ -129,17 +127,30 @@ unfolding tensorIndex
 tensor-last load l cs zero h = absurd (not-suc-le-zero h)
 tensor-last load l cs (suc d) h = let q : suc d - 1 ≡ d = omega arith in rw q refl
 
--- a dimension by the layout's numbers
-module _ (l : Layout) {ns : List ℕ} {d : ℕ} {x : Dimension} (n : ns ≡ layoutNumbers l) (h : d < rankPlaces) (e : x ≡ dimensionIn ns (dimensionNumbers * d)) where
-  pub same-dimension : x ≡ theDimension (l .dimensions) d
-  same-dimension = e ∙ rw n (numbers-dimension l d h)
+-- the last of d dimensions after the fixed ones, by the numbers that are left
+module _ (l : Layout) (ok : layoutOk l ≡ true) {ns : List ℕ} {d : ℕ} {x : Dimension} (n : ns ≡ tailNumbers l) (h : 0 < d) (m : d ≤ l .rank - lead l)
+    (e : x ≡ dimensionIn ns (dimensionNumbers * (d - 1))) where
+  pub same-dimension : x ≡ theDimension (l .dimensions) (lead l + d - 1)
+  same-dimension =
+      let q : lead l + (d - 1) ≡ lead l + d - 1 = omega arith in
+      e ∙ rw (n, tail-dimension l ok (d - 1) (omega arith), q) refl
 
-  pub same-span : {span : ℕ} → span ≡ x .span → span ≡ spanOf l d
+  pub same-span : {span : ℕ} → span ≡ x .span → span ≡ spanOf l (lead l + d - 1)
   same-span f = f ∙ ap (λ (y : Dimension). y .span) same-dimension
 
-  pub same-part : (load : Bool) (left : ℕ) {span s : ℕ} {r : Clamped} → span ≡ x .span → s ≡ left % span → r ≡ part load (l .mode) x s
-      → r ≡ part load (l .mode) (theDimension (l .dimensions) d) (left % spanOf l d)
-  same-part load left f g q = q ∙ rw (g, same-span f, same-dimension)
+  some : 0 < spanOf l (lead l + d - 1)
+  some = layout-span l ok (lead l + d - 1) (omega arith) .some
+
+  module _ (left : ℕ) {span : ℕ} {s : Split} (f : span ≡ x .span) (g : s ≡ splitBy span left) where
+    pub same-rest : s .rest ≡ left % spanOf l (lead l + d - 1)
+    same-rest = rw (g, same-span f) (split-rest left some)
+
+    pub same-quotient : s .quotient ≡ left / spanOf l (lead l + d - 1)
+    same-quotient = rw (g, same-span f) (split-quotient left some)
+
+    pub same-part : (load : Bool) {r : Clamped} → r ≡ part load (l .mode) x (s .rest)
+        → r ≡ part load (l .mode) (theDimension (l .dimensions) (lead l + d - 1)) (left % spanOf l (lead l + d - 1))
+    same-part load q = q ∙ rw (same-rest, same-dimension)
 
 -- The loop over a layout's dimensions: those from d on are done and have a sum; `left` is what is left of the index.
 pub record Summing (load : Bool) (l : Layout) (index d left sum : ℕ) : Type 0 where
@@ -205,7 +216,57 @@ module _ (load : Bool) (l : Layout) (ok : layoutOk l ≡ true) (index : ℕ) whe
     pub next-stop : (y : Clamped) → next ≡ y → AtOr (stopOf load (l .mode)) y
     next-stop y e = rw e at (part-one load (l .mode) (theDimension (l .dimensions) (d - 1)) (left % span))
 
-  pub summing-end : (d left sum : ℕ) → Summing load l index d left sum → d ≤ 0 → At sum ≡ tensorIndex load l (spanCoordinates l index) (l .rank)
-  unfolding tensorIndex
-  summing-end zero left sum w h = let e : 0 + sum ≡ sum = zero-add sum in (rw e at (w .whole))
-  summing-end (suc d) left sum w h = absurd (not-suc-le-zero h)
+-- The loop over the dimensions after the fixed ones: those from the last d on are done; the sum has what the fixed ones add.
+pub record Tailing (load : Bool) (l : Layout) (index d left sum : ℕ) : Type 0 where
+  pub few : d ≤ l .rank - lead l
+  pub start : leadStart l (lead l) ≤ lead l * 2 ^ 28
+  pub done : ℕ
+  pub adds : sum ≡ leadStart l (lead l) + done
+  pub walk : Summing load l index (lead l + d) left done
+
+module _ (load : Bool) (l : Layout) (ok : layoutOk l ≡ true) (index : ℕ) where
+  pub tailing-start : (t : Tail) → t ≡ tailOf l → t .start ≤ lead l * 2 ^ 28 → Tailing load l index (t .rank) index (t .start)
+  unfolding tailOf
+  tailing-start t e m =
+      let q : lead l + (l .rank - lead l) ≡ l .rank = omega (arith, lead-most l) in
+      rw e
+      (record {
+        few = omega arith;
+        start = rw e at m;
+        done = 0;
+        adds = sym (add-zero (leadStart l (lead l)));
+        walk = rw q (summing-start load l ok index);
+      })
+
+  module _ (d left sum : ℕ) (w : Tailing load l index d left sum) (h : 0 < d) where
+    abbrev dimension : ℕ
+    dimension = lead l + d - 1
+
+    abbrev here : Clamped
+    here = part load (l .mode) (theDimension (l .dimensions) (lead l + d - 1)) (left % spanOf l (lead l + d - 1))
+
+    pub tailing-fits : (y : ℕ) → y ≤ 2 ^ 28 → sum + y ≤ rankPlaces * 2 ^ 28
+    tailing-fits y m = omega (arith, w .adds, w .start, w .walk .small, w .few, layout-most l ok, lead-most l)
+
+    pub tailing-more : (y : ℕ) → y ≤ 2 ^ 28 → here ≡ At y → Tailing load l index (d - 1) (left / spanOf l (lead l + d - 1)) (sum + y)
+    tailing-more y m e =
+        let q : lead l + d - 1 ≡ lead l + (d - 1) = omega arith in
+        record {
+          few = omega (arith, w .few);
+          start = w .start;
+          done = w .done + y;
+          adds = omega (arith, w .adds);
+          walk = rw (← q) (summing-more load l ok index (lead l + d) left (w .done) (w .walk) (omega arith) y m e);
+        }
+
+    pub tailing-stop : (y : Clamped) → ((a : ℕ) → plus (At a) y ≡ y) → plus y (At (w .done)) ≡ y → ((z : Clamped) → AtOr z y → z ≡ y) → here ≡ y
+        → y ≡ tensorIndex load l (spanCoordinates l index) (l .rank)
+    tailing-stop y after before alike e =
+        summing-stop load l ok index (lead l + d) left (w .done) (w .walk) (omega arith) y after before
+        (alike (stopOf load (l .mode)) (next-stop load l ok index (lead l + d) left (w .done) (w .walk) (omega arith) y e)) e
+
+  pub tailing-end : (d left sum : ℕ) → Tailing load l index d left sum → d ≤ 0
+      → (At sum ≡ tensorIndex load l (spanCoordinates l index) (l .rank)) × (sum ≤ rankPlaces * 2 ^ 28)
+  tailing-end d left sum w h =
+      let q : lead l + d ≡ lead l = omega arith in
+      (rw (w .adds) (rw (q, lead-sum l ok load index (lead l) (omega arith)) at (w .walk .whole)), omega (arith, w .adds, w .start, w .walk .small, layout-most l ok, lead-most l))

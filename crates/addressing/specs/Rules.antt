@@ -1,9 +1,10 @@
--- "Where an element goes": rules 1 to 5 for one element, with refusals 12, 13 and 14. Rule 2 is in view_indices/specs/Indices.antt.
+-- "Where an element goes": rules 1 to 5 for one element, with refusals 12, 13 and 14. Rule 2 is in view_indices/specs/Indices.antt, rule 3 in
+-- spans/specs/Spans.antt.
 use Prim.Native.Nat.{ℕ, zero, suc, _+_, _-_, _*_, _/_, _%_, _^_, min}
 use mathlib.Core.Bool.{Bool, true}
 use mathlib.Core.List.{List}
 use lib.Dec.{ltb, leb, eqb}
-use lib.ListN.{getD, replicate}
+use lib.ListN.{getD}
 use lib.IntN.{ℤ, pos, negsuc, _+ℤ_}
 use Rattle.numbers.specs.Choice.{pick}
 use Rattle.numbers.specs.Remainders.{remainder}
@@ -19,8 +20,8 @@ use Rattle.sheet.specs.declared.Layout.{Layout}
 use Rattle.sheet.specs.declared.View.{View}
 use Rattle.outcomes.specs.declared.Outcome.{Outcome}
 use Rattle.outcomes.specs.declared.Outcome.the-variants as outcome
-use Rattle.sheet.specs.Sizes.{rankPlaces}
-use Rattle.view_indices.specs.Indices.{spanOf, coordinates, viewSizes, viewStrides, viewIndex}
+use Rattle.view_indices.specs.Indices.{viewSizes, viewStrides, viewIndex}
+use Rattle.spans.specs.Spans.{spanCoordinates}
 use Rattle.addressing.specs.declared.Access.{Access}
 use Rattle.addressing.specs.declared.Indexed.{Indexed}
 use Rattle.addressing.specs.declared.Indexed.the-variants.{Skipped, Index}
@@ -49,10 +50,7 @@ abbrev pub clipIndex : View → ℕ → ℕ → ℕ → ℕ
 clipIndex v width row col = (row - v .rows .offset) * width + (col - v .columns .offset)
 
 -- Rule 2, an index through a view, is `viewIndex` of view_indices/specs/Indices.antt.
--- Rule 3: span coordinates, from the last dimension to the first, remainder and quotient by the span
-unfoldable pub spanCoordinates : Layout → ℕ → List ℕ
-spanCoordinates l index = coordinates (λ (d : ℕ). d) (spanOf l) (l .rank) index (replicate rankPlaces 0)
-
+-- Rule 3, the span coordinates of an index, is `spanCoordinates` of spans/specs/Spans.antt.
 -- sixteen bits read as a signed number
 abbrev pub twos : ℕ → ℤ
 twos x = value s16 x

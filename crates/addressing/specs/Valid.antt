@@ -1,5 +1,5 @@
 -- What an access must keep to for its elements to be looked at.
-use Prim.Native.Nat.{ℕ, _^_, _<_, _≤_}
+use Prim.Native.Nat.{ℕ, _*_, _^_, _<_, _≤_}
 use mathlib.Core.Path.{_≡_}
 use mathlib.Core.Bool.{true, false}
 use lib.ListN.{getD}
@@ -11,6 +11,7 @@ use Rattle.addressing.specs.declared.Clamped.{Clamped}
 use Rattle.addressing.specs.declared.Clamped.the-variants.{Refused, Discarded, Filled, At}
 use Rattle.sheet.specs.Sizes.{matrixPlaces, memoryLimit, sizeLimit}
 use Rattle.addressing.specs.Rules.{elementsOf}
+use Rattle.dimensions.specs.Dimensions.{lead}
 use Rattle.addressing.specs.Plans.{planned}
 
 -- the layout, the view and the memory keep to Sizes, an element is 1, 2 or 4 bytes, and the matrix has columns and at most a register's elements
@@ -29,12 +30,13 @@ pub record ValidAccess (a : Access) : Type 0 where
   pub sized : SizedAccess a
   pub ranks : a .viewed ≡ true → a .view .sized ≡ false → a .view .rank ≡ a .layout .rank
 
--- a plan is what its access makes; a stride is a 16-bit number, or a product of at most four spans
+-- a plan is what its access makes; a stride is a 16-bit number, or a product of at most four spans; each fixed dimension adds at most 4,096 times 65,536
 pub record Planned (p : Plan) : Type 0 where
   pub valid : ValidAccess (p .access)
   pub same : p ≡ planned (p .access)
   pub few : p .count ≤ matrixPlaces
   pub strides : (i : ℕ) → getD (p .strides) i 0 ≤ sizeLimit ^ 4
+  pub start : p .tail .start ≤ lead (p .access .layout) * 2 ^ 28
 
 -- what rule 5 gives is at most n, where it gives an index
 abbrev pub AtMost : ℕ → Clamped → Type 0

@@ -2,7 +2,8 @@
 ghost use mathlib.Core.Path.{_≡_};
 ghost use Prim.Native.Nat.{_*_, _/_, _^_, _%_, _≤_, _<_, min};
 ghost use Rattle.sheet.specs.Sizes.{rankPlaces};
-ghost use Rattle.addressing.specs.Plans.{layoutNumbers, planned};
+ghost use Rattle.dimensions.specs.Dimensions.{lead, tailOf, tailNumbers};
+ghost use Rattle.addressing.specs.Plans.{planned};
 ghost use Rattle.addressing.specs.Rules.{elementsOf, lowBits, addressed, reached, indexed, located, refused, answered};
 ghost use Rattle.addressing.specs.Valid.{ValidAccess, Planned};
 
@@ -10,6 +11,8 @@ pub mod clamps;
 pub mod clips;
 pub mod tensors;
 
+use dimensions::LAYOUT_NUMBERS;
+use dimensions::Tail;
 use outcomes::Outcome;
 use refusals::INDEX_TOO_LARGE;
 use refusals::OUTSIDE_MEMORY;
@@ -17,7 +20,6 @@ use refusals::OUTSIDE_UNDEFINED;
 use sheet::Layout;
 use sheet::View;
 use sheet::sizes::RANK;
-use tensors::LAYOUT_NUMBERS;
 use view_indices::wide;
 
 // 2 to the 32nd, from which on an index gets 12.
@@ -37,7 +39,7 @@ pub struct Access {
 }
 
 // What the elements of an access share: how many there are, rule 1's width, where there is a view rule 2's sizes and strides, rule 4's bits of the clamp
-// value, and the layout's numbers for rules 3 to 5.
+// value, and for rules 3 to 5 the dimensions that are not fixed, with their numbers.
 pub struct Plan {
     pub access: Access,
     pub count: usize,
@@ -45,6 +47,7 @@ pub struct Plan {
     pub fill: u32,
     pub sizes: [u32; RANK],
     pub strides: [u64; RANK],
+    pub tail: Tail,
     pub numbers: [u16; LAYOUT_NUMBERS],
 }
 
@@ -105,7 +108,8 @@ pub fn plan_of(a: Access) -> Plan
     let count = (a.rows * a.columns) as usize;
     let sizes = view_indices::sizes_of(a.viewed, l, v);
     let strides = view_indices::strides_of(a.viewed, l, v);
-    let numbers = tensors::layout_numbers(l);
+    let mut numbers = dimensions::layout_numbers(l);
+    let tail = dimensions::tail_of(&mut numbers, l);
     Plan {
         access: a,
         count,
@@ -113,6 +117,7 @@ pub fn plan_of(a: Access) -> Plan
         fill: low_bits(l.clamp, a.size),
         sizes,
         strides,
+        tail,
         numbers,
     }
 }
@@ -150,14 +155,14 @@ fn address(a: Access, t: u32) -> Located
 }
 
 // Refusal 12, then rules 3 to 5.
-fn reach(a: Access, numbers: &[u16; LAYOUT_NUMBERS], fill: u32, index: u64) -> Located
-    requires { ⌜ ValidAccess a × (fill ≡ lowBits a) × (now numbers ≡ layoutNumbers (a .layout)) ⌝ }
+fn reach(a: Access, numbers: &[u16; LAYOUT_NUMBERS], tail: Tail, fill: u32, index: u64) -> Located
+    requires { ⌜ ValidAccess a × (fill ≡ lowBits a) × (now numbers ≡ tailNumbers (a .layout)) × (tail ≡ tailOf (a .layout)) × (tail .start ≤ lead (a .layout) * 2 ^ 28) ⌝ }
     ensures { λ r. ⌜ r ≡ reached a index ⌝ }
 {
     if INDEX_LIMIT <= index {
         return refuse(INDEX_TOO_LARGE);
     }
-    match tensors::tensor_index(a.load, a.layout, numbers, index as u32) {
+    match tensors::tensor_index(a.load, a.layout, numbers, tail, index as u32) {
         Clamped::Refused => refuse(OUTSIDE_UNDEFINED),
         Clamped::Discarded => answer(Outcome::Discarded),
         Clamped::Filled => answer(Outcome::Filled(fill)),
@@ -205,6 +210,6 @@ pub fn locate(
 {
     match index_of(p, permutation, sizes, strides, k) {
         Indexed::Skipped => answer(Outcome::Skipped),
-        Indexed::Index(i) => reach(p.access, numbers, p.fill, i),
+        Indexed::Index(i) => reach(p.access, numbers, p.tail, p.fill, i),
     }
 }

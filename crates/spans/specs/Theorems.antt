@@ -1,12 +1,11 @@
 -- Rule 3 with its count is rule 3: the same coordinates, for every layout and every index, and a division exactly where one is needed.
-use Prim.Native.Nat.{ℕ, zero, suc, _+_, _/_, _<_, min}
+use Prim.Native.Nat.{ℕ, zero, suc, _+_, _/_, _<_}
 use mathlib.Core.Path.{_≡_, refl, sym, _∙_}
 use mathlib.Core.Bool.{Bool, true}
 use native.Mathlib.Nat.{add-zero, min-eq-left}
 use native.Mathlib.Omega.{arith}
-use lib.Dec.{ltb}
 use borrow.Author.Tests.{lt-ltb, le-ltb}
-use Rattle.numbers.specs.Choice.{pick, both}
+use Rattle.numbers.specs.Choice.{pick}
 use Rattle.tensor_ranges.specs.Layouts.{layoutOk}
 use Rattle.tensor_ranges.specs.Laws.Facts.{layout-most, layout-span}
 use Rattle.sheet.specs.declared.Layout.{Layout}

@@ -1,5 +1,5 @@
 use Rattle.addressing.specs.Laws.Plans.{plan-fill}
-use Rattle.addressing.proofs.Laws.{plan-numbers}
+use Rattle.addressing.proofs.Laws.{plan-numbers, plan-tail}
 use Rattle.addressing.specs.Rules.{located}
 use mathlib.Core.Path.{_∙_}
 use borrow.Author.Needs.{needs}
@@ -20,7 +20,7 @@ enum-known-i c = search needs
 
 reach-requires : tie.Need-reach-requires
 reach-requires c κs = let s = c .before .before .before .before in
-    (s .pre .0 .0 .valid, plan-fill (s .args .p) (s .pre .0 .0), s .pre .1 .3 ∙ plan-numbers (s .args .p) (s .pre .0 .0))
+    (s .pre .0 .0 .valid, plan-fill (s .args .p) (s .pre .0 .0), s .pre .1 .3 ∙ plan-numbers (s .args .p) (s .pre .0 .0), plan-tail (s .args .p) (s .pre .0 .0), s .pre .0 .0 .start)
 
 returns : tie.Need-returns
 unfolding located

@@ -1,6 +1,5 @@
 use borrow.Author.Needs.{needs}
-use Rattle.addressing.specs.Plans.{planned}
-use Rattle.addressing.proofs.Laws.{and-so}
+use Rattle.addressing.proofs.Laws.{and-so, plan-is}
 use Rattle.addressing.proofs.plan_of.Statement.{statement}
 use Rattle.addressing.proofs.plan_of.Tie as tie
 
@@ -28,10 +27,14 @@ smaller-requires c κs = search needs
 low-bits-requires : tie.Need-low-bits-requires
 low-bits-requires c κs = search needs
 
+tail-of-requires : tie.Need-tail-of-requires
+tail-of-requires c κs = search needs
+
 returns : tie.Need-returns
-unfolding planned
-returns c = let s = c .before .before .before .before .before .before .before .before .before .before in
-    and-so (cc) (λ e. record { valid = s .pre; same = e; few = s .pre .sized .area; strides = c .before .before .before .before .strides-of .ensures .1 })
+returns c = let s = c .before .before .before .before .before .before .before .before .before .before .before .before in
+    and-so
+    (plan-is (s .args .a) (rw (c .before .before .wide .ensures .0) at (c .before .smaller .ensures)) (c .low-bits .ensures) (c .before .before .before .before .before .before .before .sizes-of .ensures) (c .before .before .before .before .before .before .strides-of .ensures .0) (c .before .before .before .tail-of .ensures .0 .0) (c .before .before .before .tail-of .ensures .1))
+    (λ e. record { valid = s .pre; same = e; few = s .pre .sized .area; strides = c .before .before .before .before .before .before .strides-of .ensures .1; start = c .before .before .before .tail-of .ensures .0 .1 })
 
 pub plan-of-spec : {M : Type 1} → statement M
 plan-of-spec =
@@ -42,6 +45,7 @@ plan-of-spec =
     sizes-of-requires
     strides-of-requires
     layout-numbers-requires
+    tail-of-requires
     wide-requires
     smaller-requires
     low-bits-requires

@@ -22,7 +22,8 @@ use Rattle.addressing.specs.declared.Clamped.{Clamped}
 use Rattle.addressing.specs.declared.Clamped.the-variants.{Refused, Discarded, Filled, At}
 use Rattle.addressing.specs.declared.Located.{Located}
 use Rattle.addressing.specs.Sound.{Sound}
-use Rattle.addressing.specs.Rules.{onLoad, onStore, outside, clamped, twos, scaled, part, plus, tensorIndex, spanCoordinates, lowBits, addressed, settled, reached, indexed, landed, located}
+use Rattle.spans.specs.Spans.{spanCoordinates}
+use Rattle.addressing.specs.Rules.{onLoad, onStore, outside, clamped, twos, scaled, part, plus, tensorIndex, lowBits, addressed, settled, reached, indexed, landed, located}
 
 -- rule 4 fills on a load and discards on a store
 abbrev ByLoad : Bool → Clamped → Type 0

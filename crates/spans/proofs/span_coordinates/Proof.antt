@@ -6,11 +6,6 @@ use Rattle.spans.specs.Laws.Splits.{split-most}
 use Rattle.spans.proofs.Laws.{Dividing, dividing-start, dividing-more, dividing-end}
 use Rattle.spans.proofs.span_coordinates.Statement.{statement}
 use Rattle.spans.proofs.span_coordinates.Tie as tie
-use Rattle.spans.proofs.span_coordinates.Reads as reads
-use Rattle.spans.proofs.span_coordinates.Lts as lts
-use Rattle.spans.proofs.dimensions_of.Reads as dimensions-of-reads
-use Rattle.spans.proofs.split_by.Reads as split-by-reads
-use Rattle.view_indices.proofs.wide.Reads as wide-reads
 
 abbrev Inv-loop : tie.InvT-loop
 Inv-loop index l coordinates₀ divisions₀ left₀ d₀ coordinates divisions left d = Dividing (spanOf l) (divided l index) coordinates divisions left d
@@ -18,57 +13,44 @@ Inv-loop index l coordinates₀ divisions₀ left₀ d₀ coordinates divisions 
 abbrev μ-loop : tie.MeasureT-loop
 μ-loop index l coordinates₀ divisions₀ left₀ d₀ coordinates divisions left d = d
 
--- src/lib.rt:70:9
 dimensions-of-requires : tie.Need-dimensions-of-requires Inv-loop μ-loop
 dimensions-of-requires c κs = search needs
 
--- src/lib.rt:71:5
 loop-holds : tie.Need-loop-holds Inv-loop μ-loop
 loop-holds c = rw (c .dimensions-of .ensures) (dividing-start _ _)
 
--- src/lib.rt:72:9
 sub-d : tie.Need-sub-d Inv-loop μ-loop
 sub-d c = search needs
 
--- src/lib.rt:73:17
 mul-x : tie.Need-mul-x Inv-loop μ-loop
 mul-x c = search needs
 
--- src/lib.rt:73:17
 element-copy-out-x : tie.Need-element-copy-out-x Inv-loop μ-loop
 element-copy-out-x c = search needs
 
--- src/lib.rt:74:32
 wide-requires : tie.Need-wide-requires Inv-loop μ-loop
 wide-requires c κs = search needs
 
--- src/lib.rt:74:13
 split-by-requires : tie.Need-split-by-requires Inv-loop μ-loop
 split-by-requires c κs = search needs
 
--- src/lib.rt:75:9
 mul-coordinates : tie.Need-mul-coordinates Inv-loop μ-loop
 mul-coordinates c = search needs
 
--- src/lib.rt:75:9
 array-write-coordinates : tie.Need-array-write-coordinates Inv-loop μ-loop
 array-write-coordinates c = search needs
 
--- src/lib.rt:76:9
 add-divisions : tie.Need-add-divisions Inv-loop μ-loop
 add-divisions c = let i = c .before .before .before .before .before .loop in
     rw (c .before .split-by .ensures) (omega (arith, i .inv .seldom, split-most (c .before .before .wide .result) (i .left)))
 
--- src/lib.rt:71:5
 loop-less : tie.Need-loop-less Inv-loop μ-loop
 loop-less c = search needs
 
--- src/lib.rt:71:5
 loop-again : tie.Need-loop-again Inv-loop μ-loop
 loop-again c = let i = c .before .before .before .before .before .loop in
     rw (c .before .split-by .ensures, c .before .before .wide .ensures .0) (dividing-more _ _ _ _ _ _ (i .inv) (omega arith))
 
--- src/lib.rt:64:1
 returns : tie.Need-returns Inv-loop μ-loop
 returns c = dividing-end _ _ _ _ _ _ (c .before .loop .inv) (omega arith)
 

@@ -1,7 +1,7 @@
 -- Rule 3 at a dimension: what is skipped changes nothing.
 use Prim.Native.Nat.{ℕ, _/_, _%_, _<_, _≤_}
 use mathlib.Core.Path.{_≡_, refl, sym}
-use mathlib.Core.Bool.{true, false}
+use mathlib.Core.Bool.{false}
 use native.Mathlib.Nat.{zero-mod, zero-div, mod-one, div-one}
 use native.Mathlib.Omega.{arith}
 use lib.Dec.{ltb}

@@ -1,10 +1,10 @@
-use Rattle.addressing.specs.Plans.{dimensionPut, layoutNumbers}
+use Rattle.dimensions.specs.Dimensions.{dimensionPut, layoutNumbers}
 use Prim.Native.Nat.{ℕ}
 use mathlib.Core.List.{List}
 use mathlib.Core.Path.{ap, _∙_}
 use borrow.Author.Needs.{needs}
-use Rattle.addressing.proofs.tensors.layout_numbers.Statement.{statement}
-use Rattle.addressing.proofs.tensors.layout_numbers.Tie as tie
+use Rattle.dimensions.proofs.layout_numbers.Statement.{statement}
+use Rattle.dimensions.proofs.layout_numbers.Tie as tie
 
 put-dimension-requires : tie.Need-put-dimension-requires
 put-dimension-requires c κs = search needs

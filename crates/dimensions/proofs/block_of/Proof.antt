@@ -1,8 +1,8 @@
 use native.Mathlib.Nat.{div-one}
 use mathlib.Core.Path.{sym}
 use borrow.Author.Needs.{needs}
-use Rattle.addressing.proofs.tensors.block_of.Statement.{statement}
-use Rattle.addressing.proofs.tensors.block_of.Tie as tie
+use Rattle.dimensions.proofs.block_of.Statement.{statement}
+use Rattle.dimensions.proofs.block_of.Tie as tie
 
 div-result : tie.Need-div-result
 div-result c = search needs
