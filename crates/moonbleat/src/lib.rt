@@ -1,10 +1,11 @@
-// The C interface of include/moonbleat.h: the eight public routines, with rows of numbers in place of structs.
+// The C interface of include/moonbleat.h: the nine public routines, with rows of numbers in place of structs.
 ghost use mathlib.Core.Path.{_≡_};
 ghost use mathlib.Core.List.{[], _∷_};
 ghost use lib.ListN.{length};
 ghost use Rattle.sheet_reader.specs.Reading.{readSheet};
 ghost use Rattle.checking.specs.Checking.{checkedSheet};
 ghost use Rattle.carrying.specs.Carrying.{carried, carriedMemory};
+ghost use Rattle.dividing.specs.Dividing.{counted};
 ghost use Rattle.translating.specs.Translating.{translated, translatedRoom};
 ghost use Rattle.running.specs.Running.{runTape, ranMemory};
 ghost use Rattle.tracing.specs.Tracing.{traced, tracedRoom};
@@ -68,6 +69,20 @@ pub extern "C" fn moonbleat_check(
 {
     let found = checking::check_sheet(sheet, memory_len);
     rows::put_answer(answer, found.refusal, found.count)
+}
+
+// Counts the divisions of rule 3 over a sheet's loads and stores, for a memory of a length.
+#[no_mangle]
+pub extern "C" fn moonbleat_divisions(
+    sheet: &[u8],
+    memory_len: usize,
+    answer: &mut [u32; ANSWER],
+) -> u32
+    ensures { λ r. ⌜ r ≡ counted (now (sheet .entry)) «memory_len» .refusal .number ⌝ }
+    ensures { λ _. ⌜ now (answer .exit) ≡ answerRow (counted (now (sheet .entry)) «memory_len» .refusal) (counted (now (sheet .entry)) «memory_len» .divisions) ⌝ }
+{
+    let found = dividing::count_divisions(sheet, memory_len);
+    rows::put_answer(answer, found.refusal, found.divisions)
 }
 
 // Carries out a sheet on the lent memory.

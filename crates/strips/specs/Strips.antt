@@ -38,6 +38,7 @@ use Rattle.vectors.specs.Refusals as vectors
 use Rattle.vectors.specs.Saturation
 use Rattle.vectors.specs.Components
 use Rattle.vectors.specs.Results
+use Rattle.spans.specs.Spans
 use Rattle.addressing.specs.Rules
 use Rattle.view_indices.specs.Indices
 use Rattle.accesses.specs.Refusals as accesses

@@ -51,6 +51,10 @@ use Rattle.carrying.specs.Theorems.Counts.{sheet-count}
 use Rattle.checking.specs.declared.StepCheck.{StepCheck}
 use Rattle.checking.specs.declared.CheckAnswer.{CheckAnswer}
 use Rattle.carrying.specs.declared.CarryAnswer.{CarryAnswer}
+use Rattle.dividing.specs.Dividing.{counted}
+use Rattle.dividing.specs.Laws.Few.{divisions-few}
+use Rattle.dividing.specs.Theorems.{five-each}
+use Rattle.dividing.specs.declared.DivisionsAnswer.{DivisionsAnswer}
 use Rattle.records.specs.declared.Decoded.{Decoded}
 use Rattle.translating.specs.Translating.{fitsRoom, translated}
 use Rattle.judging.specs.Judging.{tapeRecord, decodedOk, decodedTypes, rangeFrom, tapeRefusal}
@@ -197,6 +201,17 @@ carried-small s memory =
     let c = check-small s (length memory) in
     pick-case (λ (r : CarryAnswer). Small (r .refusal) (r .counts .placed)) (eqb (checkedSheet s (length memory) .refusal .number) 0) _ _
     (λ e. (omega arith, omega arith, rw (carried-count s memory (eqb-true _ 0 e)) (c .2))) (λ e. (c .0, c .1, omega arith))
+
+-- ---- divisions
+
+pub counted-small : (s : List ℕ) (len : ℕ) → Small (counted s len .refusal) (counted s len .divisions)
+unfolding counted
+counted-small s len =
+    let c = check-small s len in
+    let sh = readSheet s .sheet in
+    pick-case (λ (r : DivisionsAnswer). Small (r .refusal) (r .divisions)) (eqb (checkedSheet s len .refusal .number) 0) _ _
+    (λ e. (omega arith, omega arith, omega (arith, five-each sh len, divisions-few sh (sheet-readable s len (eqb-true _ 0 e) .within) len)))
+    (λ e. (c .0, c .1, omega arith))
 
 -- ---- translating and running
 

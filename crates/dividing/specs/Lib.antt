@@ -1,0 +1,4 @@
+pub mod Divisions
+pub mod Dividing
+pub mod Laws
+pub mod Theorems
