@@ -1,3 +1,4 @@
 pub mod Accepted
 pub mod Passes
+pub mod Elements
 pub mod Laws

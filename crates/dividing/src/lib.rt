@@ -1,6 +1,6 @@
 // Counts the divisions that rule 3 takes over a sheet's loads and stores, for those who time layouts: no other job asks.
 ghost use mathlib.Core.Path.{_≡_};
-ghost use Prim.Native.Nat.{_*_, _≤_, _<_};
+ghost use Prim.Native.Nat.{ℕ, _*_, _≤_, _<_};
 ghost use Rattle.sheet.specs.Sizes.{rankPlaces, stepPlaces, matrixPlaces, memoryLimit};
 ghost use Rattle.sheet_ranges.specs.Laws.Within.{Within};
 ghost use Rattle.addressing.specs.Rules.{elementsOf};
@@ -75,7 +75,7 @@ fn step_divisions(
     step: Step,
 ) -> usize
     requires { ⌜ ClearStep tensors types memory step ⌝ }
-    ensures { λ r. ⌜ (r ≡ total (stepDivisions tensors types memory step)) × (r ≤ matrixPlaces * rankPlaces) ⌝ }
+    ensures { λ r. ⌜ ((k : ℕ) → r ≡ total (stepDivisions tensors types memory k step)) × (r ≤ matrixPlaces * rankPlaces) ⌝ }
 {
     match step {
         Step::Nothing => 0,

@@ -1,21 +1,15 @@
 -- The trace that a sheet makes in a memory of a length: the outcomes of its loads and stores, by demand 2's rules.
 use Prim.Native.Nat.{ℕ}
-use mathlib.Core.List.{List, [], _∷_}
-use mathlib.Core.Bool.{true, false}
-use Rattle.numbers.specs.Lists.{each}
+use mathlib.Core.List.{List}
 use Rattle.outcomes.specs.declared.Outcome.{Outcome}
 use Rattle.outcomes.specs.declared.Outcome.the-variants.{Skipped, Filled, Discarded, Placed}
 use Rattle.sheet.specs.declared.Tensors.{Tensors}
 use Rattle.sheet.specs.declared.Sheet.{Sheet}
 use Rattle.sheet.specs.declared.Step.{Step}
-use Rattle.sheet.specs.declared.Step.the-variants.{Nothing, Load, Store, Whole}
-use Rattle.registers.specs.Types.{theType}
 use Rattle.registers.specs.declared.MatrixType.{MatrixType}
-use Rattle.addressing.specs.Rules.{elementsOf}
 use Rattle.addressing.specs.declared.Access.{Access}
 use Rattle.transfers.specs.Transfers.{outcomeOf}
-use Rattle.checking.specs.Steps.{accessOf, objectRegister}
-use Rattle.accepted.specs.Passes.{pass}
+use Rattle.accepted.specs.Elements.{ofAccess, ofStep, ofTurn, ofSheet}
 use Rattle.traces.specs.Events.{skippedSort, filledSort, discardedSort, byteSort}
 use Rattle.traces.specs.declared.Event.{Event}
 
@@ -35,22 +29,19 @@ byteOf (Placed byte) = byte
 abbrev pub eventOf : ℕ → ℕ → Outcome → Event
 eventOf step element o = record { step = step; element = element; sort = sortOf o; byte = byteOf o }
 
--- the events of a load or a store that is step k: its elements in order
-unfoldable pub accessEvents : ℕ → Access → List Event
-accessEvents k a = each (elementsOf a) (λ (e : ℕ). eventOf k e (outcomeOf a e) ∷ [])
+-- the event of an element of a load or a store that is step k
+abbrev pub outcomeEvent : ℕ → Access → ℕ → Event
+outcomeEvent k a e = eventOf k e (outcomeOf a e)
 
--- step k, at the types that the steps before left: a load has the elements of its object's matrix, a store those of its register's, another step none
-unfoldable pub stepEvents : Tensors → List MatrixType → ℕ → ℕ → Step → List Event
-stepEvents tensors ts len k Nothing = []
-stepEvents tensors ts len k (Load register object window) =
-    accessEvents k (accessOf tensors true window (theType ts (objectRegister register object)) len)
-stepEvents tensors ts len k (Store register window) = accessEvents k (accessOf tensors false window (theType ts register) len)
-stepEvents tensors ts len k (Whole whole) = []
+-- of the elements of a load or a store in order, of a step, and of a sheet's steps in order
+abbrev pub accessEvents : ℕ → Access → List Event
+accessEvents k a = ofAccess (outcomeEvent k) a
 
--- of the steps of a sheet, as a pass over them takes it
+abbrev pub stepEvents : Tensors → List MatrixType → ℕ → ℕ → Step → List Event
+stepEvents tensors ts len k step = ofStep outcomeEvent tensors ts len k step
+
 abbrev pub eventsAt : Sheet → ℕ → List MatrixType → ℕ → Step → List Event
-eventsAt sh len ts k step = stepEvents (sh .tensors) ts len k step
+eventsAt sh len ts k step = ofTurn outcomeEvent sh len ts k step
 
--- the steps in order
 unfoldable pub expected : Sheet → ℕ → List Event
-expected sh len = pass (eventsAt sh len) sh len
+expected sh len = ofSheet outcomeEvent sh len

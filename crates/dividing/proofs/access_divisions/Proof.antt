@@ -4,7 +4,8 @@ use Prim.Native.Nat.{ℕ, _-_, _*_, _≤_}
 use Rattle.numbers.specs.Lists.{each}
 use Rattle.sheet.specs.Sizes.{rankPlaces}
 use Rattle.addressing.specs.Laws.Plans.{plan-count}
-use Rattle.dividing.specs.Divisions.{elementDivisions, accessDivisions, total}
+use Rattle.dividing.specs.Divisions.{elementDivisions, total}
+use Rattle.accepted.specs.Elements.{ofAccess}
 use Rattle.dividing.specs.Laws.Totals.{total-more}
 use borrow.Author.Needs.{needs}
 use native.Mathlib.Omega.{arith}
@@ -51,7 +52,7 @@ loop-again c =
     (omega arith, omega (arith, l .inv .1, e .1), omega (arith, l .inv .2, e .0, more))
 
 returns : tie.Need-returns Inv-loop μ-loop
-unfolding accessDivisions
+unfolding ofAccess
 returns c =
     let s = c .before .before .before .before .before .before .before in
     let l = c .before .before .loop in

@@ -77,11 +77,11 @@ loop-again c =
     let n = c .before .step-divisions .ensures in
     let so = c .step-types .ensures in
     let go = ap total (pass-go sh (s .pre .0) (a .memory) (s .pre .1) (l .k) (l .types) h (l .inv .1) so (divisionsAt sh (a .memory))) in
-    let both = total-append (stepDivisions (sh .tensors) (l .types) (a .memory) (theStep (sh .step) (l .k))) (passRest (divisionsAt sh (a .memory)) sh (a .memory) (l .k + 1) (c .step-types .result)) in (
+    let both = total-append (stepDivisions (sh .tensors) (l .types) (a .memory) (l .k) (theStep (sh .step) (l .k))) (passRest (divisionsAt sh (a .memory)) sh (a .memory) (l .k + 1) (c .step-types .result)) in (
       omega (arith, h),
       rest-next sh (s .pre .0) (a .memory) (s .pre .1) (l .k) (l .types) h (l .inv .1) so,
       omega (arith, l .inv .2, n .1),
-      omega (arith, l .inv .3, n .0, go, both),
+      omega (arith, l .inv .3, n .0 (l .k), go, both),
     )
 
 returns : tie.Need-returns Inv-loop μ-loop

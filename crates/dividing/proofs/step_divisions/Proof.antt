@@ -3,7 +3,8 @@ use Rattle.checking.specs.Laws.Names.{load-object, store-register}
 use Rattle.registers.specs.Types.{theType}
 use Rattle.addressing.specs.Laws.Plans.{planned-access}
 use Rattle.accepted.specs.Laws.Clear.{load-clear, store-clear}
-use Rattle.dividing.specs.Divisions.{stepDivisions, total}
+use Rattle.dividing.specs.Divisions.{total}
+use Rattle.accepted.specs.Elements.{ofStep}
 use native.Mathlib.Omega.{arith}
 use borrow.Author.Needs.{needs}
 use Rattle.dividing.proofs.step_divisions.Statement.{statement}
@@ -44,26 +45,26 @@ enum-told-2 : tie.Need-enum-told-2
 enum-told-2 c = search needs
 
 returns : tie.Need-returns
-unfolding stepDivisions total
-returns c = (rw (c .enum-told .given .1) refl, omega arith)
+unfolding ofStep total
+returns c = (λ k. rw (c .enum-told .given .1) refl, omega arith)
 
 returns-2 : tie.Need-returns-2
-unfolding stepDivisions
+unfolding ofStep
 returns-2 c =
     let so = c .before .before .the-type .ensures ∙ ap (theType (c .before .before .before .before .before .before .before .args .types)) (c .before .before .before .object-register .ensures) in
     let e = c .access-divisions .ensures in
-    (rw (c .before .before .before .before .before .step .given .1) (rw (planned-access _ (c .before .plan-window .ensures .0), so) at (e .0)), e .1)
+    (λ k. rw (c .before .before .before .before .before .step .given .1) (rw (planned-access _ (c .before .plan-window .ensures .0), so) at (e .0)), e .1)
 
 returns-3 : tie.Need-returns-3
-unfolding stepDivisions
+unfolding ofStep
 returns-3 c =
     let so = c .before .before .the-type2 .ensures in
     let e = c .access-divisions2 .ensures in
-    (rw (c .before .before .before .before .step2 .given .1) (rw (planned-access _ (c .before .plan-window2 .ensures .0), so) at (e .0)), e .1)
+    (λ k. rw (c .before .before .before .before .step2 .given .1) (rw (planned-access _ (c .before .plan-window2 .ensures .0), so) at (e .0)), e .1)
 
 returns-4 : tie.Need-returns-4
-unfolding stepDivisions total
-returns-4 c = (rw (c .enum-told2 .given .1) refl, omega arith)
+unfolding ofStep total
+returns-4 c = (λ k. rw (c .enum-told2 .given .1) refl, omega arith)
 
 pub step-divisions-spec : {M : Type 1} → statement M
 step-divisions-spec =

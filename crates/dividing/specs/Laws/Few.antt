@@ -1,7 +1,5 @@
 -- An element takes at most one division for each dimension, and a sheet within Sizes has few elements.
 use Prim.Native.Nat.{ℕ, zero, suc, _+_, _*_, _^_, _≤_, min}
-use mathlib.Core.Path.{_≡_, refl, _∙_}
-use mathlib.Core.Bool.{true, false}
 use mathlib.Core.List.{List, [], _∷_, _++_}
 use native.Mathlib.Nat.{min-le-right}
 use native.Mathlib.Omega.{arith}
@@ -9,7 +7,6 @@ use lib.Dec.{leb}
 use lib.ListN.{length, length-append}
 use Rattle.numbers.specs.Lists.{each}
 use Rattle.numbers.specs.Laws.Choice.{pick-case}
-use Rattle.numbers.specs.Laws.Joins.{length-each}
 use Rattle.sheet.specs.Sizes.{rankPlaces, stepPlaces, matrixPlaces}
 use Rattle.sheet.specs.declared.Layout.{Layout}
 use Rattle.sheet.specs.declared.Tensors.{Tensors}
@@ -17,11 +14,7 @@ use Rattle.sheet.specs.declared.Sheet.{Sheet}
 use Rattle.sheet.specs.declared.Step.{Step}
 use Rattle.sheet.specs.declared.Step.the-variants.{Nothing, Load, Store, Whole}
 use Rattle.sheet_ranges.specs.Steps.{theStep}
-use Rattle.sheet_ranges.specs.Laws.Within.{Within, within-places}
-use Rattle.registers.specs.Types.{theType}
-use Rattle.registers.specs.Registers.{emptyRegisters}
-use Rattle.registers.specs.Sized.{Sized}
-use Rattle.registers.specs.Laws.Sized.{sized-empty, sized-places}
+use Rattle.sheet_ranges.specs.Laws.Within.{Within}
 use Rattle.registers.specs.declared.MatrixType.{MatrixType}
 use Rattle.view_indices.specs.Indices.{spanOf}
 use Rattle.spans.specs.Spans.{splitBy, withSplit, dividedFrom, nothingDivided, divided}
@@ -31,10 +24,9 @@ use Rattle.addressing.specs.Rules.{elementsOf}
 use Rattle.addressing.specs.declared.Access.{Access}
 use Rattle.addressing.specs.declared.Indexed.{Indexed}
 use Rattle.addressing.specs.declared.Indexed.the-variants.{Skipped, Index}
-use Rattle.checking.specs.Steps.{accessOf, objectRegister, checkedStep}
-use Rattle.checking.specs.Laws.Steps.{check-sized}
-use Rattle.checking.specs.Laws.Turns.{within-step}
 use Rattle.accepted.specs.Passes.{passFrom}
+use Rattle.accepted.specs.Elements.{ofAccess, ofStep}
+use Rattle.accepted.specs.Laws.Elements.{sheet-few}
 use Rattle.dividing.specs.Divisions.{indexDivisions, elementDivisions, accessDivisions, stepDivisions, divisionsAt, divisions, total}
 use Rattle.dividing.specs.Laws.Totals.{total-append}
 
@@ -55,8 +47,7 @@ unfolding indexDivisions
 index-most l Skipped = omega arith
 index-most l (Index i) = pick-case (λ (n : ℕ). n ≤ rankPlaces) (leb (2 ^ 32) i) _ _ (λ t. omega arith) (λ t. divided-most l i)
 
--- ---- at most five for each element
-
+-- at most five for each element
 abbrev pub Most : List ℕ → Type 0
 Most ns = total ns ≤ rankPlaces * length ns
 
@@ -73,50 +64,23 @@ most-each f h zero = omega arith
 most-each f h (suc n) = most-append (each n (λ (k : ℕ). f k ∷ [])) (f n ∷ []) (most-each f h n) (omega (arith, h n))
 
 access-most : (a : Access) → Most (accessDivisions a)
-unfolding accessDivisions
-access-most a = most-each (elementDivisions a) (λ k. index-most (a .layout) _) (elementsOf a)
+unfolding ofAccess
+access-most a = most-each (elementDivisions a) (λ e. index-most (a .layout) _) (elementsOf a)
 
-step-most : (tensors : Tensors) (ts : List MatrixType) (len : ℕ) (step : Step) → Most (stepDivisions tensors ts len step)
-unfolding stepDivisions
-step-most tensors ts len Nothing = most-none
-step-most tensors ts len (Load register object window) = access-most _
-step-most tensors ts len (Store register window) = access-most _
-step-most tensors ts len (Whole whole) = most-none
+step-most : (tensors : Tensors) (ts : List MatrixType) (len k : ℕ) (step : Step) → Most (stepDivisions tensors ts len k step)
+unfolding ofStep
+step-most tensors ts len k Nothing = most-none
+step-most tensors ts len k (Load register object window) = access-most _
+step-most tensors ts len k (Store register window) = access-most _
+step-most tensors ts len k (Whole whole) = most-none
 
 module _ (sh : Sheet) (len : ℕ) where
   pub steps-most : (n k : ℕ) (ts : List MatrixType) → Most (passFrom (divisionsAt sh len) n sh len k ts)
   unfolding passFrom
   steps-most zero k ts = most-none
-  steps-most (suc n) k ts = most-append _ _ (step-most (sh .tensors) ts len (theStep (sh .step) k)) (steps-most n (k + 1) _)
+  steps-most (suc n) k ts = most-append _ _ (step-most (sh .tensors) ts len k (theStep (sh .step) k)) (steps-most n (k + 1) _)
 
--- ---- few elements
-
-access-count : (a : Access) → length (accessDivisions a) ≡ elementsOf a
-unfolding accessDivisions
-access-count a = length-each 1 (elementsOf a) _ (λ k h. refl) ∙ omega arith
-
-step-few : (tensors : Tensors) (ts : List MatrixType) (len : ℕ) (step : Step) → Sized ts → length (stepDivisions tensors ts len step) ≤ matrixPlaces
-unfolding stepDivisions
-step-few tensors ts len Nothing s = omega arith
-step-few tensors ts len (Load register object window) s =
-    let t = theType ts (objectRegister register object) in
-    omega (arith, access-count (accessOf tensors true window t len), sized-places t (s .each (objectRegister register object)))
-step-few tensors ts len (Store register window) s =
-    let t = theType ts register in
-    omega (arith, access-count (accessOf tensors false window t len), sized-places t (s .each register))
-step-few tensors ts len (Whole whole) s = omega arith
-
-module _ (sh : Sheet) (w : Within sh) (len : ℕ) where
-  steps-few : (n k : ℕ) (ts : List MatrixType) → k + n ≤ sh .steps → Sized ts → length (passFrom (divisionsAt sh len) n sh len k ts) ≤ n * matrixPlaces
-  unfolding passFrom
-  steps-few zero k ts l s = omega arith
-  steps-few (suc n) k ts l s =
-      let step = theStep (sh .step) k in
-      let after = checkedStep (sh .edition) (sh .tensors) ts len step .types in
-      let sized = check-sized (sh .edition) (sh .tensors) ts len step (sh .edition) (sh .tensors .layouts) (sh .tensors .views) (within-step sh w k (omega arith)) s in
-      let both = length-append (stepDivisions (sh .tensors) ts len step) (passFrom (divisionsAt sh len) n sh len (k + 1) after) in
-      omega (arith, both, step-few (sh .tensors) ts len step s, steps-few n (k + 1) after (omega arith) sized)
-
-  pub divisions-few : length (divisions sh len) ≤ stepPlaces * matrixPlaces
-  unfolding divisions
-  divisions-few = omega (arith, steps-few (sh .steps) 0 (emptyRegisters .types) (omega arith) sized-empty, within-places w)
+-- a sheet within Sizes has few elements
+pub divisions-few : (sh : Sheet) → Within sh → (len : ℕ) → length (divisions sh len) ≤ stepPlaces * matrixPlaces
+unfolding divisions
+divisions-few sh w len = sheet-few (λ (n : ℕ). elementDivisions) sh w len

@@ -1,5 +1,5 @@
 use Rattle.checking.specs.Laws.Names.{load-object, store-register}
-use Rattle.expected.specs.Expected.{stepEvents}
+use Rattle.accepted.specs.Elements.{ofStep}
 use Rattle.expected.specs.Laws.Events.{load-count, store-count}
 use mathlib.Core.Path.{refl, ap, _∙_}
 use Rattle.registers.specs.Types.{theType}
@@ -36,7 +36,7 @@ enum-told-2 : tie.Need-enum-told-2
 enum-told-2 c = search needs
 
 returns : tie.Need-returns
-unfolding stepEvents
+unfolding ofStep
 returns c = (omega arith, λ tensors len k. rw (c .enum-told .given .1) refl)
 
 returns-2 : tie.Need-returns-2
@@ -53,7 +53,7 @@ returns-3 c =
     (c .elements-of2 .ensures .1, λ tensors len k. rw (g .1) (store-count tensors (a .types) len k (g .0 .0) (g .0 .1 .0) (c .before .the-type2 .ensures) (c .elements-of2 .ensures .0)))
 
 returns-4 : tie.Need-returns-4
-unfolding stepEvents
+unfolding ofStep
 returns-4 c = (omega arith, λ tensors len k. rw (c .enum-told2 .given .1) refl)
 
 pub count-events-spec : {M : Type 1} → statement M

@@ -22,6 +22,7 @@ use Rattle.addressing.specs.Rules.{elementsOf}
 use Rattle.addressing.specs.declared.Access.{Access}
 use Rattle.transfers.specs.Transfers.{outcomeOf}
 use Rattle.checking.specs.Steps.{accessOf, objectRegister, checkedStep}
+use Rattle.accepted.specs.Elements.{ofAccess, ofStep}
 use Rattle.accepted.specs.Passes.{passFrom}
 use Rattle.traces.specs.Events.{eventOk, isAfter}
 use Rattle.traces.specs.Ascending.{Ascending}
@@ -67,12 +68,12 @@ elements-follow k f (suc n) rest h p r =
     (λ q g. (event-ok k n (f n), after-reached k n (f n) q g, h (Some (eventOf k n (f n))) (omega arith, λ e. omega arith))) p r)
 
 access-follows : (k : ℕ) (a : Access) (rest : List Event) → Follows (k + 1) 0 rest → Follows k 0 (accessEvents k a ++ rest)
-unfolding accessEvents
+unfolding ofAccess
 access-follows k a rest h = elements-follow k (outcomeOf a) (elementsOf a) rest (λ q g. h q (next-step k (elementsOf a) q g))
 
 step-follows : (tensors : Tensors) (ts : List MatrixType) (len k : ℕ) (step : Step) (rest : List Event) → Follows (k + 1) 0 rest
     → Follows k 0 (stepEvents tensors ts len k step ++ rest)
-unfolding stepEvents
+unfolding ofStep
 step-follows tensors ts len k Nothing rest h = λ p r. h p (next-step k 0 p r)
 step-follows tensors ts len k (Load register object window) rest h =
     access-follows k (accessOf tensors true window (theType ts (objectRegister register object)) len) rest h

@@ -26,18 +26,16 @@ use Rattle.transfers.specs.Transfers.{outcomeOf}
 use Rattle.checking.specs.Steps.{accessOf, objectRegister}
 use Rattle.checking.specs.Told.{StepTold}
 use Rattle.accepted.specs.Accepted.{entriesOutcome, Listed}
+use Rattle.accepted.specs.Elements.{ofAccess, ofStep}
+use Rattle.accepted.specs.Laws.Elements.{access-count}
 use Rattle.accepted.specs.declared.Outcomes.{Outcomes}
 use Rattle.traces.specs.declared.Event.{Event}
-use Rattle.expected.specs.Expected.{eventOf, accessEvents, stepEvents}
+use Rattle.expected.specs.Expected.{eventOf, outcomeEvent, accessEvents, stepEvents}
 use Rattle.expected.specs.Listed.{listedEvents, StepListed}
 
 -- the byte of an entry is one of a memory's
 pub entry-near : (fill x : ℕ) → Near (entryOutcome fill x)
 entry-near fill x = entry-cases Near fill tt (λ b h. h) tt tt x
-
-pub access-count : (k : ℕ) (a : Access) → length (accessEvents k a) ≡ elementsOf a
-unfolding accessEvents
-access-count k a = length-each 1 (elementsOf a) _ (λ e h. refl) ∙ omega arith
 
 listed-count : (k : ℕ) (entries : List ℕ) (n : ℕ) → length (listedEvents k entries n) ≡ n
 unfolding listedEvents
@@ -58,7 +56,7 @@ same-event k e f g x =
 -- entries that stand for an access's outcomes, where filled elements take these bits
 access-listed : (k : ℕ) (a : Access) (fill : ℕ) (entries : List ℕ) → ((e : ℕ) → e < elementsOf a → entriesOutcome entries fill e ≡ outcomeOf a e)
     → listedEvents k entries (elementsOf a) ≡ accessEvents k a
-unfolding listedEvents accessEvents
+unfolding listedEvents ofAccess
 access-listed k a fill entries same =
     each-same (elementsOf a) _ _
     (λ e h. ap (λ (x : Event). x ∷ []) (same-event k e 0 fill (getD entries e 0) ∙ ap (eventOf k e) (same e h)))
@@ -66,11 +64,11 @@ access-listed k a fill entries same =
 module _ (tensors : Tensors) (ts : List MatrixType) (len : ℕ) {entries : List ℕ} {n : ℕ} where
   -- a step without events
   pub nothing-listed : n ≡ 0 → StepListed tensors ts len Nothing entries n
-  unfolding listedEvents stepEvents each
+  unfolding listedEvents ofStep each
   nothing-listed e = record { few = omega arith; same = λ k. rw e }
 
   pub whole-listed : (whole : _) → n ≡ 0 → StepListed tensors ts len (Whole whole) entries n
-  unfolding listedEvents stepEvents each
+  unfolding listedEvents ofStep each
   whole-listed whole e = record { few = omega arith; same = λ k. rw e }
 
 -- what a survey lists
@@ -80,21 +78,21 @@ surveyed-access k a {entries} {o} l = rw (l .count) (access-listed k a (o .fill)
 module _ (tensors : Tensors) (ts : List MatrixType) (len register : ℕ) (window : Window) {entries : List ℕ} {o : Outcomes} where
   pub load-listed : (object : Object) {t : MatrixType} → t ≡ theType ts (objectRegister register object)
       → Listed (accessOf tensors true window t len) entries o → StepListed tensors ts len (Load register object window) entries (o .count)
-  unfolding stepEvents
+  unfolding ofStep
   load-listed object so l = record { few = l .few; same = λ k. rw so at (surveyed-access k _ l) }
 
   pub store-listed : {t : MatrixType} → t ≡ theType ts register
       → Listed (accessOf tensors false window t len) entries o → StepListed tensors ts len (Store register window) entries (o .count)
-  unfolding stepEvents
+  unfolding ofStep
   store-listed so l = record { few = l .few; same = λ k. rw so at (surveyed-access k _ l) }
 
 -- what the check of an accepted step leaves
 told-access : (k : ℕ) (a : Access) (entries : List ℕ) (n : ℕ) → n ≡ length (accessEvents k a) → Told a entries → listedEvents k entries n ≡ accessEvents k a
-told-access k a entries n e told = rw (e ∙ access-count k a) (access-listed k a (lowBits a) entries told)
+told-access k a entries n e told = rw (e ∙ access-count (outcomeEvent k) a) (access-listed k a (lowBits a) entries told)
 
 told-same : (tensors : Tensors) (ts : List MatrixType) (len k : ℕ) (step : Step) (entries : List ℕ) (n : ℕ) → n ≡ length (stepEvents tensors ts len k step)
     → StepTold tensors ts len step entries → listedEvents k entries n ≡ stepEvents tensors ts len k step
-unfolding stepEvents listedEvents each
+unfolding ofStep listedEvents each
 told-same tensors ts len k Nothing entries n e told = rw e
 told-same tensors ts len k (Load register object window) entries n e told = told-access k _ entries n e told
 told-same tensors ts len k (Store register window) entries n e told = told-access k _ entries n e told
@@ -107,10 +105,10 @@ told-listed few count told = record { few = few; same = λ k. told-same _ _ _ k 
 module _ (tensors : Tensors) (ts : List MatrixType) (len k register : ℕ) (window : Window) where
   pub load-count : (object : Object) {t : MatrixType} {n : ℕ} → t ≡ theType ts (objectRegister register object) → n ≡ t .rows * t .columns
       → n ≡ length (stepEvents tensors ts len k (Load register object window))
-  unfolding stepEvents
-  load-count object so e = rw so at e ∙ rw (access-count k (accessOf tensors true window (theType ts (objectRegister register object)) len)) refl
+  unfolding ofStep
+  load-count object so e = rw so at e ∙ rw (access-count (outcomeEvent k) (accessOf tensors true window (theType ts (objectRegister register object)) len)) refl
 
   pub store-count : {t : MatrixType} {n : ℕ} → t ≡ theType ts register → n ≡ t .rows * t .columns
       → n ≡ length (stepEvents tensors ts len k (Store register window))
-  unfolding stepEvents
-  store-count so e = rw so at e ∙ rw (access-count k (accessOf tensors false window (theType ts register) len)) refl
+  unfolding ofStep
+  store-count so e = rw so at e ∙ rw (access-count (outcomeEvent k) (accessOf tensors false window (theType ts register) len)) refl

@@ -1,50 +1,12 @@
 -- A sheet within Sizes makes few events.
-use Prim.Native.Nat.{ℕ, zero, suc, _+_, _*_, _≤_}
-use mathlib.Core.List.{List}
-use native.Mathlib.Omega.{arith}
-use mathlib.Core.Bool.{true, false}
-use lib.ListN.{length, length-append}
+use Prim.Native.Nat.{ℕ, _*_, _≤_}
+use lib.ListN.{length}
 use Rattle.sheet.specs.Sizes.{stepPlaces, matrixPlaces}
-use Rattle.sheet_ranges.specs.Steps.{theStep}
-use Rattle.sheet_ranges.specs.Laws.Within.{Within, within-places}
 use Rattle.sheet.specs.declared.Sheet.{Sheet}
-use Rattle.sheet.specs.declared.Tensors.{Tensors}
-use Rattle.sheet.specs.declared.Step.{Step}
-use Rattle.sheet.specs.declared.Step.the-variants.{Nothing, Load, Store, Whole}
-use Rattle.registers.specs.Types.{theType}
-use Rattle.registers.specs.Registers.{emptyRegisters}
-use Rattle.registers.specs.Sized.{Sized}
-use Rattle.registers.specs.Laws.Sized.{sized-empty, sized-places}
-use Rattle.registers.specs.declared.MatrixType.{MatrixType}
-use Rattle.checking.specs.Steps.{accessOf, objectRegister, checkedStep}
-use Rattle.checking.specs.Laws.Steps.{check-sized}
-use Rattle.checking.specs.Laws.Turns.{within-step}
-use Rattle.accepted.specs.Passes.{passFrom}
-use Rattle.expected.specs.Expected.{stepEvents, eventsAt, expected}
-use Rattle.expected.specs.Laws.Events.{access-count}
+use Rattle.sheet_ranges.specs.Laws.Within.{Within}
+use Rattle.accepted.specs.Laws.Elements.{sheet-few}
+use Rattle.expected.specs.Expected.{outcomeEvent, expected}
 
-step-few : (tensors : Tensors) (ts : List MatrixType) (len k : ℕ) (step : Step) → Sized ts → length (stepEvents tensors ts len k step) ≤ matrixPlaces
-unfolding stepEvents
-step-few tensors ts len k Nothing s = omega arith
-step-few tensors ts len k (Load register object window) s =
-    let t = theType ts (objectRegister register object) in
-    omega (arith, access-count k (accessOf tensors true window t len), sized-places t (s .each (objectRegister register object)))
-step-few tensors ts len k (Store register window) s =
-    let t = theType ts register in
-    omega (arith, access-count k (accessOf tensors false window t len), sized-places t (s .each register))
-step-few tensors ts len k (Whole whole) s = omega arith
-
-module _ (sh : Sheet) (w : Within sh) (len : ℕ) where
-  steps-few : (n k : ℕ) (ts : List MatrixType) → k + n ≤ sh .steps → Sized ts → length (passFrom (eventsAt sh len) n sh len k ts) ≤ n * matrixPlaces
-  unfolding passFrom
-  steps-few zero k ts l s = omega arith
-  steps-few (suc n) k ts l s =
-      let step = theStep (sh .step) k in
-      let after = checkedStep (sh .edition) (sh .tensors) ts len step .types in
-      let sized = check-sized (sh .edition) (sh .tensors) ts len step (sh .edition) (sh .tensors .layouts) (sh .tensors .views) (within-step sh w k (omega arith)) s in
-      let both = length-append (stepEvents (sh .tensors) ts len k step) (passFrom (eventsAt sh len) n sh len (k + 1) after) in
-      omega (arith, both, step-few (sh .tensors) ts len k step s, steps-few n (k + 1) after (omega arith) sized)
-
-  pub expected-few : length (expected sh len) ≤ stepPlaces * matrixPlaces
-  unfolding expected
-  expected-few = omega (arith, steps-few (sh .steps) 0 (emptyRegisters .types) (omega arith) sized-empty, within-places w)
+pub expected-few : (sh : Sheet) → Within sh → (len : ℕ) → length (expected sh len) ≤ stepPlaces * matrixPlaces
+unfolding expected
+expected-few sh w len = sheet-few outcomeEvent sh w len
