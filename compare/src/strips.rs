@@ -1,4 +1,4 @@
-//! The strips of the scope and two beside them: sheets and memories from the files under `strips/`, and what the
+//! The strips of the scope and three beside them: sheets and memories from the files under `strips/`, and what the
 //! scope says that they give.
 
 use crate::jobs::{Jobs, State, AGREES};
@@ -33,7 +33,7 @@ macro_rules! strip {
     };
 }
 
-/// Every strip, in the scope's order; the last two are none of the scope's.
+/// Every strip, in the scope's order; the last three are none of the scope's.
 pub fn strips() -> Vec<Strip> {
     use Expected::*;
     vec![
@@ -55,6 +55,7 @@ pub fn strips() -> Vec<Strip> {
             "13-two-layer-network",
             Memory(80, &[0xF4, 0x01, 0, 0, 0xC5, 0x03, 0, 0, 0x48, 0xF4, 0xFF, 0xFF])
         ),
+        strip!("14-spans-of-one", Register(0, [2, 4], &[0, 1, 2, 4, 5, 6, 0, 1])),
     ]
 }
 
@@ -93,7 +94,7 @@ const ACCESSES: [(&str, &[[Access; 8]]); 4] = [
 ];
 
 /// Strips with the divisions that rule 3 counts over all elements of their loads and stores.
-const DIVISIONS: [(&str, u32); 5] = [
+const DIVISIONS: [(&str, u32); 6] = [
     // Indices 0 to 7 by 8, in the store as in the load.
     ("01-constant", 7),
     ("06-clamped-store", 14),
@@ -103,6 +104,8 @@ const DIVISIONS: [(&str, u32); 5] = [
     ("08-clip", 3),
     // Indices 0 and 1, then 0 to 2 by 3.
     ("13-two-layer-network", 3),
+    // Indices 0 to 7 by 3, and 3 to 7 then by 2.
+    ("14-spans-of-one", 12),
 ];
 
 /// Reads hex digits, two a byte, with blanks between them and comments from `#` to the line's end.

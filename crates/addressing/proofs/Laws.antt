@@ -1,8 +1,8 @@
 -- Laws of the rules' definitions.
-use Prim.Native.Nat.{ℕ, zero, suc, _+_, _-_, _*_, _/_, _%_, _^_, _<_, _≤_}
+use Prim.Native.Nat.{ℕ, zero, suc, _+_, _-_, _*_, _%_, _^_, _<_, _≤_}
 use mathlib.Core.Path.{_≡_, refl, sym, ap, _∙_}
 use mathlib.Core.Bool.{Bool, true, false, true≢false}
-use native.Mathlib.Nat.{mul-le-mul, not-suc-le-zero, div-le-self, div-add-mod', zero-mul, suc-mul}
+use native.Mathlib.Nat.{mul-le-mul, not-suc-le-zero, div-add-mod', zero-mul, suc-mul}
 use native.Mathlib.Omega.{arith}
 use lib.Dec.{ltb, leb, eqb}
 use lib.IntN.{ℤ, pos, negsuc, _+ℤ_}
@@ -26,7 +26,7 @@ use Rattle.sheet.specs.declared.View.{View}
 use Rattle.addressing.specs.declared.Access.{Access}
 use Rattle.addressing.specs.declared.Clamped.{Clamped}
 use Rattle.addressing.specs.declared.Clamped.the-variants.{Refused, Discarded, Filled, At}
-use Rattle.sheet.specs.Sizes.{rankPlaces, matrixPlaces, sizeLimit}
+use Rattle.sheet.specs.Sizes.{rankPlaces, matrixPlaces}
 use Rattle.view_indices.specs.Plans.{sizesOf, stridesOf}
 use Rattle.view_indices.specs.Laws.Indices.{five-at}
 use Rattle.dimensions.specs.declared.Tail.{Tail}
@@ -123,9 +123,6 @@ part-is load mode d s e = rw e
 pub part-told : (load : Bool) (mode : ClampMode) (d : Dimension) (s : ℕ) {offset n : ℕ} {c : ℤ} {r x : Clamped}
     → offset ≡ d .offset → c ≡ pos s +ℤ twos offset → n ≡ d .size → r ≡ clamped load mode c n → r ≡ x → scaled d x ≡ part load mode d s
 part-told load mode d s {x = x} e f g h i = part-is load mode d s {x = x} (rw (← e, ← f, ← g) (sym h ∙ i))
-
-pub scaled-le : {x n stride : ℕ} (block : ℕ) → x < n → n ≤ sizeLimit → stride < 65536 → x / block * stride ≤ 268435456
-scaled-le {x} block h m t = mul-le-mul {n₂ = sizeLimit} {m₂ = 65536} (omega (arith, div-le-self x block)) (omega arith)
 
 module _ (a : Access) where
   pub reached-far : (index : ℕ) → 2 ^ 32 ≤ index → refused indexTooLarge ≡ reached a index

@@ -1,5 +1,5 @@
 -- Rules 2 and 3 to 5 as loops from the last dimension to the first, which keep no coordinates.
-use Prim.Native.Nat.{ℕ, zero, suc, _+_, _-_, _*_, _/_, _%_, _^_, _<_, _≤_}
+use Prim.Native.Nat.{ℕ, zero, suc, _+_, _-_, _*_, _/_, _%_, _<_, _≤_}
 use mathlib.Core.Path.{_≡_, refl, sym, ap, _∙_}
 use mathlib.Core.Bool.{Bool, true, false}
 use mathlib.Core.List.{List}
@@ -25,7 +25,7 @@ use Rattle.spans.specs.Spans.{spanCoordinates, splitBy}
 use Rattle.addressing.specs.Rules.{twos, onLoad, onStore, outside, clamped, scaled, part, plus, tensorIndex}
 use Rattle.spans.specs.Laws.Splits.{split-rest, split-quotient}
 use Rattle.spans.specs.declared.Split.{Split}
-use Rattle.dimensions.specs.Dimensions.{dimensionNumbers, dimensionIn, lead, leadStart, tailOf, tailNumbers}
+use Rattle.dimensions.specs.Dimensions.{dimensionNumbers, dimensionIn, lead, leadStart, tailOf, tailNumbers, partLimit}
 use Rattle.dimensions.specs.Laws.Tails.{lead-most, tail-dimension}
 use Rattle.dimensions.specs.declared.Tail.{Tail}
 use Rattle.view_indices.specs.Laws.Indices.{coordinates-more}
@@ -155,7 +155,7 @@ module _ (l : Layout) (ok : layoutOk l ≡ true) {ns : List ℕ} {d : ℕ} {x : 
 -- The loop over a layout's dimensions: those from d on are done and have a sum; `left` is what is left of the index.
 pub record Summing (load : Bool) (l : Layout) (index d left sum : ℕ) : Type 0 where
   pub few : d ≤ l .rank
-  pub small : sum ≤ (l .rank - d) * 2 ^ 28
+  pub small : sum ≤ (l .rank - d) * partLimit
   pub cs : List ℕ
   pub long : length cs ≡ rankPlaces
   pub goes : coordinates (λ (i : ℕ). i) (spanOf l) d left cs ≡ spanCoordinates l index
@@ -193,7 +193,7 @@ module _ (load : Bool) (l : Layout) (ok : layoutOk l ≡ true) (index : ℕ) whe
     one-more : tensorIndex load l (spanCoordinates l index) d ≡ plus (tensorIndex load l (spanCoordinates l index) (d - 1)) next
     one-more = rw (← coordinate) (tensor-last load l (spanCoordinates l index) d h)
 
-    pub summing-more : (y : ℕ) → y ≤ 2 ^ 28 → next ≡ At y → Summing load l index (d - 1) (left / span) (sum + y)
+    pub summing-more : (y : ℕ) → y ≤ partLimit → next ≡ At y → Summing load l index (d - 1) (left / span) (sum + y)
     summing-more y m e =
         record {
           few = omega (arith, w .few);
@@ -219,13 +219,13 @@ module _ (load : Bool) (l : Layout) (ok : layoutOk l ≡ true) (index : ℕ) whe
 -- The loop over the dimensions after the fixed ones: those from the last d on are done; the sum has what the fixed ones add.
 pub record Tailing (load : Bool) (l : Layout) (index d left sum : ℕ) : Type 0 where
   pub few : d ≤ l .rank - lead l
-  pub start : leadStart l (lead l) ≤ lead l * 2 ^ 28
+  pub start : leadStart l (lead l) ≤ lead l * partLimit
   pub done : ℕ
   pub adds : sum ≡ leadStart l (lead l) + done
   pub walk : Summing load l index (lead l + d) left done
 
 module _ (load : Bool) (l : Layout) (ok : layoutOk l ≡ true) (index : ℕ) where
-  pub tailing-start : (t : Tail) → t ≡ tailOf l → t .start ≤ lead l * 2 ^ 28 → Tailing load l index (t .rank) index (t .start)
+  pub tailing-start : (t : Tail) → t ≡ tailOf l → t .start ≤ lead l * partLimit → Tailing load l index (t .rank) index (t .start)
   unfolding tailOf
   tailing-start t e m =
       let q : lead l + (l .rank - lead l) ≡ l .rank = omega (arith, lead-most l) in
@@ -245,10 +245,10 @@ module _ (load : Bool) (l : Layout) (ok : layoutOk l ≡ true) (index : ℕ) whe
     abbrev here : Clamped
     here = part load (l .mode) (theDimension (l .dimensions) (lead l + d - 1)) (left % spanOf l (lead l + d - 1))
 
-    pub tailing-fits : (y : ℕ) → y ≤ 2 ^ 28 → sum + y ≤ rankPlaces * 2 ^ 28
+    pub tailing-fits : (y : ℕ) → y ≤ partLimit → sum + y ≤ rankPlaces * partLimit
     tailing-fits y m = omega (arith, w .adds, w .start, w .walk .small, w .few, layout-most l ok, lead-most l)
 
-    pub tailing-more : (y : ℕ) → y ≤ 2 ^ 28 → here ≡ At y → Tailing load l index (d - 1) (left / spanOf l (lead l + d - 1)) (sum + y)
+    pub tailing-more : (y : ℕ) → y ≤ partLimit → here ≡ At y → Tailing load l index (d - 1) (left / spanOf l (lead l + d - 1)) (sum + y)
     tailing-more y m e =
         let q : lead l + d - 1 ≡ lead l + (d - 1) = omega arith in
         record {
@@ -266,7 +266,7 @@ module _ (load : Bool) (l : Layout) (ok : layoutOk l ≡ true) (index : ℕ) whe
         (alike (stopOf load (l .mode)) (next-stop load l ok index (lead l + d) left (w .done) (w .walk) (omega arith) y e)) e
 
   pub tailing-end : (d left sum : ℕ) → Tailing load l index d left sum → d ≤ 0
-      → (At sum ≡ tensorIndex load l (spanCoordinates l index) (l .rank)) × (sum ≤ rankPlaces * 2 ^ 28)
+      → (At sum ≡ tensorIndex load l (spanCoordinates l index) (l .rank)) × (sum ≤ rankPlaces * partLimit)
   tailing-end d left sum w h =
       let q : lead l + d ≡ lead l = omega arith in
       (rw (w .adds) (rw (q, lead-sum l ok load index (lead l) (omega arith)) at (w .walk .whole)), omega (arith, w .adds, w .start, w .walk .small, layout-most l ok, lead-most l))

@@ -11,7 +11,7 @@ use Rattle.addressing.specs.declared.Clamped.{Clamped}
 use Rattle.addressing.specs.declared.Clamped.the-variants.{Refused, Discarded, Filled, At}
 use Rattle.sheet.specs.Sizes.{matrixPlaces, memoryLimit, sizeLimit}
 use Rattle.addressing.specs.Rules.{elementsOf}
-use Rattle.dimensions.specs.Dimensions.{lead}
+use Rattle.dimensions.specs.Dimensions.{lead, partLimit}
 use Rattle.addressing.specs.Plans.{planned}
 
 -- the layout, the view and the memory keep to Sizes, an element is 1, 2 or 4 bytes, and the matrix has columns and at most a register's elements
@@ -36,7 +36,7 @@ pub record Planned (p : Plan) : Type 0 where
   pub same : p ≡ planned (p .access)
   pub few : p .count ≤ matrixPlaces
   pub strides : (i : ℕ) → getD (p .strides) i 0 ≤ sizeLimit ^ 4
-  pub start : p .tail .start ≤ lead (p .access .layout) * 2 ^ 28
+  pub start : p .tail .start ≤ lead (p .access .layout) * partLimit
 
 -- what rule 5 gives is at most n, where it gives an index
 abbrev pub AtMost : ℕ → Clamped → Type 0

@@ -2,7 +2,7 @@
 ghost use mathlib.Core.Path.{_≡_};
 ghost use Prim.Native.Nat.{_*_, _/_, _^_, _%_, _≤_, _<_, min};
 ghost use Rattle.sheet.specs.Sizes.{rankPlaces};
-ghost use Rattle.dimensions.specs.Dimensions.{lead, tailOf, tailNumbers};
+ghost use Rattle.dimensions.specs.Dimensions.{lead, tailOf, tailNumbers, partLimit};
 ghost use Rattle.addressing.specs.Plans.{planned};
 ghost use Rattle.addressing.specs.Rules.{elementsOf, lowBits, addressed, reached, indexed, located, refused, answered};
 ghost use Rattle.addressing.specs.Valid.{ValidAccess, Planned};
@@ -142,7 +142,7 @@ fn answer(o: Outcome) -> Located
 
 // Rule 5: the byte of a tensor index, which is below 2 to the 31st, so that nothing wraps.
 fn address(a: Access, t: u32) -> Located
-    requires { ⌜ ValidAccess a × (t ≤ rankPlaces * 2 ^ 28) ⌝ }
+    requires { ⌜ ValidAccess a × (t ≤ rankPlaces * partLimit) ⌝ }
     ensures { λ r. ⌜ r ≡ addressed a t ⌝ }
 {
     let size = a.size;
@@ -156,7 +156,7 @@ fn address(a: Access, t: u32) -> Located
 
 // Refusal 12, then rules 3 to 5.
 fn reach(a: Access, numbers: &[u16; LAYOUT_NUMBERS], tail: Tail, fill: u32, index: u64) -> Located
-    requires { ⌜ ValidAccess a × (fill ≡ lowBits a) × (now numbers ≡ tailNumbers (a .layout)) × (tail ≡ tailOf (a .layout)) × (tail .start ≤ lead (a .layout) * 2 ^ 28) ⌝ }
+    requires { ⌜ ValidAccess a × (fill ≡ lowBits a) × (now numbers ≡ tailNumbers (a .layout)) × (tail ≡ tailOf (a .layout)) × (tail .start ≤ lead (a .layout) * partLimit) ⌝ }
     ensures { λ r. ⌜ r ≡ reached a index ⌝ }
 {
     if INDEX_LIMIT <= index {

@@ -1,12 +1,12 @@
 // Rules 3 to 5.
 ghost use mathlib.Core.Path.{_≡_};
 ghost use mathlib.Core.Bool.{true};
-ghost use Prim.Native.Nat.{_*_, _^_, _≤_, _<_};
+ghost use Prim.Native.Nat.{_*_, _≤_, _<_};
 ghost use Rattle.tensor_ranges.specs.Layouts.{layoutOk};
 ghost use Rattle.tensor_ranges.specs.Laws.Facts.{InSize};
 ghost use Rattle.sheet.specs.Sizes.{rankPlaces, sizeLimit};
 ghost use Rattle.spans.specs.Spans.{spanCoordinates};
-ghost use Rattle.dimensions.specs.Dimensions.{lead, tailOf, tailNumbers};
+ghost use Rattle.dimensions.specs.Dimensions.{lead, tailOf, tailNumbers, partLimit};
 ghost use Rattle.addressing.specs.Rules.{part, tensorIndex};
 ghost use Rattle.addressing.specs.Valid.{AtMost};
 use super::Clamped;
@@ -24,7 +24,7 @@ use view_indices::wide;
 // Rules 4 and 5 for a dimension at span coordinate s: at most 4,096 times 65,536, 2 to the 28th.
 fn part(load: bool, mode: ClampMode, d: Dimension, s: u32) -> Clamped
     requires { ⌜ InSize (d .size) × InSize (d .block) × (s < sizeLimit) ⌝ }
-    ensures { λ r. ⌜ (r ≡ part load mode d s) × AtMost (2 ^ 28) r ⌝ }
+    ensures { λ r. ⌜ (r ≡ part load mode d s) × AtMost partLimit r ⌝ }
 {
     let c = clamps::shifted(s, wide(d.offset));
     match clamps::clamp(load, mode, c, wide(d.size)) {
@@ -44,8 +44,8 @@ pub fn tensor_index(
     tail: Tail,
     index: u32,
 ) -> Clamped
-    requires { ⌜ (layoutOk l ≡ true) × (now numbers ≡ tailNumbers l) × (tail ≡ tailOf l) × (tail .start ≤ lead l * 2 ^ 28) ⌝ }
-    ensures { λ r. ⌜ (r ≡ tensorIndex load l (spanCoordinates l index) (l .rank)) × AtMost (rankPlaces * 2 ^ 28) r ⌝ }
+    requires { ⌜ (layoutOk l ≡ true) × (now numbers ≡ tailNumbers l) × (tail ≡ tailOf l) × (tail .start ≤ lead l * partLimit) ⌝ }
+    ensures { λ r. ⌜ (r ≡ tensorIndex load l (spanCoordinates l index) (l .rank)) × AtMost (rankPlaces * partLimit) r ⌝ }
 {
     let mut sum = tail.start;
     let mut left = index;

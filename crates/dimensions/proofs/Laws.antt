@@ -1,9 +1,9 @@
 -- The loops over the leading dimensions that are fixed, and over the numbers after theirs.
-use Prim.Native.Nat.{ℕ, zero, suc, _+_, _-_, _*_, _/_, _^_, _<_, _≤_}
+use Prim.Native.Nat.{ℕ, zero, suc, _+_, _-_, _*_, _<_, _≤_}
 use mathlib.Core.Path.{_≡_, refl, sym, _∙_}
 use mathlib.Core.Bool.{Bool, true, false, not}
 use mathlib.Core.List.{List}
-use native.Mathlib.Nat.{div-le-self, mul-le-mul, sub-zero, zero-add}
+use native.Mathlib.Nat.{sub-zero, zero-add}
 use native.Mathlib.Numerals.{add-one}
 use native.Mathlib.Omega.{arith}
 use lib.ListN.{getD, set}
@@ -13,15 +13,11 @@ use Rattle.numbers.specs.Lists.{line}
 use Rattle.numbers.specs.Laws.Lines.{line-outside, line-next}
 use Rattle.numbers.specs.Laws.First.{first-found, first-next, first-end}
 use Rattle.tensor_ranges.specs.Layouts.{theDimension}
-use Rattle.sheet.specs.Sizes.{rankPlaces, sizeLimit}
+use Rattle.sheet.specs.Sizes.{rankPlaces}
 use Rattle.sheet.specs.declared.Dimension.{Dimension}
 use Rattle.sheet.specs.declared.Layout.{Layout}
-use Rattle.dimensions.specs.Dimensions.{dimensionNumbers, dimensionIn, layoutNumbers, fixed, fixedPart, lead, leadStart, tailOf, tailNumbers}
+use Rattle.dimensions.specs.Dimensions.{dimensionNumbers, dimensionIn, layoutNumbers, fixed, fixedPart, lead, leadStart, tailOf, tailNumbers, partLimit}
 use Rattle.dimensions.specs.Laws.Tails.{numbers-dimension}
-
--- what a dimension adds is below 4,096 times 65,536
-pub part-most : {x stride : ℕ} (block : ℕ) → x < sizeLimit → stride < 65536 → x / block * stride ≤ 2 ^ 28
-part-most {x} block h m = mul-le-mul {n₂ = sizeLimit} {m₂ = 65536} (omega (arith, div-le-self x block)) (omega arith)
 
 -- a dimension by the layout's numbers
 pub same-dimension : (l : Layout) {ns : List ℕ} {d : ℕ} {x : Dimension} → ns ≡ layoutNumbers l → d < rankPlaces → x ≡ dimensionIn ns (dimensionNumbers * d) → x ≡ theDimension (l .dimensions) d
@@ -36,14 +32,14 @@ module _ (l : Layout) where
     pub few : d ≤ l .rank
     pub goes : firstFrom loose d (l .rank - d) ≡ lead l
     pub adds : start ≡ leadStart l d
-    pub most : start ≤ d * 2 ^ 28
+    pub most : start ≤ d * partLimit
 
   pub leading-start : Leading 0 0
   unfolding lead leadStart
   leading-start = record { few = omega arith; goes = rw (sub-zero (l .rank)) refl; adds = refl; most = omega arith }
 
   module _ (d start : ℕ) (w : Leading d start) where
-    pub leading-more : d < l .rank → fixed (theDimension (l .dimensions) d) ≡ true → (x : ℕ) → x ≡ fixedPart (theDimension (l .dimensions) d) → x ≤ 2 ^ 28 → Leading (d + 1) (start + x)
+    pub leading-more : d < l .rank → fixed (theDimension (l .dimensions) d) ≡ true → (x : ℕ) → x ≡ fixedPart (theDimension (l .dimensions) d) → x ≤ partLimit → Leading (d + 1) (start + x)
     unfolding leadStart
     leading-more h e x f m =
         record {
@@ -61,7 +57,7 @@ module _ (l : Layout) where
     leading-end h = sym (first-end loose d (l .rank) h) ∙ w .goes
 
     -- what is known of the answer
-    pub lead-known : d ≡ lead l → (d ≡ lead l) × (start ≡ leadStart l (lead l)) × (start ≤ lead l * 2 ^ 28)
+    pub lead-known : d ≡ lead l → (d ≡ lead l) × (start ≡ leadStart l (lead l)) × (start ≤ lead l * partLimit)
     lead-known e = (e, rw (← e) (w .adds), rw (← e) (w .most))
 
 -- numbers moved to the start, as a loop moves them: those from place k on are as they were
@@ -73,8 +69,8 @@ moved-next ns from k {out} e =
     rw (zero-add k) at (line-next ns 0 g k e x)
 
 -- the answer by what is known of the leading dimensions
-pub tail-known : (l : Layout) {count start : ℕ} → (count ≡ lead l) × (start ≡ leadStart l (lead l)) × (start ≤ lead l * 2 ^ 28)
-    → (record { rank = l .rank - count; start = start } ≡ tailOf l) × (start ≤ lead l * 2 ^ 28)
+pub tail-known : (l : Layout) {count start : ℕ} → (count ≡ lead l) × (start ≡ leadStart l (lead l)) × (start ≤ lead l * partLimit)
+    → (record { rank = l .rank - count; start = start } ≡ tailOf l) × (start ≤ lead l * partLimit)
 unfolding tailOf
 tail-known l (e, f, m) = (rw (e, f) refl, m)
 

@@ -1,5 +1,5 @@
 -- A layout's dimensions as the code holds them: numbers one after the other, without the leading dimensions that are fixed.
-use Prim.Native.Nat.{ℕ, zero, suc, _+_, _-_, _*_, _/_}
+use Prim.Native.Nat.{ℕ, zero, suc, _+_, _-_, _*_, _/_, _^_}
 use mathlib.Core.Bool.{Bool, not}
 use mathlib.Core.List.{List}
 use lib.Dec.{ltb, eqb}
@@ -39,6 +39,10 @@ dimensionPut l ns d = withDimension ns (dimensionNumbers * d) (theDimension (l .
 unfoldable pub layoutNumbers : Layout → List ℕ
 layoutNumbers l =
     dimensionPut l (dimensionPut l (dimensionPut l (dimensionPut l (dimensionPut l (replicate (rankPlaces * dimensionNumbers) 0) 0) 1) 2) 3) 4
+
+-- what a dimension adds to the tensor index at the most: 4,096 times 65,536
+abbrev pub partLimit : ℕ
+partLimit = 2 ^ 28
 
 -- a dimension of span 1 whose offset lies in it: every element has the same coordinate there, the offset
 unfoldable pub fixed : Dimension → Bool

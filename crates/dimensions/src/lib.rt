@@ -1,13 +1,13 @@
 // A layout's dimensions as numbers, which can be lent, without the leading ones that are fixed.
 ghost use mathlib.Core.Path.{_≡_};
 ghost use mathlib.Core.Bool.{true};
-ghost use Prim.Native.Nat.{_+_, _*_, _/_, _^_, _≤_, _<_};
+ghost use Prim.Native.Nat.{_+_, _*_, _/_, _≤_, _<_};
 ghost use lib.ListN.{getD};
 ghost use Rattle.numbers.specs.Lists.{line};
 ghost use Rattle.tensor_ranges.specs.Layouts.{layoutOk};
 ghost use Rattle.tensor_ranges.specs.Laws.Facts.{InSize};
 ghost use Rattle.sheet.specs.Sizes.{rankPlaces, sizeLimit};
-ghost use Rattle.dimensions.specs.Dimensions.{dimensionNumbers, dimensionPut, layoutNumbers, dimensionIn, fixed, fixedPart, lead, leadStart, tailOf, tailNumbers};
+ghost use Rattle.dimensions.specs.Dimensions.{dimensionNumbers, dimensionPut, layoutNumbers, dimensionIn, fixed, fixedPart, lead, leadStart, tailOf, tailNumbers, partLimit};
 use sheet::Dimension;
 use sheet::Layout;
 use sheet::sizes::RANK;
@@ -86,7 +86,7 @@ fn is_fixed(x: Dimension) -> bool
 
 fn fixed_part(x: Dimension) -> u32
     requires { ⌜ InSize (x .block) × (x .offset < sizeLimit) ⌝ }
-    ensures { λ r. ⌜ (r ≡ fixedPart x) × (r ≤ 2 ^ 28) ⌝ }
+    ensures { λ r. ⌜ (r ≡ fixedPart x) × (r ≤ partLimit) ⌝ }
 {
     block_of(wide(x.offset), wide(x.block)) * wide(x.stride)
 }
@@ -99,7 +99,7 @@ struct Lead {
 
 fn lead_of(numbers: &[u16; LAYOUT_NUMBERS], l: Layout) -> Lead
     requires { ⌜ (layoutOk l ≡ true) × (now numbers ≡ layoutNumbers l) ⌝ }
-    ensures { λ r. ⌜ (r .count ≡ lead l) × (r .start ≡ leadStart l (lead l)) × (r .start ≤ lead l * 2 ^ 28) ⌝ }
+    ensures { λ r. ⌜ (r .count ≡ lead l) × (r .start ≡ leadStart l (lead l)) × (r .start ≤ lead l * partLimit) ⌝ }
 {
     let mut start: u32 = 0;
     let mut d: u8 = 0;
@@ -129,7 +129,7 @@ fn move_up(numbers: &mut [u16; LAYOUT_NUMBERS], from: usize, count: usize)
 // What is left of a layout's numbers without the fixed ones: it is found out once for all elements of an access.
 pub fn tail_of(numbers: &mut [u16; LAYOUT_NUMBERS], l: Layout) -> Tail
     requires { ⌜ (layoutOk l ≡ true) × (now numbers ≡ layoutNumbers l) ⌝ }
-    ensures { λ r. ⌜ (r ≡ tailOf l) × (r .start ≤ lead l * 2 ^ 28) ⌝ }
+    ensures { λ r. ⌜ (r ≡ tailOf l) × (r .start ≤ lead l * partLimit) ⌝ }
     ensures { λ _. ⌜ now (numbers .exit) ≡ tailNumbers l ⌝ }
 {
     let fixed = lead_of(numbers, l);

@@ -1,4 +1,5 @@
 pub mod Spans
 pub mod Needed
+pub mod Examples
 pub mod Laws
 pub mod Theorems

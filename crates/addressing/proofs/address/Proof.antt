@@ -1,8 +1,9 @@
-use Prim.Native.Nat.{_*_, _^_, _≤_}
+use Prim.Native.Nat.{_*_, _≤_}
 use native.Mathlib.Nat.{mul-le-mul}
 use native.Mathlib.Omega.{arith}
 use borrow.Author.Tests.{le-leb, lt-leb}
 use borrow.Author.Needs.{needs}
+use Rattle.dimensions.specs.Dimensions.{partLimit}
 use Rattle.numbers.specs.Laws.Choice.{taken, left}
 use Rattle.sheet.specs.Sizes.{rankPlaces}
 use Rattle.addressing.specs.Rules.{addressed}
@@ -15,19 +16,19 @@ cast-byte c = search needs
 mul-byte : tie.Need-mul-byte
 mul-byte c =
     let s = c .before in
-    let m : s .args .t * s .args .a .size ≤ rankPlaces * 2 ^ 28 * 4 = mul-le-mul (s .pre .1) (s .pre .0 .sized .most) in
+    let m : s .args .t * s .args .a .size ≤ rankPlaces * partLimit * 4 = mul-le-mul (s .pre .1) (s .pre .0 .sized .most) in
     omega arith
 
 add-byte : tie.Need-add-byte
 add-byte c =
     let s = c .before in
-    let m : s .args .t * s .args .a .size ≤ rankPlaces * 2 ^ 28 * 4 = mul-le-mul (s .pre .1) (s .pre .0 .sized .most) in
+    let m : s .args .t * s .args .a .size ≤ rankPlaces * partLimit * 4 = mul-le-mul (s .pre .1) (s .pre .0 .sized .most) in
     omega arith
 
 add-if1 : tie.Need-add-if1
 add-if1 c =
     let s = c .before in
-    let m : s .args .t * s .args .a .size ≤ rankPlaces * 2 ^ 28 * 4 = mul-le-mul (s .pre .1) (s .pre .0 .sized .most) in
+    let m : s .args .t * s .args .a .size ≤ rankPlaces * partLimit * 4 = mul-le-mul (s .pre .1) (s .pre .0 .sized .most) in
     omega arith
 
 answer-requires : tie.Need-answer-requires

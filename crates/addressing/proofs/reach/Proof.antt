@@ -1,8 +1,9 @@
+use Rattle.dimensions.specs.Dimensions.{partLimit}
 use Rattle.addressing.proofs.Laws.{reached-far, reached-is}
 use Rattle.addressing.specs.declared.Clamped.the-variants.{Refused, Discarded, Filled, At}
 use Rattle.sheet.specs.Sizes.{rankPlaces}
 use mathlib.Core.Path.{sym, _∙_}
-use Prim.Native.Nat.{_≤_, _*_, _^_}
+use Prim.Native.Nat.{_≤_, _*_}
 use borrow.Author.Needs.{needs}
 use Rattle.addressing.proofs.reach.Statement.{statement}
 use Rattle.addressing.proofs.reach.Tie as tie
@@ -41,7 +42,7 @@ enum-known-t : tie.Need-enum-known-t
 enum-known-t c = search needs
 
 address-requires : tie.Need-address-requires
-address-requires c κs = let m : c .before .t .given .0 .0 ≤ rankPlaces * 2 ^ 28 = rw (c .before .t .given .1) at (c .before .before .before .tensor-index .ensures .1) in
+address-requires c κs = let m : c .before .t .given .0 .0 ≤ rankPlaces * partLimit = rw (c .before .t .given .1) at (c .before .before .before .tensor-index .ensures .1) in
     (c .before .before .before .before .before .pre .0, m)
 
 returns-2 : tie.Need-returns-2

@@ -1,8 +1,8 @@
 -- The leading dimensions that are fixed, and the numbers of those after them.
-use Prim.Native.Nat.{ℕ, zero, suc, _+_, _-_, _*_, _<_, _≤_}
+use Prim.Native.Nat.{ℕ, zero, suc, _+_, _-_, _*_, _/_, _<_, _≤_}
 use mathlib.Core.Path.{_≡_, refl, ap, _∙_}
 use mathlib.Core.Bool.{Bool, true, not}
-use native.Mathlib.Nat.{zero-add, add-zero}
+use native.Mathlib.Nat.{zero-add, add-zero, div-le-self, mul-le-mul}
 use native.Mathlib.Omega.{arith}
 use lib.Dec.{ltb, eqb}
 use lib.ListN.{length, getD}
@@ -13,10 +13,14 @@ use Rattle.numbers.specs.Laws.First.{first-before}
 use Rattle.numbers.specs.Laws.Lines.{line-inside}
 use Rattle.tensor_ranges.specs.Layouts.{theDimension, layoutOk}
 use Rattle.tensor_ranges.specs.Laws.Facts.{layout-most}
-use Rattle.sheet.specs.Sizes.{rankPlaces}
+use Rattle.sheet.specs.Sizes.{rankPlaces, sizeLimit}
 use Rattle.sheet.specs.declared.Dimension.{Dimension}
 use Rattle.sheet.specs.declared.Layout.{Layout}
-use Rattle.dimensions.specs.Dimensions.{dimensionNumbers, dimensionIn, layoutNumbers, fixed, lead, tailNumbers}
+use Rattle.dimensions.specs.Dimensions.{dimensionNumbers, dimensionIn, layoutNumbers, fixed, lead, tailNumbers, partLimit}
+
+-- what a coordinate inside a dimension adds is below 4,096 times 65,536
+pub part-most : {x n stride : ℕ} (block : ℕ) → x < n → n ≤ sizeLimit → stride < 65536 → x / block * stride ≤ partLimit
+part-most {x} block h m t = mul-le-mul {n₂ = sizeLimit} {m₂ = 65536} (omega (arith, div-le-self x block)) (omega arith)
 
 -- the first number that passes a test is among those tried, or right behind them
 first-most : (test : ℕ → Bool) (k m : ℕ) → firstFrom test k m ≤ k + m

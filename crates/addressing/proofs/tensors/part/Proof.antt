@@ -1,4 +1,5 @@
-use Rattle.addressing.proofs.Laws.{clamped-lt, part-told, scaled-le}
+use Rattle.addressing.proofs.Laws.{clamped-lt, part-told}
+use Rattle.dimensions.specs.Laws.Tails.{part-most}
 use mathlib.Core.Path.{sym, _∙_}
 use native.Mathlib.Omega.{arith}
 use borrow.Author.Needs.{needs}
@@ -42,7 +43,7 @@ mul-t13 : tie.Need-mul-t13
 mul-t13 c = rw (c .before .block-of .ensures)
     (omega (
       arith,
-      scaled-le (c .before .before .wide3 .result)
+      part-most (c .before .before .wide3 .result)
           (clamped-lt _ _ _ (c .before .before .before .before .before .before .before .wide2 .result) (omega arith) (sym (c .before .before .before .before .before .before .clamp .ensures) ∙ c .before .before .before .before .x .given .1)) (omega arith) (c .wide4 .ensures .1),
     ))
 
@@ -58,7 +59,7 @@ returns-3 c = let k = c .before .before in (part-told _ _ _ _ (k .before .before
 returns-4 : tie.Need-returns-4
 returns-4 c = rw (c .before .block-of .ensures) (
   rw (c .before .before .wide3 .ensures .0, c .wide4 .ensures .0) (let k = c .before .before .before .before .before .before in part-told _ _ _ _ (k .before .before .before .wide .ensures .0) (k .before .before .shifted .ensures) (k .before .wide2 .ensures .0) (k .clamp .ensures) (c .before .before .before .before .x .given .1)),
-  scaled-le (c .before .before .wide3 .result)
+  part-most (c .before .before .wide3 .result)
       (clamped-lt _ _ _ (c .before .before .before .before .before .before .before .wide2 .result) (omega arith) (sym (c .before .before .before .before .before .before .clamp .ensures) ∙ c .before .before .before .before .x .given .1)) (omega arith) (c .wide4 .ensures .1),
 )
 

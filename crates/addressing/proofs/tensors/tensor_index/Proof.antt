@@ -2,10 +2,10 @@ use borrow.Author.Needs.{needs}
 use native.Mathlib.Omega.{arith}
 use Rattle.addressing.proofs.Loops.{Tailing, tailing-start, tailing-fits, tailing-more, tailing-stop, tailing-end, same-dimension, same-rest, same-quotient, same-part}
 use mathlib.Core.Path.{refl, sym, _∙_}
-use Prim.Native.Nat.{_-_, _+_, _<_, _≤_, _^_}
+use Prim.Native.Nat.{_-_, _+_, _<_, _≤_}
 use native.Mathlib.Nat.{mod-lt}
 use Rattle.tensor_ranges.specs.Laws.Facts.{layout-most, layout-span, layout-block, layout-size}
-use Rattle.dimensions.specs.Dimensions.{lead}
+use Rattle.dimensions.specs.Dimensions.{lead, partLimit}
 use Rattle.dimensions.specs.Laws.Tails.{lead-most}
 use Rattle.addressing.specs.declared.Clamped.the-variants.{Refused, Discarded, Filled}
 use Rattle.addressing.proofs.tensors.tensor_index.Statement.{statement}
@@ -78,7 +78,7 @@ add-sum : tie.Need-add-sum Inv-loop μ-loop
 add-sum c = let s = c .before .before .before .before .before .before .before .before .before .before in
     let i = c .before .before .before .before .before .before .before .before .loop in
     let y = c .before .y .given in
-    let m : y .0 .0 ≤ 2 ^ 28 = rw (y .1) at (c .before .before .before .part .ensures .1) in
+    let m : y .0 .0 ≤ partLimit = rw (y .1) at (c .before .before .before .part .ensures .1) in
     omega (arith, tailing-fits (s .args .load) (s .args .l) (s .pre .0) (s .args .index) (i .d) (i .left) (i .sum) (i .inv) (omega arith) (y .0 .0) m)
 
 loop-less : tie.Need-loop-less Inv-loop μ-loop
@@ -88,7 +88,7 @@ loop-again : tie.Need-loop-again Inv-loop μ-loop
 loop-again c = let s = c .before .before .before .before .before .before .before .before .before .before in
     let i = c .before .before .before .before .before .before .before .before .loop in
     let y = c .before .y .given in
-    let m : y .0 .0 ≤ 2 ^ 28 = rw (y .1) at (c .before .before .before .part .ensures .1) in
+    let m : y .0 .0 ≤ partLimit = rw (y .1) at (c .before .before .before .part .ensures .1) in
     let e = same-part (s .args .l) (s .pre .0) (s .pre .1) (omega arith) (i .inv .few) (c .before .before .before .before .before .before .dimension-at .ensures) (i .left) (c .before .before .before .before .before .wide .ensures .0) (c .before .before .before .before .split-by .ensures) (s .args .load) (c .before .before .before .part .ensures .0) in
     let q = same-quotient (s .args .l) (s .pre .0) (s .pre .1) (omega arith) (i .inv .few) (c .before .before .before .before .before .before .dimension-at .ensures) (i .left) (c .before .before .before .before .before .wide .ensures .0) (c .before .before .before .before .split-by .ensures) in
     rw q (tailing-more (s .args .load) (s .args .l) (s .pre .0) (s .args .index) (i .d) (i .left) (i .sum) (i .inv) (omega arith) (y .0 .0) m (sym e ∙ y .1))
