@@ -221,6 +221,6 @@ mod tests {
 
     #[test]
     fn the_reference_gives_what_the_scope_says() {
-        assert_eq!(check_strips(&Reference::default()), Ok(15));
+        assert_eq!(check_strips(&Reference::default()), Ok(16));
     }
 }
