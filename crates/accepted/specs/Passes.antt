@@ -8,6 +8,11 @@ use Rattle.registers.specs.Registers.{emptyRegisters}
 use Rattle.registers.specs.declared.MatrixType.{MatrixType}
 use Rattle.checking.specs.Steps.{checkedStep}
 
+-- the types that the first k steps leave, from empty registers
+unfoldable pub typesAt : Sheet → ℕ → ℕ → List MatrixType
+typesAt sh len zero = emptyRegisters .types
+typesAt sh len (suc k) = checkedStep (sh .edition) (sh .tensors) (typesAt sh len k) len (theStep (sh .step) k) .types
+
 -- n steps more, the next of which is number k
 unfoldable pub passFrom : {A : Type 0} → (List MatrixType → ℕ → Step → List A) → ℕ → Sheet → ℕ → ℕ → List MatrixType → List A
 passFrom f zero sh len k ts = []

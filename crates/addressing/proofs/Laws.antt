@@ -1,31 +1,27 @@
 -- Laws of the rules' definitions.
-use Prim.Native.Nat.{ℕ, zero, suc, _+_, _-_, _*_, _%_, _^_, _<_, _≤_}
+use Prim.Native.Nat.{ℕ, zero, suc, _+_, _*_, _%_, _^_, _<_, _≤_}
 use mathlib.Core.Path.{_≡_, refl, sym, ap, _∙_}
 use mathlib.Core.Bool.{Bool, true, false, true≢false}
 use native.Mathlib.Nat.{mul-le-mul, not-suc-le-zero, div-add-mod', zero-mul, suc-mul}
 use native.Mathlib.Omega.{arith}
-use lib.Dec.{ltb, leb, eqb}
-use lib.IntN.{ℤ, pos, negsuc, _+ℤ_}
+use lib.Dec.{ltb, leb}
+use lib.IntN.{ℤ, pos, _+ℤ_}
 use lib.ListN.{getD}
 use mathlib.Core.List.{List}
-use borrow.Author.Tests.{le-leb, lt-leb, ltb-false, leb-true, leb-false, eqb-false}
+use borrow.Author.Tests.{le-leb, lt-leb, ltb-false}
 use Rattle.refusals.specs.Refusals.{indexTooLarge}
 use Rattle.numbers.specs.Choice.{pick}
 use Rattle.numbers.specs.Laws.Choice.{pick-case}
 use Rattle.tensor_ranges.specs.Laws.Facts.{InSize, layout-span, view-most, view-size}
 use Rattle.tensor_ranges.specs.Views.{theViewDimension}
 use Rattle.addressing.specs.Valid.{ValidAccess, Planned}
-use Rattle.numbers.specs.Remainders.{remainder}
-use Rattle.numbers.specs.Laws.Remainders.{remainder-lt}
 use Rattle.addressing.specs.declared.Plan.{Plan}
 use Rattle.sheet.specs.declared.ClampMode.{ClampMode}
-use Rattle.sheet.specs.declared.ClampMode.the-variants.{Undefined, Constant, ClampToEdge, Repeat, MirrorRepeat}
 use Rattle.sheet.specs.declared.Clip.{Clip}
 use Rattle.sheet.specs.declared.Dimension.{Dimension}
 use Rattle.sheet.specs.declared.View.{View}
 use Rattle.addressing.specs.declared.Access.{Access}
-use Rattle.addressing.specs.declared.Clamped.{Clamped}
-use Rattle.addressing.specs.declared.Clamped.the-variants.{Refused, Discarded, Filled, At}
+use Rattle.clamps.specs.declared.Clamped.{Clamped}
 use Rattle.sheet.specs.Sizes.{rankPlaces, matrixPlaces}
 use Rattle.view_indices.specs.Plans.{sizesOf, stridesOf}
 use Rattle.view_indices.specs.Laws.Indices.{five-at}
@@ -34,7 +30,9 @@ use Rattle.dimensions.specs.Dimensions.{tailOf, tailNumbers}
 use Rattle.addressing.specs.Plans.{planned}
 use Rattle.view_indices.specs.Indices.{viewSizes, viewStrides, spanOf}
 use Rattle.spans.specs.Spans.{spanCoordinates}
-use Rattle.addressing.specs.Rules.{outsideClip, outsideView, elementsOf, clipWidth, lowBits, twos, turnedBack, mirrored, onLoad, onStore, outside, clamped, scaled, part, tensorIndex, refused, settled, reached}
+use Rattle.clamps.specs.Clamps.{twos, coordinateOf, clamped, sided}
+use Rattle.clamps.specs.declared.Sided.{Sided}
+use Rattle.addressing.specs.Rules.{outsideClip, outsideView, elementsOf, clipWidth, lowBits, scaled, part, tensorIndex, refused, settled, reached}
 
 -- Rule 1: inside the clip the offset can be subtracted
 pub clip-low : (c : Clip) (x : ℕ) → outsideClip c x ≡ false → c .offset ≤ x
@@ -69,60 +67,16 @@ pub columns-few : (rows n k : ℕ) → k < rows * n → n ≤ rows * n
 columns-few zero n k h = absurd (not-suc-le-zero (rw zero-mul at h))
 columns-few (suc rows) n k h = rw (suc-mul rows n) (omega arith)
 
--- Rule 4: a coordinate that is there is below n
-abbrev Under : ℕ → Clamped → Type 0
-Under n Refused = Unit {0}
-Under n Discarded = Unit {0}
-Under n Filled = Unit {0}
-Under n (At x) = x < n
-
-mirrored-lt : (c : ℤ) {n : ℕ} → 0 < n → mirrored c n < n
-unfolding mirrored turnedBack
-mirrored-lt c {n} h =
-    let m = 2 * n - 2 in
-    pick-case (λ (x : ℕ). x < n) (eqb n 1) _ _ (λ e. h)
-    (λ e. let g : n ≡ 1 → ⊥ = eqb-false n 1 e in
-    let r : remainder c (2 * n - 2) < 2 * n - 2 = remainder-lt c (omega arith) in
-    pick-case (λ (x : ℕ). x < n) (leb n (remainder c m)) _ _ (λ t. let u : n ≤ remainder c m = leb-true _ _ t in omega arith) (λ t. leb-false _ _ t))
-
-onLoad-under : (mode : ClampMode) (c : ℤ) {n : ℕ} → 0 < n → Under n (onLoad mode c n)
-onLoad-under Undefined c h = tt
-onLoad-under Constant c h = tt
-onLoad-under ClampToEdge (pos a) h = omega arith
-onLoad-under ClampToEdge (negsuc a) h = h
-onLoad-under Repeat c h = remainder-lt c h
-onLoad-under MirrorRepeat c h = mirrored-lt c h
-
-onStore-under : (mode : ClampMode) (n : ℕ) → Under n (onStore mode)
-onStore-under Undefined n = tt
-onStore-under Constant n = tt
-onStore-under ClampToEdge n = tt
-onStore-under Repeat n = tt
-onStore-under MirrorRepeat n = tt
-
-outside-under : (load : Bool) (mode : ClampMode) (c : ℤ) {n : ℕ} → 0 < n → Under n (outside load mode c n)
-unfolding outside
-outside-under load mode c {n} h = pick-case (Under n) load _ _ (λ t. onLoad-under mode c h) (λ t. onStore-under mode n)
-
-clamped-under : (load : Bool) (mode : ClampMode) (c : ℤ) {n : ℕ} → 0 < n → Under n (clamped load mode c n)
-unfolding clamped
-clamped-under load mode (negsuc a) h = outside-under load mode (negsuc a) h
-clamped-under load mode (pos a) {n} h =
-    pick-case (Under n) (leb n a) _ _ (λ t. outside-under load mode (pos a) h) (λ t. leb-false _ _ t)
-
-pub clamped-lt : (load : Bool) (mode : ClampMode) (c : ℤ) (n : ℕ) {x : ℕ} → 0 < n → clamped load mode c n ≡ At x → x < n
-clamped-lt load mode c n h e = rw e at (clamped-under load mode c h)
-
 -- Rules 4 and 5 for one dimension
 pub part-is : (load : Bool) (mode : ClampMode) (d : Dimension) (s : ℕ) {x : Clamped}
-    → clamped load mode (pos s +ℤ twos (d .offset)) (d .size) ≡ x → scaled d x ≡ part load mode d s
+    → clamped load mode (coordinateOf d s) (d .size) ≡ x → scaled d x ≡ part load mode d s
 unfolding part
 part-is load mode d s e = rw e
 
 -- the same by what its calls give: the offset and the dimension as wider numbers, the sum, and the sum clamped
-pub part-told : (load : Bool) (mode : ClampMode) (d : Dimension) (s : ℕ) {offset n : ℕ} {c : ℤ} {r x : Clamped}
-    → offset ≡ d .offset → c ≡ pos s +ℤ twos offset → n ≡ d .size → r ≡ clamped load mode c n → r ≡ x → scaled d x ≡ part load mode d s
-part-told load mode d s {x = x} e f g h i = part-is load mode d s {x = x} (rw (← e, ← f, ← g) (sym h ∙ i))
+pub part-told : (load : Bool) (mode : ClampMode) (d : Dimension) (s : ℕ) {offset n : ℕ} {c : ℤ} {r : Sided} {x : Clamped}
+    → offset ≡ d .offset → c ≡ pos s +ℤ twos offset → n ≡ d .size → r ≡ sided load mode c n → r .clamped ≡ x → scaled d x ≡ part load mode d s
+part-told load mode d s {x = x} e f g h i = part-is load mode d s {x = x} (rw (← e, ← f, ← g) (sym (ap (λ (y : Sided). y .clamped) h) ∙ i))
 
 module _ (a : Access) where
   pub reached-far : (index : ℕ) → 2 ^ 32 ≤ index → refused indexTooLarge ≡ reached a index

@@ -1,28 +1,25 @@
 -- Rules 2 and 3 to 5 as loops from the last dimension to the first, which keep no coordinates.
 use Prim.Native.Nat.{ℕ, zero, suc, _+_, _-_, _*_, _/_, _%_, _<_, _≤_}
 use mathlib.Core.Path.{_≡_, refl, sym, ap, _∙_}
-use mathlib.Core.Bool.{Bool, true, false}
+use mathlib.Core.Bool.{Bool, true}
 use mathlib.Core.List.{List}
 use native.Mathlib.Nat.{add-zero, not-suc-le-zero}
 use native.Mathlib.Omega.{arith}
-use lib.Dec.{leb}
-use lib.IntN.{ℤ, pos, negsuc, _+ℤ_}
 use lib.ListN.{length, getD, set, replicate, length-set}
 use lib.Seq.{getD-set-same}
-use Rattle.numbers.specs.Choice.{pick}
-use Rattle.numbers.specs.Laws.Choice.{pick-case}
 use Rattle.tensor_ranges.specs.Laws.Facts.{layout-most, layout-span}
 use Rattle.tensor_ranges.specs.Layouts.{theDimension, layoutOk}
 use Rattle.sheet.specs.declared.ClampMode.{ClampMode}
-use Rattle.sheet.specs.declared.ClampMode.the-variants.{Undefined, Constant, ClampToEdge, Repeat, MirrorRepeat}
 use Rattle.sheet.specs.declared.Dimension.{Dimension}
 use Rattle.sheet.specs.declared.Layout.{Layout}
 use Rattle.sheet.specs.Sizes.{rankPlaces}
-use Rattle.addressing.specs.declared.Clamped.{Clamped}
-use Rattle.addressing.specs.declared.Clamped.the-variants.{Refused, Discarded, Filled, At}
+use Rattle.clamps.specs.declared.Clamped.{Clamped}
+use Rattle.clamps.specs.declared.Clamped.the-variants.{Refused, Discarded, Filled, At}
 use Rattle.view_indices.specs.Indices.{spanOf, coordinates}
 use Rattle.spans.specs.Spans.{spanCoordinates, splitBy}
-use Rattle.addressing.specs.Rules.{twos, onLoad, onStore, outside, clamped, scaled, part, plus, tensorIndex}
+use Rattle.addressing.specs.Rules.{scaled, part, plus, tensorIndex}
+use Rattle.clamps.specs.Clamps.{coordinateOf, clamped}
+use Rattle.clamps.specs.Laws.Clamps.{stopOf, AtOr, clamped-one}
 use Rattle.spans.specs.Laws.Splits.{split-rest, split-quotient}
 use Rattle.spans.specs.declared.Split.{Split}
 use Rattle.dimensions.specs.Dimensions.{dimensionNumbers, dimensionIn, lead, leadStart, tailOf, tailNumbers, partLimit}
@@ -32,49 +29,7 @@ use Rattle.view_indices.specs.Laws.Indices.{coordinates-more}
 use Rattle.spans.specs.Laws.Coordinates.{coordinates-keep}
 use Rattle.addressing.proofs.Tails.{lead-sum}
 
--- Rule 4: what all dimensions that are outside have in common
-abbrev loadStop : ClampMode → Clamped
-loadStop Undefined = Refused
-loadStop Constant = Filled
-loadStop ClampToEdge = Refused
-loadStop Repeat = Refused
-loadStop MirrorRepeat = Refused
-
-abbrev stopOf : Bool → ClampMode → Clamped
-stopOf true mode = loadStop mode
-stopOf false mode = onStore mode
-
--- an index, or z
-abbrev AtOr : Clamped → Clamped → Type 0
-AtOr z (At x) = Unit {0}
-AtOr z Refused = z ≡ Refused
-AtOr z Discarded = z ≡ Discarded
-AtOr z Filled = z ≡ Filled
-
-onLoad-one : (mode : ClampMode) (c : ℤ) (n : ℕ) → AtOr (loadStop mode) (onLoad mode c n)
-onLoad-one Undefined c n = refl
-onLoad-one Constant c n = refl
-onLoad-one ClampToEdge c n = tt
-onLoad-one Repeat c n = tt
-onLoad-one MirrorRepeat c n = tt
-
-onStore-one : (mode : ClampMode) → AtOr (onStore mode) (onStore mode)
-onStore-one Undefined = refl
-onStore-one Constant = refl
-onStore-one ClampToEdge = refl
-onStore-one Repeat = refl
-onStore-one MirrorRepeat = refl
-
-outside-one : (load : Bool) (mode : ClampMode) (c : ℤ) (n : ℕ) → AtOr (stopOf load mode) (outside load mode c n)
-unfolding outside pick
-outside-one true mode c n = onLoad-one mode c n
-outside-one false mode c n = onStore-one mode
-
-clamped-one : (load : Bool) (mode : ClampMode) (c : ℤ) (n : ℕ) → AtOr (stopOf load mode) (clamped load mode c n)
-unfolding clamped
-clamped-one load mode (negsuc a) n = outside-one load mode (negsuc a) n
-clamped-one load mode (pos a) n = pick-case (AtOr (stopOf load mode)) (leb n a) _ _ (λ t. outside-one load mode (pos a) n) (λ t. tt)
-
+-- Rules 4 and 5: an index, or what all dimensions that are outside have in common
 scaled-one : (z : Clamped) (d : Dimension) (x : Clamped) → AtOr z x → AtOr z (scaled d x)
 scaled-one z d Refused h = h
 scaled-one z d Discarded h = h
@@ -84,7 +39,7 @@ scaled-one z d (At x) h = h
 part-one : (load : Bool) (mode : ClampMode) (d : Dimension) (s : ℕ) → AtOr (stopOf load mode) (part load mode d s)
 unfolding part
 part-one load mode d s =
-    scaled-one (stopOf load mode) d (clamped load mode (pos s +ℤ twos (d .offset)) (d .size)) (clamped-one load mode (pos s +ℤ twos (d .offset)) (d .size))
+    scaled-one (stopOf load mode) d (clamped load mode (coordinateOf d s) (d .size)) (clamped-one load mode (coordinateOf d s) (d .size))
 
 plus-one : (z x y : Clamped) → AtOr z x → AtOr z y → AtOr z (plus x y)
 plus-one z Refused y g h = g

@@ -18,8 +18,9 @@ use Rattle.spans.specs.Spans.{spanCoordinates}
 use Rattle.spans.specs.Laws.Coordinates.{coordinate-one}
 use Rattle.dimensions.specs.Dimensions.{fixed, fixedPart, lead, leadStart}
 use Rattle.dimensions.specs.Laws.Tails.{fixed-span, fixed-inside, lead-most, lead-fixed}
-use Rattle.addressing.specs.declared.Clamped.the-variants.{At}
-use Rattle.addressing.specs.Rules.{twos, clamped, part, tensorIndex}
+use Rattle.clamps.specs.declared.Clamped.the-variants.{At}
+use Rattle.addressing.specs.Rules.{part, tensorIndex}
+use Rattle.clamps.specs.Clamps.{twos, clamped}
 
 -- the coordinate of such a dimension is its offset, which stays
 fixed-at : (d : Dimension) → fixed d ≡ true → InSize (d .size) → (load : Bool) (mode : ClampMode) → part load mode d 0 ≡ At (fixedPart d)

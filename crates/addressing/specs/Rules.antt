@@ -1,19 +1,16 @@
 -- "Where an element goes": rules 1 to 5 for one element, with refusals 12, 13 and 14. Rule 2 is in view_indices/specs/Indices.antt, rule 3 in
--- spans/specs/Spans.antt.
+-- spans/specs/Spans.antt, rule 4 in clamps/specs/Clamps.antt.
 use Prim.Native.Nat.{ℕ, zero, suc, _+_, _-_, _*_, _/_, _%_, _^_, min}
 use mathlib.Core.Bool.{Bool, true}
 use mathlib.Core.List.{List}
-use lib.Dec.{ltb, leb, eqb}
+use lib.Dec.{ltb, leb}
 use lib.ListN.{getD}
-use lib.IntN.{ℤ, pos, negsuc, _+ℤ_}
 use Rattle.numbers.specs.Choice.{pick}
-use Rattle.numbers.specs.Remainders.{remainder}
-use Rattle.kinds.specs.Widths.{s16}
 use Rattle.kinds.specs.Values.{value}
 use Rattle.refusals.specs.Refusals.{indexTooLarge, outsideUndefined, outsideMemory}
 use Rattle.tensor_ranges.specs.Layouts.{theDimension}
 use Rattle.sheet.specs.declared.ClampMode.{ClampMode}
-use Rattle.sheet.specs.declared.ClampMode.the-variants.{Undefined, Constant, ClampToEdge, Repeat, MirrorRepeat}
+use Rattle.sheet.specs.declared.ClampMode.the-variants.{Undefined, Constant}
 use Rattle.sheet.specs.declared.Clip.{Clip}
 use Rattle.sheet.specs.declared.Dimension.{Dimension}
 use Rattle.sheet.specs.declared.Layout.{Layout}
@@ -22,11 +19,12 @@ use Rattle.outcomes.specs.declared.Outcome.{Outcome}
 use Rattle.outcomes.specs.declared.Outcome.the-variants as outcome
 use Rattle.view_indices.specs.Indices.{viewSizes, viewStrides, viewIndex}
 use Rattle.spans.specs.Spans.{spanCoordinates}
+use Rattle.clamps.specs.Clamps.{coordinateOf, clamped}
 use Rattle.addressing.specs.declared.Access.{Access}
 use Rattle.addressing.specs.declared.Indexed.{Indexed}
 use Rattle.addressing.specs.declared.Indexed.the-variants.{Skipped, Index}
-use Rattle.addressing.specs.declared.Clamped.{Clamped}
-use Rattle.addressing.specs.declared.Clamped.the-variants.{Refused, Discarded, Filled, At}
+use Rattle.clamps.specs.declared.Clamped.{Clamped}
+use Rattle.clamps.specs.declared.Clamped.the-variants.{Refused, Discarded, Filled, At}
 use Rattle.addressing.specs.declared.Located.{Located}
 
 -- an M by N matrix has M*N elements
@@ -51,47 +49,7 @@ clipIndex v width row col = (row - v .rows .offset) * width + (col - v .columns 
 
 -- Rule 2, an index through a view, is `viewIndex` of view_indices/specs/Indices.antt.
 -- Rule 3, the span coordinates of an index, is `spanCoordinates` of spans/specs/Spans.antt.
--- sixteen bits read as a signed number
-abbrev pub twos : ℕ → ℤ
-twos x = value s16 x
-
--- Rule 4, ClampToEdge of a coordinate outside: 0 or n-1
-abbrev pub edge : ℤ → ℕ → ℕ
-edge (pos a) n = n - 1
-edge (negsuc a) n = 0
-
--- Rule 4: c, and m-c if that is at or above n
-unfoldable pub turnedBack : ℕ → ℕ → ℕ → ℕ
-turnedBack n m c = pick (leb n c) (m - c) c
-
--- Rule 4, MirrorRepeat: m = 2n-2, c mod m, and m-c if that is at or above n; for n = 1 it gives 0
-unfoldable pub mirrored : ℤ → ℕ → ℕ
-mirrored c n = pick (eqb n 1) 0 (turnedBack n (2 * n - 2) (remainder c (2 * n - 2)))
-
--- Rule 4 outside on a load
-abbrev pub onLoad : ClampMode → ℤ → ℕ → Clamped
-onLoad Undefined c n = Refused
-onLoad Constant c n = Filled
-onLoad ClampToEdge c n = At (edge c n)
-onLoad Repeat c n = At (remainder c n)
-onLoad MirrorRepeat c n = At (mirrored c n)
-
--- Rule 4 outside on a store: every other mode discards
-abbrev pub onStore : ClampMode → Clamped
-onStore Undefined = Refused
-onStore Constant = Discarded
-onStore ClampToEdge = Discarded
-onStore Repeat = Discarded
-onStore MirrorRepeat = Discarded
-
-unfoldable pub outside : Bool → ClampMode → ℤ → ℕ → Clamped
-outside load mode c n = pick load (onLoad mode c n) (onStore mode)
-
--- Rule 4: a coordinate below 0 or at or above n is outside, any other stays
-unfoldable pub clamped : Bool → ClampMode → ℤ → ℕ → Clamped
-clamped load mode (negsuc a) n = outside load mode (negsuc a) n
-clamped load mode (pos a) n = pick (leb n a) (outside load mode (pos a) n) (At a)
-
+-- Rule 4, what becomes of a coordinate, is `clamped` of clamps/specs/Clamps.antt.
 -- Rule 5: c divided by block size, floor, times stride
 abbrev pub scaled : Dimension → Clamped → Clamped
 scaled d Refused = Refused
@@ -99,9 +57,9 @@ scaled d Discarded = Discarded
 scaled d Filled = Filled
 scaled d (At c) = At (c / d .block * d .stride)
 
--- Rules 4 and 5 for a dimension at its span coordinate: c = span coordinate + offset
+-- Rules 4 and 5 for a dimension at its span coordinate
 unfoldable pub part : Bool → ClampMode → Dimension → ℕ → Clamped
-part load mode d s = scaled d (clamped load mode (pos s +ℤ twos (d .offset)) (d .size))
+part load mode d s = scaled d (clamped load mode (coordinateOf d s) (d .size))
 
 -- Rule 5: a sum, where the first dimension with no coordinate decides
 abbrev pub plus : Clamped → Clamped → Clamped

@@ -7,8 +7,8 @@ use Rattle.tensor_ranges.specs.Layouts.{layoutOk}
 use Rattle.tensor_ranges.specs.Views.{viewOk}
 use Rattle.addressing.specs.declared.Access.{Access}
 use Rattle.addressing.specs.declared.Plan.{Plan}
-use Rattle.addressing.specs.declared.Clamped.{Clamped}
-use Rattle.addressing.specs.declared.Clamped.the-variants.{Refused, Discarded, Filled, At}
+use Rattle.clamps.specs.declared.Clamped.{Clamped}
+use Rattle.clamps.specs.declared.Clamped.the-variants.{Refused, Discarded, Filled, At}
 use Rattle.sheet.specs.Sizes.{matrixPlaces, memoryLimit, sizeLimit}
 use Rattle.addressing.specs.Rules.{elementsOf}
 use Rattle.dimensions.specs.Dimensions.{lead, partLimit}

@@ -7,10 +7,10 @@ ghost use Rattle.addressing.specs.Plans.{planned};
 ghost use Rattle.addressing.specs.Rules.{elementsOf, lowBits, addressed, reached, indexed, located, refused, answered};
 ghost use Rattle.addressing.specs.Valid.{ValidAccess, Planned};
 
-pub mod clamps;
 pub mod clips;
 pub mod tensors;
 
+use clamps::Clamped;
 use dimensions::LAYOUT_NUMBERS;
 use dimensions::Tail;
 use outcomes::Outcome;
@@ -55,20 +55,6 @@ pub struct Plan {
 pub enum Indexed {
     Skipped,
     Index(u64),
-}
-
-// An integer: At(a) is a, Below(a) is -1-a.
-pub enum Coordinate {
-    Below(u32),
-    At(u32),
-}
-
-// What rule 4 makes of a coordinate, or of all of them up to a dimension.
-pub enum Clamped {
-    Refused,
-    Discarded,
-    Filled,
-    At(u32),
 }
 
 // An element's outcome, or a refusal's number with Skipped beside it.

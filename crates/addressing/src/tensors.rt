@@ -9,8 +9,7 @@ ghost use Rattle.spans.specs.Spans.{spanCoordinates};
 ghost use Rattle.dimensions.specs.Dimensions.{lead, tailOf, tailNumbers, partLimit};
 ghost use Rattle.addressing.specs.Rules.{part, tensorIndex};
 ghost use Rattle.addressing.specs.Valid.{AtMost};
-use super::Clamped;
-use super::clamps;
+use clamps::Clamped;
 use dimensions::LAYOUT_NUMBERS;
 use dimensions::Tail;
 use dimensions::block_of;
@@ -27,7 +26,9 @@ fn part(load: bool, mode: ClampMode, d: Dimension, s: u32) -> Clamped
     ensures { λ r. ⌜ (r ≡ part load mode d s) × AtMost partLimit r ⌝ }
 {
     let c = clamps::shifted(s, wide(d.offset));
-    match clamps::clamp(load, mode, c, wide(d.size)) {
+    let r = clamps::clamp(load, mode, c, wide(d.size));
+    let clamped = r.clamped;
+    match clamped {
         Clamped::Refused => Clamped::Refused,
         Clamped::Discarded => Clamped::Discarded,
         Clamped::Filled => Clamped::Filled,

@@ -24,7 +24,7 @@ use traces::Event;
 use traces::FILLED;
 use traces::SKIPPED;
 
-fn sort_of(o: Outcome) -> u8
+pub fn sort_of(o: Outcome) -> u8
     ensures { λ r. ⌜ r ≡ sortOf o ⌝ }
 {
     match o {

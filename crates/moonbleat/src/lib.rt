@@ -1,4 +1,4 @@
-// The C interface of include/moonbleat.h: the nine public routines, with rows of numbers in place of structs.
+// The C interface of include/moonbleat.h: the ten public routines, with rows of numbers in place of structs.
 ghost use mathlib.Core.Path.{_≡_};
 ghost use mathlib.Core.List.{[], _∷_};
 ghost use lib.ListN.{length};
@@ -6,14 +6,16 @@ ghost use Rattle.sheet_reader.specs.Reading.{readSheet};
 ghost use Rattle.checking.specs.Checking.{checkedSheet};
 ghost use Rattle.carrying.specs.Carrying.{carried, carriedMemory};
 ghost use Rattle.dividing.specs.Dividing.{counted};
+ghost use Rattle.explaining.specs.Explaining.{explainedSheet};
 ghost use Rattle.translating.specs.Translating.{translated, translatedRoom};
 ghost use Rattle.running.specs.Running.{runTape, ranMemory};
 ghost use Rattle.tracing.specs.Tracing.{traced, tracedRoom};
 ghost use Rattle.replaying.specs.Replaying.{replayed};
-ghost use Rattle.rows.specs.Rows.{answerRow, countsRow, typesRow, verdictRow, capped};
+ghost use Rattle.rows.specs.Rows.{answerRow, countsRow, typesRow, verdictRow, outcomeRow, capped};
 ghost use Rattle.moonbleat.specs.Rewriting.{rewritten, rewrittenRoom};
 use rows::ANSWER;
 use rows::COUNTS;
+use rows::OUTCOME;
 use rows::TYPES;
 use rows::VERDICT;
 use sheet::sizes::ELEMENTS;
@@ -83,6 +85,26 @@ pub extern "C" fn moonbleat_divisions(
 {
     let found = dividing::count_divisions(sheet, memory_len);
     rows::put_answer(answer, found.refusal, found.divisions)
+}
+
+// Explains one element of a sheet's load or store for a memory of a length.
+#[no_mangle]
+pub extern "C" fn moonbleat_outcome(
+    sheet: &[u8],
+    memory_len: usize,
+    step: u32,
+    element: u32,
+    outcome: &mut [u32; OUTCOME],
+    answer: &mut [u32; ANSWER],
+) -> u32
+    ensures { λ r. ⌜ r ≡ explainedSheet (now (sheet .entry)) «memory_len» «step» «element» .refusal .number ⌝ }
+    ensures { λ _. ⌜ now (outcome .exit) ≡ outcomeRow (explainedSheet (now (sheet .entry)) «memory_len» «step» «element» .explained) ⌝ }
+    ensures { λ _. ⌜ now (answer .exit) ≡ answerRow (explainedSheet (now (sheet .entry)) «memory_len» «step» «element» .refusal) 0 ⌝ }
+{
+    let found = explaining::explain(sheet, memory_len, step as usize, element as usize);
+    let told = found.explained;
+    rows::put_outcome(outcome, told);
+    rows::put_answer(answer, found.refusal, 0)
 }
 
 // Carries out a sheet on the lent memory.

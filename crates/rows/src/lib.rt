@@ -1,7 +1,10 @@
 // Answers as rows of numbers, as C takes them.
 ghost use mathlib.Core.Path.{_≡_};
-ghost use Rattle.rows.specs.Rows.{answerRow, typesRow, verdictRow, capped};
-ghost use Rattle.rows.specs.Small.{Small, SmallVerdict};
+ghost use Rattle.rows.specs.Rows.{answerRow, typesRow, verdictRow, valueOf, outcomeRow, capped};
+ghost use Rattle.rows.specs.Small.{Small, SmallVerdict, SmallOutcome};
+use outcomes::Explained;
+use outcomes::Outcome;
+use outcomes::Outside;
 use refusals::Refusal;
 use registers::Registers;
 use replaying::Verdict;
@@ -18,6 +21,16 @@ pub const TYPES: usize = 16;
 
 // Numbers of a verdict: whether the trace agrees, and else where it differs first.
 pub const VERDICT: usize = 2;
+
+// Sides in the row of an outcome.
+const INSIDE: u32 = 0;
+
+const BELOW: u32 = 1;
+
+const ABOVE: u32 = 2;
+
+// Numbers of an outcome: sort, byte or bits, dimension, side.
+pub const OUTCOME: usize = 4;
 
 // The largest number of a row.
 const ROW_MOST: usize = 4294967295;
@@ -79,6 +92,39 @@ pub fn put_verdict(row: &mut [u32; VERDICT], verdict: Verdict)
         }
         Verdict::Differs(index) => {
             *row = [0, index as u32];
+        }
+    }
+}
+
+fn value_of(o: Outcome) -> u32
+    requires { ⌜ SmallOutcome o ⌝ }
+    ensures { λ r. ⌜ r ≡ valueOf o ⌝ }
+{
+    match o {
+        Outcome::Skipped => 0,
+        Outcome::Filled(bits) => bits,
+        Outcome::Discarded => 0,
+        Outcome::Placed(byte) => byte as u32,
+    }
+}
+
+pub fn put_outcome(row: &mut [u32; OUTCOME], explained: Explained)
+    requires { ⌜ SmallOutcome (explained .outcome) ⌝ }
+    ensures { λ _. ⌜ now (row .exit) ≡ outcomeRow explained ⌝ }
+{
+    let o = explained.outcome;
+    let sort = expected::sort_of(o) as u32;
+    let value = value_of(o);
+    let outside = explained.outside;
+    match outside {
+        Outside::Nowhere => {
+            *row = [sort, value, 0, INSIDE];
+        }
+        Outside::Below(d) => {
+            *row = [sort, value, d as u32, BELOW];
+        }
+        Outside::Above(d) => {
+            *row = [sort, value, d as u32, ABOVE];
         }
     }
 }

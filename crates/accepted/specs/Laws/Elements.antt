@@ -1,11 +1,11 @@
 -- A load or a store has its matrix's elements, and a sheet within Sizes has few.
-use Prim.Native.Nat.{ℕ, zero, suc, _+_, _*_, _≤_}
+use Prim.Native.Nat.{ℕ, zero, suc, _+_, _*_, _<_, _≤_}
 use mathlib.Core.Path.{_≡_, refl, _∙_}
 use mathlib.Core.Bool.{true, false}
 use mathlib.Core.List.{List}
 use native.Mathlib.Omega.{arith}
-use lib.ListN.{length, length-append}
-use Rattle.numbers.specs.Laws.Joins.{length-each}
+use lib.ListN.{length, getD, length-append}
+use Rattle.numbers.specs.Laws.Joins.{length-each, each-at}
 use Rattle.sheet.specs.Sizes.{stepPlaces, matrixPlaces}
 use Rattle.sheet.specs.declared.Tensors.{Tensors}
 use Rattle.sheet.specs.declared.Sheet.{Sheet}
@@ -29,6 +29,10 @@ use Rattle.accepted.specs.Elements.{ofAccess, ofStep, ofTurn, ofSheet}
 pub access-count : {A : Type 0} (f : Access → ℕ → A) (a : Access) → length (ofAccess f a) ≡ elementsOf a
 unfolding ofAccess
 access-count f a = length-each 1 (elementsOf a) _ (λ e h. refl) ∙ omega arith
+
+pub access-at : {A : Type 0} (f : Access → ℕ → A) (a : Access) (e : ℕ) (d : A) → e < elementsOf a → getD (ofAccess f a) e d ≡ f a e
+unfolding ofAccess
+access-at f a e d h = each-at (elementsOf a) (f a) e d h
 
 module _ {A : Type 0} (f : ℕ → Access → ℕ → A) where
   step-few : (tensors : Tensors) (ts : List MatrixType) (len k : ℕ) (step : Step) → Sized ts → length (ofStep f tensors ts len k step) ≤ matrixPlaces

@@ -3,6 +3,7 @@ use Prim.Native.Nat.{ℕ, suc, _+_, _-_, _<_, _≤_}
 use mathlib.Core.Path.{_≡_, refl, sym, _∙_}
 use mathlib.Core.List.{List, [], _++_}
 use native.Mathlib.Nat.{sub-zero}
+use native.Mathlib.Numerals.{add-one}
 use native.Mathlib.Omega.{arith}
 use Rattle.sheet.specs.Sizes.{memoryLimit}
 use Rattle.sheet_ranges.specs.Steps.{theStep}
@@ -18,7 +19,7 @@ use Rattle.checking.specs.Checking.{checkedFrom, checked}
 use Rattle.checking.specs.Laws.Steps.{check-types, check-sized}
 use Rattle.checking.specs.Laws.Turns.{first-clear, rest-clear, one-less, within-step}
 use Rattle.accepted.specs.Accepted.{ClearStep}
-use Rattle.accepted.specs.Passes.{passFrom, pass, passRest}
+use Rattle.accepted.specs.Passes.{typesAt, passFrom, pass, passRest}
 
 module _ {A : Type 0} (f : List MatrixType → ℕ → Step → List A) (sh : Sheet) (len : ℕ) where
   pub pass-start : passRest f sh len 0 (emptyRegisters .types) ≡ pass f sh len
@@ -76,6 +77,11 @@ module _ (sh : Sheet) (w : Within sh) (len : ℕ) (few : len ≤ memoryLimit) (k
           counted = r .counted + checkedStep (sh .edition) (sh .tensors) ts len step .placed;
           clear = rw (rest-clear left sh len k ts (r .counted) first) at clear;
         })
+
+    -- and those are the types at it
+    pub types-go : ts ≡ typesAt sh len k → after ≡ typesAt sh len (k + 1)
+    unfolding typesAt
+    types-go e = rw (add-one, ← e) types
 
     pub pass-go : {A : Type 0} (f : List MatrixType → ℕ → Step → List A) → passRest f sh len k ts ≡ f ts k (theStep (sh .step) k) ++ passRest f sh len (k + 1) after
     pass-go f = pass-on f sh len k ts h types

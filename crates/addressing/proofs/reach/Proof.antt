@@ -1,6 +1,6 @@
 use Rattle.dimensions.specs.Dimensions.{partLimit}
 use Rattle.addressing.proofs.Laws.{reached-far, reached-is}
-use Rattle.addressing.specs.declared.Clamped.the-variants.{Refused, Discarded, Filled, At}
+use Rattle.clamps.specs.declared.Clamped.the-variants.{Refused, Discarded, Filled, At}
 use Rattle.sheet.specs.Sizes.{rankPlaces}
 use mathlib.Core.Path.{sym, _∙_}
 use Prim.Native.Nat.{_≤_, _*_}

@@ -1,59 +1,28 @@
 -- Every element's outcome is sound: a law for all who act on outcomes.
 use Prim.Native.Nat.{ℕ, zero, suc, _+_, _*_, _^_, _<_}
-use mathlib.Core.Path.{_≡_, refl}
-use mathlib.Core.Bool.{Bool, true, false}
+use mathlib.Core.Path.{refl}
+use mathlib.Core.Bool.{Bool}
 use mathlib.Core.List.{List}
 use native.Mathlib.Nat.{mod-lt}
 use lib.Pow.{pow-pos}
 use lib.Dec.{leb}
-use lib.IntN.{ℤ, pos, negsuc, _+ℤ_}
 use lib.ListN.{getD}
 use borrow.Author.Tests.{leb-true}
 use Rattle.numbers.specs.Laws.Choice.{pick-case}
 use Rattle.tensor_ranges.specs.Layouts.{theDimension}
-use Rattle.sheet.specs.declared.ClampMode.{ClampMode}
-use Rattle.sheet.specs.declared.ClampMode.the-variants.{Undefined, Constant, ClampToEdge, Repeat, MirrorRepeat}
 use Rattle.sheet.specs.declared.Dimension.{Dimension}
 use Rattle.sheet.specs.declared.Layout.{Layout}
 use Rattle.addressing.specs.declared.Access.{Access}
 use Rattle.addressing.specs.declared.Indexed.{Indexed}
 use Rattle.addressing.specs.declared.Indexed.the-variants.{Skipped, Index}
-use Rattle.addressing.specs.declared.Clamped.{Clamped}
-use Rattle.addressing.specs.declared.Clamped.the-variants.{Refused, Discarded, Filled, At}
+use Rattle.clamps.specs.declared.Clamped.{Clamped}
+use Rattle.clamps.specs.declared.Clamped.the-variants.{Refused, Discarded, Filled, At}
 use Rattle.addressing.specs.declared.Located.{Located}
+use Rattle.clamps.specs.Clamps.{coordinateOf, clamped}
+use Rattle.clamps.specs.Laws.Clamps.{ByLoad, clamped-by}
 use Rattle.addressing.specs.Sound.{Sound}
 use Rattle.spans.specs.Spans.{spanCoordinates}
-use Rattle.addressing.specs.Rules.{onLoad, onStore, outside, clamped, twos, scaled, part, plus, tensorIndex, lowBits, addressed, settled, reached, indexed, landed, located}
-
--- rule 4 fills on a load and discards on a store
-abbrev ByLoad : Bool → Clamped → Type 0
-ByLoad load Refused = Unit {0}
-ByLoad load Discarded = load ≡ false
-ByLoad load Filled = load ≡ true
-ByLoad load (At x) = Unit {0}
-
-onLoad-by : (mode : ClampMode) (c : ℤ) (n : ℕ) (load : Bool) → load ≡ true → ByLoad load (onLoad mode c n)
-onLoad-by Undefined c n load e = tt
-onLoad-by Constant c n load e = e
-onLoad-by ClampToEdge c n load e = tt
-onLoad-by Repeat c n load e = tt
-onLoad-by MirrorRepeat c n load e = tt
-
-onStore-by : (mode : ClampMode) (load : Bool) → load ≡ false → ByLoad load (onStore mode)
-onStore-by Undefined load e = tt
-onStore-by Constant load e = e
-onStore-by ClampToEdge load e = e
-onStore-by Repeat load e = e
-onStore-by MirrorRepeat load e = e
-
-outside-by : (load : Bool) (mode : ClampMode) (c : ℤ) (n : ℕ) → ByLoad load (outside load mode c n)
-unfolding outside
-outside-by load mode c n = pick-case (ByLoad load) load _ _ (onLoad-by mode c n load) (onStore-by mode load)
-
-clamped-by : (load : Bool) (mode : ClampMode) (c : ℤ) (n : ℕ) → ByLoad load (clamped load mode c n)
-unfolding clamped
-clamped-by load mode (negsuc a) n = outside-by load mode (negsuc a) n
-clamped-by load mode (pos a) n = pick-case (ByLoad load) (leb n a) _ _ (λ t. outside-by load mode (pos a) n) (λ t. tt)
+use Rattle.addressing.specs.Rules.{scaled, part, plus, tensorIndex, lowBits, addressed, settled, reached, indexed, landed, located}
 
 scaled-by : (load : Bool) (d : Dimension) (x : Clamped) → ByLoad load x → ByLoad load (scaled d x)
 scaled-by load d Refused h = h
@@ -76,7 +45,7 @@ tensor-by load l cs zero = tt
 tensor-by load l cs (suc n) =
     let d = theDimension (l .dimensions) n in
     plus-by load (tensorIndex load l cs n) (part load (l .mode) d (getD cs n 0)) (tensor-by load l cs n)
-    (scaled-by load d (clamped load (l .mode) (pos (getD cs n 0) +ℤ twos (d .offset)) (d .size)) (clamped-by load (l .mode) _ (d .size)))
+    (scaled-by load d (clamped load (l .mode) (coordinateOf d (getD cs n 0)) (d .size)) (clamped-by load (l .mode) _ (d .size)))
 
 abbrev SoundAt : Access → Located → Type 0
 SoundAt a r = Sound a (r .outcome)

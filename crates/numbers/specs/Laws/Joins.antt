@@ -1,12 +1,13 @@
 -- Laws of `each`, lists joined one after the other: alike, with one more, and how long.
 use Prim.Native.Nat.{ℕ, zero, suc, _+_, _*_, _<_, _≤_}
 use mathlib.Core.Path.{_≡_, refl, sym, _∙_}
-use mathlib.Core.List.{List, _++_}
-use native.Mathlib.Nat.{suc-mul}
+use mathlib.Core.List.{List, [], _∷_, _++_}
+use native.Mathlib.Nat.{suc-mul, not-suc-le-zero}
 use native.Mathlib.Omega.{arith}
-use lib.ListN.{length, getD, set, length-append}
-use lib.Seq.{getD-set-same, getD-set-other}
+use lib.ListN.{length, getD, set, length-append, List·getD-append}
+use lib.Seq.{getD-set-same, getD-set-other, getD-at}
 use Rattle.numbers.specs.Lists.{each}
+use Rattle.numbers.specs.Laws.Choice.{by-order}
 use Rattle.numbers.specs.Laws.Lists.{each-more}
 
 module _ {B : Type 0} where
@@ -42,3 +43,15 @@ module _ {B : Type 0} where
   unfolding each
   each-long zero f h = omega arith
   each-long (suc n) f h = omega (arith, length-append (each n f) (f n), each-long n f h, h n)
+
+-- element i of n lists of one element
+pub each-at : {A : Type 0} (n : ℕ) (f : ℕ → A) (i : ℕ) (d : A) → i < n → getD (each n (λ (k : ℕ). f k ∷ [])) i d ≡ f i
+unfolding each
+each-at zero f i d h = absurd (not-suc-le-zero h)
+each-at (suc n) f i d h =
+    let before = each n (λ (k : ℕ). f k ∷ []) in
+    let long : length before ≡ n = length-each 1 n (λ (k : ℕ). f k ∷ []) (λ k l. refl) ∙ omega arith in
+    by-order i n (λ l. List·getD-append before (f n ∷ []) d i (omega arith) ∙ each-at n f i d l)
+    (λ l.
+    let e : i ≡ n = omega arith in
+    rw e (getD-at before (f n) [] d n long))

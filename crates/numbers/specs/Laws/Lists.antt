@@ -1,8 +1,8 @@
 -- Laws of `line` and `each`, a turn of a loop at a time.
-use Prim.Native.Nat.{ℕ, zero, suc, _+_, _*_, _<_, _≤_}
+use Prim.Native.Nat.{ℕ, zero, suc, _+_, _<_, _≤_}
 use mathlib.Core.Path.{_≡_, refl, sym, ap, _∙_}
 use mathlib.Core.List.{List, [], _∷_, _++_}
-use native.Mathlib.Nat.{add-zero, zero-add, zero-mul, suc-mul, le-refl, not-suc-le-zero}
+use native.Mathlib.Nat.{add-zero, zero-add, le-refl, not-suc-le-zero}
 use borrow.Author.Tests.{eqb-true, eqb-false}
 use lib.Dec.{eqb}
 use native.Mathlib.Numerals.{add-one}
@@ -35,12 +35,6 @@ each-more n f = rw add-one
 
 pub length-each-more : {A : Type 0} (n : ℕ) (f : ℕ → List A) → length (each (n + 1) f) ≡ length (each n f) + length (f n)
 length-each-more n f = rw (each-more n f) (length-append (each n f) (f n))
-
--- n joined lists of one length
-pub length-each : {A : Type 0} (n c : ℕ) (f : ℕ → List A) → ((k : ℕ) → length (f k) ≡ c) → length (each n f) ≡ n * c
-unfolding each
-length-each zero c f h = sym (zero-mul c)
-length-each (suc n) c f h = length-append (each n f) (f n) ∙ rw (h n, length-each n c f h, suc-mul n c)
 
 -- what stands before one of n joined lists, and that list, are no longer than the whole
 pub each-fits : {A : Type 0} (n : ℕ) (f : ℕ → List A) (k : ℕ) → k < n → length (each k f) + length (f k) ≤ length (each n f)

@@ -6,7 +6,7 @@ use mathlib.Core.List.{List}
 use native.Mathlib.Omega.{arith}
 use lib.ListN.{length, length-append}
 use Rattle.numbers.specs.Laws.Choice.{pick-case}
-use Rattle.numbers.specs.Laws.Lists.{length-each}
+use Rattle.numbers.specs.Laws.Joins.{length-each}
 use Rattle.tensor_ranges.specs.Layouts.{theDimension}
 use Rattle.tensor_ranges.specs.Views.{theViewDimension, sizedRank}
 use Rattle.sheet.specs.declared.Dimension.{Dimension}
@@ -21,21 +21,21 @@ unfolding dimensionBytes
 length-dimension d = refl
 
 pub length-dimensions : (n : ℕ) (ds : List Dimension) → length (dimensionsBytes n ds) ≡ n * 10
-length-dimensions n ds = length-each n 10 _ (λ k. length-dimension (theDimension ds k))
+length-dimensions n ds = length-each 10 n _ (λ k h. length-dimension (theDimension ds k))
 
 pub length-layout : (l : Layout) → length (layoutBytes l) ≡ 6 + l .rank * 10
 unfolding layoutBytes
 length-layout l = let e = length-dimensions (l .rank) (l .dimensions) in omega arith
 
 pub length-entries : (n : ℕ) (p : List ℕ) → length (entriesBytes n p) ≡ n * 1
-length-entries n p = length-each n 1 _ (λ k. refl)
+length-entries n p = length-each 1 n _ (λ k h. refl)
 
 pub length-view-dimension : (d : ViewDimension) → length (viewDimensionBytes d) ≡ 4
 unfolding viewDimensionBytes
 length-view-dimension d = refl
 
 pub length-view-dimensions : (n : ℕ) (ds : List ViewDimension) → length (viewDimensionsBytes n ds) ≡ n * 4
-length-view-dimensions n ds = length-each n 4 _ (λ k. length-view-dimension (theViewDimension ds k))
+length-view-dimensions n ds = length-each 4 n _ (λ k h. length-view-dimension (theViewDimension ds k))
 
 pub length-clip : (c : Clip) → length (clipBytes c) ≡ 4
 unfolding clipBytes

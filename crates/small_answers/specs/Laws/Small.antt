@@ -2,7 +2,7 @@
 use Prim.Native.Nat.{ℕ, zero, suc, _+_, _-_, _*_, _^_, _<_, _≤_}
 use mathlib.Core.Path.{_≡_, refl, ap}
 use mathlib.Core.Bool.{true, false}
-use mathlib.Core.List.{List}
+use mathlib.Core.List.{List, []}
 use native.Mathlib.Nat.{sub-zero}
 use native.Mathlib.Omega.{arith}
 use borrow.Author.Tests.{eqb-true, eqb-false, ltb-true, leb-true}
@@ -10,7 +10,7 @@ use lib.Dec.{eqb, ltb, leb}
 use lib.IntN.{ℤ}
 use lib.ListN.{length}
 use Rattle.numbers.specs.Choice.{pick}
-use Rattle.numbers.specs.Laws.Choice.{pick-case}
+use Rattle.numbers.specs.Laws.Choice.{pick-case, by-order}
 use Rattle.sheet_ranges.specs.Sheets.{emptySheet, noTensors, writable}
 use Rattle.sheet_ranges.specs.Steps.{theStep, stepOk}
 use Rattle.refusals.specs.declared.Refusal.{Refusal}
@@ -55,6 +55,20 @@ use Rattle.dividing.specs.Dividing.{counted}
 use Rattle.dividing.specs.Laws.Few.{divisions-few}
 use Rattle.dividing.specs.Theorems.{five-each}
 use Rattle.dividing.specs.declared.DivisionsAnswer.{DivisionsAnswer}
+use Rattle.outcomes.specs.declared.Outcome.{Outcome}
+use Rattle.outcomes.specs.declared.Outcome.the-variants.{Skipped, Filled, Discarded, Placed}
+use Rattle.outcomes.specs.declared.Explained.{Explained}
+use Rattle.addressing.specs.Sound.{Sound}
+use Rattle.accesses.specs.Laws.Accepted.{element-sound}
+use Rattle.transfers.specs.Transfers.{outcomeOf}
+use Rattle.accepted.specs.Passes.{typesAt}
+use Rattle.accepted.specs.Elements.{ofAccess, ofStep}
+use Rattle.explaining.specs.Elements.{explained, stepExplained, sheetExplained}
+use Rattle.explaining.specs.Explaining.{asked, answeredBy, explainedSheet}
+use Rattle.explaining.specs.Laws.Asking.{asked-none, access-past, access-asked}
+use Rattle.explaining.specs.declared.Asked.{Asked}
+use Rattle.explaining.specs.declared.Asked.the-variants as found
+use Rattle.explaining.specs.declared.ExplainAnswer.{ExplainAnswer}
 use Rattle.records.specs.declared.Decoded.{Decoded}
 use Rattle.translating.specs.Translating.{fitsRoom, translated}
 use Rattle.judging.specs.Judging.{tapeRecord, decodedOk, decodedTypes, rangeFrom, tapeRefusal}
@@ -76,7 +90,7 @@ use Rattle.replaying.specs.Laws.Verdicts.{common-most}
 use Rattle.replaying.specs.declared.Verdict.the-variants.{Agrees, Differs}
 use Rattle.replaying.specs.declared.ReplayAnswer.{ReplayAnswer}
 use Rattle.rows.specs.Rows.{rowMost, capped}
-use Rattle.rows.specs.Small.{Small, SmallVerdict}
+use Rattle.rows.specs.Small.{Small, SmallVerdict, SmallOutcome}
 
 -- a limit's refusal, then reading's, then what the sheet gives
 by-reading : {A : Type 0} (P : A → Type 0) (s : List ℕ) (len : ℕ) {x y z : A} → (Within (readSheet s .sheet) → P x) → (0 < readSheet s .refusal .number → P y) → P z
@@ -272,6 +286,59 @@ module _ (s : List ℕ) (tape : List ℤ) (records : ℕ) where
       let c = refusal-small (length memory) in
       pick-case (λ (r : CarryAnswer). Small (r .refusal) (r .counts .placed)) (eqb (runRefusal s tape records (length memory) .number) 0) _ _
       (λ e. (omega arith, omega arith, ran-small memory (eqb-true _ 0 e))) (λ e. (c .0, c .1, omega arith))
+
+-- ---- explaining
+
+abbrev SmallAsked : Asked → Type 0
+SmallAsked found.Nothing = Unit {0}
+SmallAsked (found.Element x) = SmallOutcome (x .outcome)
+
+-- a byte lies in memory
+outcome-small : (a : Access) (o : Outcome) → a .memory < 2 ^ 32 → Sound a o → SmallOutcome o
+outcome-small a Skipped h s = tt
+outcome-small a (Filled bits) h s = tt
+outcome-small a Discarded h s = tt
+outcome-small a (Placed byte) h s = omega (arith, s .0)
+
+none-small : (e : ℕ) → SmallAsked (asked [] e)
+none-small e = rw (asked-none [] e (omega arith)) tt
+
+access-told : (a : Access) (e : ℕ) → a .memory < 2 ^ 32 → SmallAsked (asked (ofAccess explained a) e)
+access-told a e h =
+    by-order e (elementsOf a) (λ l. rw (access-asked a e l) (outcome-small a (outcomeOf a e) h (element-sound a e)))
+    (λ l. rw (access-past a e l) tt)
+
+step-told : (tensors : Tensors) (ts : List MatrixType) (len k : ℕ) (step : Step) (e : ℕ) → len < 2 ^ 32 → SmallAsked (asked (stepExplained tensors ts len k step) e)
+unfolding ofStep
+step-told tensors ts len k Nothing e h = none-small e
+step-told tensors ts len k (Load register object window) e h =
+    access-told (accessOf tensors true window (theType ts (objectRegister register object)) len) e h
+step-told tensors ts len k (Store register window) e h = access-told (accessOf tensors false window (theType ts register) len) e h
+step-told tensors ts len k (Whole whole) e h = none-small e
+
+sheet-told : (sh : Sheet) (len k e : ℕ) → len < 2 ^ 32 → SmallAsked (asked (sheetExplained sh len k) e)
+unfolding sheetExplained
+sheet-told sh len k e h =
+    pick-case (λ (xs : List Explained). SmallAsked (asked xs e)) (ltb k (sh .steps)) _ []
+    (λ t. step-told (sh .tensors) (typesAt sh len k) len k (theStep (sh .step) k) e h) (λ t. none-small e)
+
+pub record SmallExplained (r : ExplainAnswer) : Type 0 where
+  pub outcome : SmallOutcome (r .explained .outcome)
+  pub answer : Small (r .refusal) 0
+
+answered-small : (step e : ℕ) (x : Asked) → step < 2 ^ 32 → e < 2 ^ 32 → SmallAsked x → SmallExplained (answeredBy step e x)
+answered-small step e found.Nothing g h s = record { outcome = tt; answer = (g, h, omega arith) }
+answered-small step e (found.Element x) g h s = record { outcome = s; answer = (omega arith, omega arith, omega arith) }
+
+pub explained-small : (s : List ℕ) (len step e : ℕ) → step < 2 ^ 32 → e < 2 ^ 32 → SmallExplained (explainedSheet s len step e)
+unfolding explainedSheet
+explained-small s len step e g h =
+    let c = check-small s len in
+    pick-case SmallExplained (eqb (checkedSheet s len .refusal .number) 0) _ _
+    (λ t.
+    answered-small step e (asked (sheetExplained (readSheet s .sheet) len step) e) g h
+    (sheet-told (readSheet s .sheet) len step e (omega (arith, sheet-readable s len (eqb-true _ 0 t) .few))))
+    (λ t. record { outcome = tt; answer = (c .0, c .1, omega arith) })
 
 -- ---- traces
 

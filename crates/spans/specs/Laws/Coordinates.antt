@@ -2,7 +2,7 @@
 use Prim.Native.Nat.{ℕ, zero, suc, _/_, _%_, _<_, _≤_}
 use mathlib.Core.Path.{_≡_, refl, _∙_}
 use mathlib.Core.List.{List}
-use native.Mathlib.Nat.{mod-one, not-suc-le-zero}
+use native.Mathlib.Nat.{mod-lt, mod-one, not-suc-le-zero}
 use native.Mathlib.Omega.{arith}
 use lib.ListN.{length, getD, set, replicate, length-set}
 use lib.Seq.{getD-set-same, getD-set-other}
@@ -24,19 +24,27 @@ module _ (size : ℕ → ℕ) where
       let q : i ≡ k → ⊥ = λ r. omega arith in
       coordinates-keep k (index / size k) (set cs k (index % size k)) i (omega arith) ∙ getD-set-other cs k i (index % size k) 0 q
 
-  -- each of k is 0 where its size is 1
-  coordinates-one : (k index : ℕ) (cs : List ℕ) (i : ℕ) → k ≤ length cs → i < k → size i ≡ 1 → getD (found k index cs) i 0 ≡ 0
+  -- each of k is a remainder by its size
+  coordinates-rest : (P : ℕ → Type 0) (k index : ℕ) (cs : List ℕ) (i : ℕ) → k ≤ length cs → i < k → ((x : ℕ) → P (x % size i)) → P (getD (found k index cs) i 0)
   unfolding coordinates
-  coordinates-one zero index cs i m h e = absurd (not-suc-le-zero h)
-  coordinates-one (suc k) index cs i m h e =
+  coordinates-rest P zero index cs i m h p = absurd (not-suc-le-zero h)
+  coordinates-rest P (suc k) index cs i m h p =
       let rest = index % size k in
       by-place i k
       (λ q.
-      let f : size k ≡ 1 = rw q at e in
-      coordinates-keep k (index / size k) (set cs k rest) i (omega arith) ∙ rw (q, getD-set-same cs k rest 0 (omega arith), f) (mod-one index))
-      (λ q. coordinates-one k (index / size k) (set cs k rest) i (omega (arith, length-set cs k rest)) (omega arith) e)
+      let e : getD (found k (index / size k) (set cs k rest)) i 0 ≡ index % size i =
+      coordinates-keep k (index / size k) (set cs k rest) i (omega arith) ∙ rw q (getD-set-same cs k rest 0 (omega arith)) in
+      rw e (p index))
+      (λ q. coordinates-rest P k (index / size k) (set cs k rest) i (omega (arith, length-set cs k rest)) (omega arith) p)
 
--- a span of 1 has the coordinate 0
-pub coordinate-one : (l : Layout) (index i : ℕ) → l .rank ≤ rankPlaces → i < l .rank → spanOf l i ≡ 1 → getD (spanCoordinates l index) i 0 ≡ 0
-unfolding spanCoordinates
-coordinate-one l index i m h e = coordinates-one (spanOf l) (l .rank) index (replicate rankPlaces 0) i m h e
+module _ (l : Layout) (index i : ℕ) (m : l .rank ≤ rankPlaces) (h : i < l .rank) where
+  coordinate-rest : (P : ℕ → Type 0) → ((x : ℕ) → P (x % spanOf l i)) → P (getD (spanCoordinates l index) i 0)
+  unfolding spanCoordinates
+  coordinate-rest P p = coordinates-rest (spanOf l) P (l .rank) index (replicate rankPlaces 0) i m h p
+
+  -- it is below its span, and 0 where the span is 1
+  pub coordinate-below : 0 < spanOf l i → getD (spanCoordinates l index) i 0 < spanOf l i
+  coordinate-below s = coordinate-rest (λ (c : ℕ). c < spanOf l i) (λ x. mod-lt x s)
+
+  pub coordinate-one : spanOf l i ≡ 1 → getD (spanCoordinates l index) i 0 ≡ 0
+  coordinate-one e = coordinate-rest (λ (c : ℕ). c ≡ 0) (λ x. rw e (mod-one x))

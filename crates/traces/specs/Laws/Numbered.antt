@@ -1,14 +1,12 @@
 -- The events of a trace that is not refused are those found by their numbers.
-use Prim.Native.Nat.{ℕ, zero, suc, _+_, _*_, _/_, _<_}
+use Prim.Native.Nat.{ℕ, _+_, _*_, _/_, _<_}
 use mathlib.Core.Path.{_≡_, refl, _∙_}
 use mathlib.Core.List.{List, [], _∷_, _++_, append-assoc, append-nil}
-use native.Mathlib.Nat.{not-suc-le-zero}
 use native.Mathlib.Omega.{arith}
-use lib.ListN.{length, getD, List·getD-append}
-use lib.Seq.{getD-at}
+use lib.ListN.{length, getD}
 use Rattle.numbers.specs.Lists.{each}
-use Rattle.numbers.specs.Laws.Choice.{by-order}
-use Rattle.numbers.specs.Laws.Lists.{each-more, length-each}
+use Rattle.numbers.specs.Laws.Lists.{each-more}
+use Rattle.numbers.specs.Laws.Joins.{length-each, each-at}
 use Rattle.traces.specs.Events.{eventLength}
 use Rattle.traces.specs.Reading.{Trace, readTrace}
 use Rattle.traces.specs.Numbered.{eventIn, eventsIn}
@@ -42,18 +40,7 @@ accepted-events s e = reads s (Rest s) (rest-ways s) 0 refl e
 -- they are as many as fields, and event i is event i
 pub events-count : (s : List ℕ) → length (eventsIn s) ≡ length s / eventLength
 unfolding eventsIn
-events-count s = length-each (length s / eventLength) 1 (λ (i : ℕ). eventIn s i ∷ []) (λ k. refl) ∙ omega arith
-
-each-at : {A : Type 0} (n : ℕ) (f : ℕ → A) (i : ℕ) (d : A) → i < n → getD (each n (λ (k : ℕ). f k ∷ [])) i d ≡ f i
-unfolding each
-each-at zero f i d h = absurd (not-suc-le-zero h)
-each-at (suc n) f i d h =
-    let before = each n (λ (k : ℕ). f k ∷ []) in
-    let long : length before ≡ n = length-each n 1 (λ (k : ℕ). f k ∷ []) (λ k. refl) ∙ omega arith in
-    by-order i n (λ l. List·getD-append before (f n ∷ []) d i (omega arith) ∙ each-at n f i d l)
-    (λ l.
-    let e : i ≡ n = omega arith in
-    rw e (getD-at before (f n) [] d n long))
+events-count s = length-each 1 (length s / eventLength) (λ (i : ℕ). eventIn s i ∷ []) (λ k h. refl) ∙ omega arith
 
 pub events-at : (s : List ℕ) (i : ℕ) (d : Event) → i < length s / eventLength → getD (eventsIn s) i d ≡ eventIn s i
 unfolding eventsIn

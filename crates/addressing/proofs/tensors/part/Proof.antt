@@ -1,6 +1,8 @@
-use Rattle.addressing.proofs.Laws.{clamped-lt, part-told}
+use Rattle.addressing.proofs.Laws.{part-told}
+use Rattle.clamps.specs.Laws.Clamps.{clamped-lt}
+use Rattle.clamps.specs.declared.Sided.{Sided}
 use Rattle.dimensions.specs.Laws.Tails.{part-most}
-use mathlib.Core.Path.{sym, _∙_}
+use mathlib.Core.Path.{sym, ap, _∙_}
 use native.Mathlib.Omega.{arith}
 use borrow.Author.Needs.{needs}
 use Rattle.addressing.proofs.tensors.part.Statement.{statement}
@@ -27,8 +29,8 @@ enum-told-2 c = search needs
 enum-told-3 : tie.Need-enum-told-3
 enum-told-3 c = search needs
 
-enum-known-x : tie.Need-enum-known-x
-enum-known-x c = search needs
+enum-known-clamped : tie.Need-enum-known-clamped
+enum-known-clamped c = search needs
 
 wide-requires-3 : tie.Need-wide-requires-3
 wide-requires-3 c κs = search needs
@@ -39,12 +41,12 @@ block-of-requires c κs = search needs
 wide-requires-4 : tie.Need-wide-requires-4
 wide-requires-4 c κs = search needs
 
-mul-t13 : tie.Need-mul-t13
-mul-t13 c = rw (c .before .block-of .ensures)
+mul-t14 : tie.Need-mul-t14
+mul-t14 c = rw (c .before .block-of .ensures)
     (omega (
       arith,
       part-most (c .before .before .wide3 .result)
-          (clamped-lt _ _ _ (c .before .before .before .before .before .before .before .wide2 .result) (omega arith) (sym (c .before .before .before .before .before .before .clamp .ensures) ∙ c .before .before .before .before .x .given .1)) (omega arith) (c .wide4 .ensures .1),
+          (clamped-lt _ _ _ (c .before .before .before .before .before .before .before .wide2 .result) (omega arith) (sym (ap (λ (y : Sided). y .clamped) (c .before .before .before .before .before .before .clamp .ensures)) ∙ c .before .before .before .before .clamped .given .1)) (omega arith) (c .wide4 .ensures .1),
     ))
 
 returns : tie.Need-returns
@@ -58,9 +60,9 @@ returns-3 c = let k = c .before .before in (part-told _ _ _ _ (k .before .before
 
 returns-4 : tie.Need-returns-4
 returns-4 c = rw (c .before .block-of .ensures) (
-  rw (c .before .before .wide3 .ensures .0, c .wide4 .ensures .0) (let k = c .before .before .before .before .before .before in part-told _ _ _ _ (k .before .before .before .wide .ensures .0) (k .before .before .shifted .ensures) (k .before .wide2 .ensures .0) (k .clamp .ensures) (c .before .before .before .before .x .given .1)),
+  rw (c .before .before .wide3 .ensures .0, c .wide4 .ensures .0) (let k = c .before .before .before .before .before .before in part-told _ _ _ _ (k .before .before .before .wide .ensures .0) (k .before .before .shifted .ensures) (k .before .wide2 .ensures .0) (k .clamp .ensures) (c .before .before .before .before .clamped .given .1)),
   part-most (c .before .before .wide3 .result)
-      (clamped-lt _ _ _ (c .before .before .before .before .before .before .before .wide2 .result) (omega arith) (sym (c .before .before .before .before .before .before .clamp .ensures) ∙ c .before .before .before .before .x .given .1)) (omega arith) (c .wide4 .ensures .1),
+      (clamped-lt _ _ _ (c .before .before .before .before .before .before .before .wide2 .result) (omega arith) (sym (ap (λ (y : Sided). y .clamped) (c .before .before .before .before .before .before .clamp .ensures)) ∙ c .before .before .before .before .clamped .given .1)) (omega arith) (c .wide4 .ensures .1),
 )
 
 pub part-spec : {M : Type 1} → statement M
@@ -74,11 +76,11 @@ part-spec =
     enum-told
     enum-told-2
     enum-told-3
-    enum-known-x
+    enum-known-clamped
     wide-requires-3
     block-of-requires
     wide-requires-4
-    mul-t13
+    mul-t14
     returns
     returns-2
     returns-3

@@ -7,7 +7,7 @@ use native.Mathlib.Nat.{mod-lt}
 use Rattle.tensor_ranges.specs.Laws.Facts.{layout-most, layout-span, layout-block, layout-size}
 use Rattle.dimensions.specs.Dimensions.{lead, partLimit}
 use Rattle.dimensions.specs.Laws.Tails.{lead-most}
-use Rattle.addressing.specs.declared.Clamped.the-variants.{Refused, Discarded, Filled}
+use Rattle.clamps.specs.declared.Clamped.the-variants.{Refused, Discarded, Filled}
 use Rattle.addressing.proofs.tensors.tensor_index.Statement.{statement}
 use Rattle.addressing.proofs.tensors.tensor_index.Tie as tie
 

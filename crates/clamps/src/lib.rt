@@ -1,14 +1,41 @@
-// Rule 4 for one coordinate.
+// Rule 4: a coordinate over the places of its dimension (document 01, "Where an element goes"), and the first dimension outside (document 02, T-06).
 ghost use mathlib.Core.Path.{_≡_};
-ghost use Prim.Native.Nat.{_≤_, _<_};
+ghost use Prim.Native.Nat.{ℕ, _≤_, _<_};
+ghost use mathlib.Core.Bool.{true};
 ghost use lib.IntN.{ℤ, pos, _+ℤ_};
+ghost use lib.ListN.{getD};
 ghost use Rattle.numbers.specs.Remainders.{remainder};
 ghost use Rattle.sheet.specs.Sizes.{sizeLimit};
-ghost use Rattle.addressing.specs.Plans.{integer};
-ghost use Rattle.addressing.specs.Rules.{twos, edge, mirrored, onLoad, onStore, outside, clamped};
-use super::Clamped;
-use super::Coordinate;
+ghost use Rattle.tensor_ranges.specs.Layouts.{layoutOk};
+ghost use Rattle.clamps.specs.Coordinates.{integer};
+ghost use Rattle.clamps.specs.Clamps.{twos, edge, mirrored, onLoad, onStore, outside, sided};
+ghost use Rattle.clamps.specs.Sides.{firstOutside};
+use outcomes::Outside;
+use outcomes::Side;
 use sheet::ClampMode;
+use sheet::Layout;
+use sheet::sizes::RANK;
+use view_indices::wide;
+
+// An integer: At(a) is a, Below(a) is -1-a.
+pub enum Coordinate {
+    Below(u32),
+    At(u32),
+}
+
+// What rule 4 makes of a coordinate, or of all of them up to a dimension.
+pub enum Clamped {
+    Refused,
+    Discarded,
+    Filled,
+    At(u32),
+}
+
+// Rule 4's answer: what it gives, and the side of the coordinate.
+pub struct Sided {
+    pub side: Side,
+    pub clamped: Clamped,
+}
 
 // A span coordinate plus a signed offset.
 pub fn shifted(s: u32, raw: u32) -> Coordinate
@@ -95,18 +122,50 @@ fn outside(load: bool, mode: ClampMode, c: Coordinate, n: u32) -> Clamped
 }
 
 // A coordinate over the n places of its dimension.
-pub fn clamp(load: bool, mode: ClampMode, c: Coordinate, n: u32) -> Clamped
+pub fn clamp(load: bool, mode: ClampMode, c: Coordinate, n: u32) -> Sided
     requires { ⌜ (0 < n) × (n ≤ sizeLimit) ⌝ }
-    ensures { λ r. ⌜ r ≡ clamped load mode (integer c) n ⌝ }
+    ensures { λ r. ⌜ r ≡ sided load mode (integer c) n ⌝ }
 {
     match c {
         Coordinate::At(a) => {
             if n <= a {
-                outside(load, mode, c, n)
+                Sided {
+                    side: Side::Above,
+                    clamped: outside(load, mode, c, n),
+                }
             } else {
-                Clamped::At(a)
+                Sided {
+                    side: Side::Inside,
+                    clamped: Clamped::At(a),
+                }
             }
         }
-        Coordinate::Below(_) => outside(load, mode, c, n),
+        Coordinate::Below(_) => Sided {
+            side: Side::Below,
+            clamped: outside(load, mode, c, n),
+        },
     }
+}
+
+// The first dimension outside by the span coordinates of an element: asked for one element at a time, and no part of a job, which needs no dimension's name.
+pub fn first_outside(load: bool, l: Layout, coordinates: [u32; RANK]) -> Outside
+    requires { ⌜ (layoutOk l ≡ true) × ((d : ℕ) → d < l .rank → getD coordinates d 0 < sizeLimit) ⌝ }
+    ensures { λ r. ⌜ r ≡ firstOutside l coordinates ⌝ }
+{
+    let rank = l.rank as usize;
+    let mode = l.mode;
+    let mut d: usize = 0;
+    while d < rank {
+        let x = l.dimensions[d];
+        let c = shifted(coordinates[d], wide(x.offset));
+        let r = clamp(load, mode, c, wide(x.size));
+        let side = r.side;
+        match side {
+            Side::Inside => {}
+            Side::Below => return Outside::Below(d as u8),
+            Side::Above => return Outside::Above(d as u8),
+        }
+        d += 1;
+    }
+    Outside::Nowhere
 }

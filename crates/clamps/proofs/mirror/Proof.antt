@@ -4,10 +4,10 @@ use native.Mathlib.Omega.{arith}
 use borrow.Author.Needs.{needs}
 use Rattle.numbers.specs.Laws.Choice.{taken, left, tests}
 use Rattle.numbers.specs.Laws.Remainders.{remainder-lt}
-use Rattle.addressing.specs.Rules.{mirrored, turnedBack}
-use Rattle.addressing.specs.Plans.{integer}
-use Rattle.addressing.proofs.clamps.mirror.Statement.{statement}
-use Rattle.addressing.proofs.clamps.mirror.Tie as tie
+use Rattle.clamps.specs.Clamps.{mirrored, turnedBack}
+use Rattle.clamps.specs.Coordinates.{integer}
+use Rattle.clamps.proofs.mirror.Statement.{statement}
+use Rattle.clamps.proofs.mirror.Tie as tie
 
 returns : tie.Need-returns
 unfolding mirrored

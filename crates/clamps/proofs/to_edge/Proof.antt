@@ -1,6 +1,6 @@
 use borrow.Author.Needs.{needs}
-use Rattle.addressing.proofs.clamps.to_edge.Statement.{statement}
-use Rattle.addressing.proofs.clamps.to_edge.Tie as tie
+use Rattle.clamps.proofs.to_edge.Statement.{statement}
+use Rattle.clamps.proofs.to_edge.Tie as tie
 
 enum-told : tie.Need-enum-told
 enum-told c = search needs

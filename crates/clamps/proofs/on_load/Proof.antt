@@ -1,6 +1,6 @@
 use borrow.Author.Needs.{needs}
-use Rattle.addressing.proofs.clamps.on_load.Statement.{statement}
-use Rattle.addressing.proofs.clamps.on_load.Tie as tie
+use Rattle.clamps.proofs.on_load.Statement.{statement}
+use Rattle.clamps.proofs.on_load.Tie as tie
 
 enum-told : tie.Need-enum-told
 enum-told c = search needs

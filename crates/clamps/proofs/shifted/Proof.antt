@@ -6,9 +6,9 @@ use borrow.Author.Tests.{lt-ltb, le-ltb}
 use borrow.Author.Needs.{needs}
 use Rattle.kinds.specs.Widths.{s16}
 use Rattle.kinds.specs.Laws.Signs.{value-lower, value-upper, width-s16}
-use Rattle.addressing.specs.Rules.{twos}
-use Rattle.addressing.proofs.clamps.shifted.Statement.{statement}
-use Rattle.addressing.proofs.clamps.shifted.Tie as tie
+use Rattle.clamps.specs.Clamps.{twos}
+use Rattle.clamps.proofs.shifted.Statement.{statement}
+use Rattle.clamps.proofs.shifted.Tie as tie
 
 -- the two halves of 16 bits
 lower : (raw : ℕ) → raw < 32768 → twos raw ≡ pos raw

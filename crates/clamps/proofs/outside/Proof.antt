@@ -1,8 +1,8 @@
 use borrow.Author.Needs.{needs}
 use Rattle.numbers.specs.Laws.Choice.{taken, left}
-use Rattle.addressing.specs.Rules.{outside}
-use Rattle.addressing.proofs.clamps.outside.Statement.{statement}
-use Rattle.addressing.proofs.clamps.outside.Tie as tie
+use Rattle.clamps.specs.Clamps.{outside}
+use Rattle.clamps.proofs.outside.Statement.{statement}
+use Rattle.clamps.proofs.outside.Tie as tie
 
 on-load-requires : tie.Need-on-load-requires
 on-load-requires c κs = search needs

@@ -1,8 +1,8 @@
 use native.Mathlib.Nat.{mod-lt}
 use native.Mathlib.Omega.{arith}
 use borrow.Author.Needs.{needs}
-use Rattle.addressing.proofs.clamps.rest.Statement.{statement}
-use Rattle.addressing.proofs.clamps.rest.Tie as tie
+use Rattle.clamps.proofs.rest.Statement.{statement}
+use Rattle.clamps.proofs.rest.Tie as tie
 
 enum-known-c : tie.Need-enum-known-c
 enum-known-c c = search needs

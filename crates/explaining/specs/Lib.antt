@@ -1,0 +1,5 @@
+pub mod Elements
+pub mod Explaining
+pub mod Beside
+pub mod Laws
+pub mod Theorems
