@@ -8,7 +8,6 @@ use lib.IntN.{ℤ, pos, _+ℤ_}
 use lib.ListN.{getD}
 use Rattle.tensor_ranges.specs.Layouts.{theDimension}
 use Rattle.outcomes.specs.declared.Side.{Side}
-use Rattle.sheet.specs.declared.ClampMode.{ClampMode}
 use Rattle.sheet.specs.declared.Layout.{Layout}
 use Rattle.clamps.specs.declared.Sided.{Sided}
 use Rattle.clamps.specs.Clamps.{twos, sided}

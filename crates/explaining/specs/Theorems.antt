@@ -6,7 +6,6 @@ use native.Mathlib.Omega.{arith}
 use borrow.Author.Tests.{eq-eqb, ne-eqb}
 use Rattle.numbers.specs.Choice.{pick}
 use Rattle.outcomes.specs.declared.Outcome.the-variants as outcome
-use Rattle.outcomes.specs.declared.Outside.the-variants.{Nowhere}
 use Rattle.sheet_reader.specs.Reading.{readSheet}
 use Rattle.spans.specs.Spans.{spanCoordinates}
 use Rattle.clamps.specs.Sides.{sideAt}

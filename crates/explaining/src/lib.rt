@@ -58,7 +58,8 @@ pub fn outside_of(
         Indexed::Index(i) => {
             let l = p.access.layout;
             let d = spans::span_coordinates(l, i as u32);
-            clamps::first_outside(p.access.load, l, d.coordinates)
+            let coordinates = d.coordinates;
+            clamps::first_outside(p.access.load, l, coordinates)
         }
     }
 }
@@ -91,7 +92,7 @@ fn explain_step(
     element: usize,
 ) -> Asked
     requires { ⌜ ClearStep tensors types memory step ⌝ }
-    ensures { λ r. ⌜ (k : ℕ) → r ≡ asked (stepExplained tensors types memory k step) element ⌝ }
+    ensures { λ r. ⌜ ((k : ℕ) → r ≡ asked (stepExplained tensors types memory k step) element) ⌝ }
 {
     match step {
         Step::Nothing => Asked::Nothing,
@@ -127,7 +128,8 @@ fn types_at(sheet: Sheet, memory: usize, n: usize) -> [MatrixType; REGISTERS]
     let mut k: usize = 0;
     while k < n {
         let c = sheet.step[k];
-        let after = checks::step_types(types, c.step);
+        let step = c.step;
+        let after = checks::step_types(types, step);
         types = after;
         k += 1;
     }
@@ -143,7 +145,8 @@ fn explain_sheet(sheet: Sheet, memory: usize, step: usize, element: usize) -> As
     }
     let types = types_at(sheet, memory, step);
     let c = sheet.step[step];
-    explain_step(sheet.tensors, types, memory, c.step, element)
+    let the_step = c.step;
+    explain_step(sheet.tensors, types, memory, the_step, element)
 }
 
 fn refuse(refusal: Refusal) -> ExplainAnswer

@@ -1,6 +1,6 @@
 -- What a pass over the steps of an accepted sheet keeps, over types alone.
 use Prim.Native.Nat.{ℕ, suc, _+_, _-_, _<_, _≤_}
-use mathlib.Core.Path.{_≡_, refl, sym, _∙_}
+use mathlib.Core.Path.{_≡_, refl, sym, ap, _∙_}
 use mathlib.Core.List.{List, [], _++_}
 use native.Mathlib.Nat.{sub-zero}
 use native.Mathlib.Numerals.{add-one}
@@ -81,7 +81,7 @@ module _ (sh : Sheet) (w : Within sh) (len : ℕ) (few : len ≤ memoryLimit) (k
     -- and those are the types at it
     pub types-go : ts ≡ typesAt sh len k → after ≡ typesAt sh len (k + 1)
     unfolding typesAt
-    types-go e = rw (add-one, ← e) types
+    types-go e = rw add-one (types ∙ ap (λ (x : List MatrixType). checkedStep (sh .edition) (sh .tensors) x len step .types) e)
 
     pub pass-go : {A : Type 0} (f : List MatrixType → ℕ → Step → List A) → passRest f sh len k ts ≡ f ts k (theStep (sh .step) k) ++ passRest f sh len (k + 1) after
     pass-go f = pass-on f sh len k ts h types

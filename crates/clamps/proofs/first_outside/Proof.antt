@@ -1,9 +1,8 @@
 use Prim.Native.Nat.{_-_, _<_, _≤_}
 use lib.ListN.{getD}
 use Rattle.sheet.specs.Sizes.{sizeLimit}
-use mathlib.Core.Path.{_≡_, refl, sym, _∙_}
+use mathlib.Core.Path.{sym, _∙_}
 use Rattle.tensor_ranges.specs.Laws.Facts.{layout-most, layout-size}
-use Rattle.outcomes.specs.declared.Side.the-variants.{Inside, Below, Above}
 use Rattle.clamps.specs.Laws.Sides.{outside-end}
 use Rattle.clamps.specs.Sides.{sideAt}
 use Rattle.clamps.proofs.Laws.{Looking, look-start, look-on}
@@ -11,11 +10,6 @@ use borrow.Author.Needs.{needs}
 use native.Mathlib.Omega.{arith}
 use Rattle.clamps.proofs.first_outside.Statement.{statement}
 use Rattle.clamps.proofs.first_outside.Tie as tie
-use Rattle.clamps.proofs.first_outside.Reads as reads
-use Rattle.clamps.proofs.first_outside.Lts as lts
-use Rattle.clamps.proofs.clamp.Reads as clamp-reads
-use Rattle.clamps.proofs.shifted.Reads as shifted-reads
-use Rattle.view_indices.proofs.wide.Reads as wide-reads
 
 abbrev Inv-loop : tie.InvT-loop
 Inv-loop load l coordinates rank mode d₀ d = (d ≤ l .rank) × Looking l coordinates d

@@ -3,7 +3,7 @@ use Prim.Native.Nat.{ℕ, zero, suc, _+_, _-_, _<_, _≤_}
 use mathlib.Core.Path.{_≡_, refl}
 use mathlib.Core.Bool.{Bool}
 use native.Mathlib.Numerals.{add-one}
-use native.Mathlib.Nat.{add-zero, zero-add, not-suc-le-zero}
+use native.Mathlib.Nat.{add-zero}
 use native.Mathlib.Omega.{arith}
 use lib.Dec.{leb}
 use lib.IntN.{ℤ, pos, negsuc}
@@ -14,11 +14,10 @@ use Rattle.outcomes.specs.declared.Side.the-variants.{Inside, Below, Above}
 use Rattle.outcomes.specs.declared.Outside.{Outside}
 use Rattle.outcomes.specs.declared.Outside.the-variants as outside
 use Rattle.sheet.specs.declared.ClampMode.{ClampMode}
-use Rattle.clamps.specs.declared.Clamped.{Clamped}
 use Rattle.clamps.specs.declared.Clamped.the-variants.{At}
 use Rattle.clamps.specs.Clamps.{clamped, sideOf}
 use Rattle.clamps.specs.Sides.{named, outsideFrom}
-use Rattle.clamps.specs.Named.{Leads, First}
+use Rattle.clamps.specs.Named.{First}
 
 -- one turn over n dimensions
 module _ (f : ℕ → Side) (d n : ℕ) where

@@ -1,5 +1,5 @@
 -- Where every dimension is inside, rule 5 gives an index: a filled or discarded element has a dimension outside.
-use Prim.Native.Nat.{ℕ, zero, suc, _+_, _*_, _/_, _%_, _^_, _<_}
+use Prim.Native.Nat.{ℕ, zero, suc, _+_, _*_, _^_, _<_}
 use mathlib.Core.Path.{_≡_, refl}
 use mathlib.Core.Bool.{Bool}
 use mathlib.Core.List.{List}
@@ -17,10 +17,9 @@ use Rattle.clamps.specs.declared.Clamped.{Clamped}
 use Rattle.clamps.specs.declared.Clamped.the-variants.{Refused, Discarded, Filled, At}
 use Rattle.clamps.specs.Clamps.{coordinateOf}
 use Rattle.clamps.specs.Sides.{sideAt, firstOutside}
-use Rattle.clamps.specs.Named.{First}
 use Rattle.clamps.specs.Laws.Sides.{inside-stays}
 use Rattle.clamps.specs.Theorems.{first-named}
-use Rattle.addressing.specs.Rules.{part, plus, tensorIndex, addressed, settled, reached, indexed, landed}
+use Rattle.addressing.specs.Rules.{part, plus, tensorIndex, addressed, settled, reached, landed}
 use Rattle.addressing.specs.declared.Access.{Access}
 use Rattle.addressing.specs.declared.Indexed.{Indexed}
 use Rattle.addressing.specs.declared.Indexed.the-variants.{Skipped, Index}
