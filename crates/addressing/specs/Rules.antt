@@ -6,11 +6,9 @@ use mathlib.Core.List.{List}
 use lib.Dec.{ltb, leb}
 use lib.ListN.{getD}
 use Rattle.numbers.specs.Choice.{pick}
-use Rattle.kinds.specs.Values.{value}
 use Rattle.refusals.specs.Refusals.{indexTooLarge, outsideUndefined, outsideMemory}
 use Rattle.tensor_ranges.specs.Layouts.{theDimension}
 use Rattle.sheet.specs.declared.ClampMode.{ClampMode}
-use Rattle.sheet.specs.declared.ClampMode.the-variants.{Undefined, Constant}
 use Rattle.sheet.specs.declared.Clip.{Clip}
 use Rattle.sheet.specs.declared.Dimension.{Dimension}
 use Rattle.sheet.specs.declared.Layout.{Layout}

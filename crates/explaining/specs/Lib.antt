@@ -1,5 +1,6 @@
 pub mod Elements
 pub mod Explaining
 pub mod Beside
+pub mod Examples
 pub mod Laws
 pub mod Theorems
