@@ -6,8 +6,8 @@
  * registers and, from edition 2 on, multiply a vector in a register by a matrix in memory and add a
  * bias. The library reads sheets, carries them out, translates them into tapes (flat lists of
  * copies) and runs tapes. It answers what a correct device must answer, byte for byte. It also says
- * what becomes of each element of a sheet's loads and stores, and holds a device's trace, the list
- * of what it did, to that.
+ * what becomes of each element of a sheet's loads and stores, and which way it was clamped, and holds
+ * a device's trace, the list of what it did, to that.
  *
  * Link with libmoonbleat.a. The functions keep no state, allocate nothing and may be called from
  * any number of threads, each with arrays of its own.
@@ -25,11 +25,11 @@
  *              vector step reads is not counted); for a running tape those of takes and puts, for
  *              a rewritten sheet or a written trace its length in bytes, for a replayed trace how
  *              many elements loads and stores have, with a byte or without, for counted divisions
- *              their number, for a read sheet 0
+ *              their number, for a read sheet and an outcome 0
  *
  * A refused input changes nothing: memory and the rooms of a tape, a sheet and a trace are as
- * before, counts, records, types, elements and the verdict are all 0, and so is answer[3]. Of an
- * accepted input, what lies past the bytes or numbers written is as before.
+ * before, counts, records, types, elements, the verdict and the outcome are all 0, and so is
+ * answer[3]. Of an accepted input, what lies past the bytes or numbers written is as before.
  *
  * Refusals
  * --------
@@ -47,7 +47,9 @@
  *    5   a number is out of its range, names a layout or a view that is not
  *        given, the permutation is none, or there is a bias offset but no
  *        bias; in a trace, the sort is above 3, or there is a byte but the
- *        sort is not 3                                                       byte of the head
+ *        sort is not 3;                                                      byte of the head
+ *        an outcome is asked of a step that is no load or store, or of an
+ *        element past its matrix                                             step, element
  *    6   the edition is not 1 or 2                                           byte of the head
  *    7   a register that is read is empty                                    step
  *    8   shapes or kinds do not fit each other; a vector step's input is not
@@ -71,15 +73,16 @@
  *
  * If several apply, 18 comes first, then the sheet's fields one by one (each 1, 2, 3, 4, 6, 5),
  * then its steps one by one (each 7 to 11, then 12 to 14 element by element, then 15), then 16, 17
- * or 19, or the trace's fields one by one (each 1, 2, 4, 5, 26). The elements of a vector step go by
- * row, whatever its memory layout, then the bias. A byte of the head is one of the sheet, or of the
- * trace where the sheet itself is accepted; one past 2^32 - 1 is given as 2^32 - 1.
+ * or 19, or what is asked for (5), or the trace's fields one by one (each 1, 2, 4, 5, 26). The
+ * elements of a vector step go by row, whatever its memory layout, then the bias. A byte of the head
+ * is one of the sheet, or of the trace where the sheet itself is accepted; one past 2^32 - 1 is given
+ * as 2^32 - 1.
  *
  * Pointers
  * --------
  * Arrays that are passed to one call must not overlap. A sheet, a memory, a tape, a trace and a room
- * may be NULL where their length is 0; answer, counts, records, types, elements and verdict may
- * never be.
+ * may be NULL where their length is 0; answer, counts, records, types, elements, verdict and outcome
+ * may never be.
  *
  * Stack
  * -----
@@ -101,7 +104,7 @@ extern "C" {
 
 /* The version of this interface: a major one may break callers, a minor one adds to it. */
 #define MOONBLEAT_VERSION_MAJOR 1
-#define MOONBLEAT_VERSION_MINOR 4
+#define MOONBLEAT_VERSION_MINOR 5
 #define MOONBLEAT_VERSION_PATCH 0
 
 /* The newest edition of sheets that is taken, from 1 on. */
@@ -126,6 +129,7 @@ extern "C" {
 #define MOONBLEAT_TRACE_MAX 98304         /* bytes that hold every sheet's trace */
 #define MOONBLEAT_COUNTS 3                /* layouts, views, steps */
 #define MOONBLEAT_VERDICT 2               /* agrees, index */
+#define MOONBLEAT_OUTCOME 4               /* sort, byte or bits, dimension, side */
 #define MOONBLEAT_ANSWER 4                /* number, place, second place, byte-elements */
 #define MOONBLEAT_STACK 40960             /* bytes of stack that are enough for a call */
 
@@ -141,6 +145,14 @@ enum {
 enum {
     MOONBLEAT_AGREES = 0,
     MOONBLEAT_INDEX = 1
+};
+
+/* Places in an outcome. */
+enum {
+    MOONBLEAT_OUTCOME_SORT = 0,
+    MOONBLEAT_OUTCOME_VALUE = 1,
+    MOONBLEAT_OUTCOME_DIMENSION = 2,
+    MOONBLEAT_OUTCOME_SIDE = 3
 };
 
 /* Places in a register's type; the fourth byte is 0. An empty register has four zeros. */
@@ -194,12 +206,19 @@ enum {
     MOONBLEAT_TAG_ACCESS = 0x30
 };
 
-/* Sorts of an access: what becomes of an element of a load or a store. */
+/* Sorts of an access and of an outcome: what becomes of an element of a load or a store. */
 enum {
     MOONBLEAT_SORT_SKIPPED = 0,   /* outside the view's clip */
     MOONBLEAT_SORT_FILLED = 1,    /* outside the tensor, on a load: gets the clamp value */
     MOONBLEAT_SORT_DISCARDED = 2, /* outside the tensor, on a store: does nothing */
     MOONBLEAT_SORT_BYTE = 3       /* has a byte, its first one in memory; of the others the byte is 0 */
+};
+
+/* Sides of an outcome: on which one of its dimension the element's coordinate lies. */
+enum {
+    MOONBLEAT_SIDE_INSIDE = 0, /* no dimension is outside */
+    MOONBLEAT_SIDE_BELOW = 1,  /* below 0 */
+    MOONBLEAT_SIDE_ABOVE = 2   /* at or above the dimension's size */
 };
 
 /* In place of a load's object or of a view: none. */
@@ -348,6 +367,26 @@ uint32_t moonbleat_replay(const uint8_t *sheet, size_t sheet_len, size_t memory_
  * gives them.
  */
 uint32_t moonbleat_divisions(const uint8_t *sheet, size_t sheet_len, size_t memory_len, uint32_t answer[4]);
+
+/*
+ * Says what becomes of one element of a sheet's load or store on a memory of some length, without a
+ * memory, and which way it was clamped. Steps and elements are counted as in a trace. On success
+ * outcome[] is
+ *
+ *   outcome[0]  its sort, as in a trace
+ *   outcome[1]  its byte, or, of a filled element, the bits that it gets; of the other sorts 0
+ *   outcome[2]  the first dimension of its layout, from 0 on, in which it lies outside the tensor
+ *   outcome[3]  on which side: its coordinate there, the offset added, is below 0 or at or above the
+ *               dimension's size
+ *
+ * A filled or discarded element has a dimension and a side, and so has a load's element whose byte
+ * comes from the clamp mode (the edge, a repetition, a mirror image). One that is inside in every
+ * dimension, and a skipped one, have 0 and MOONBLEAT_SIDE_INSIDE. Refusals 18 and 1 to 15, as
+ * moonbleat_check gives them, then 5 at the step and the element that were asked for, whatever they
+ * are: where moonbleat_check accepts the sheet, a 5 is this one.
+ */
+uint32_t moonbleat_outcome(const uint8_t *sheet, size_t sheet_len, size_t memory_len, uint32_t step,
+                           uint32_t element, uint32_t outcome[4], uint32_t answer[4]);
 
 #ifdef __cplusplus
 }
