@@ -1,7 +1,5 @@
 #include "places.h"
 
-#include "moonbleat.h"
-
 /* The numbers of a part's repetition stand in its order. */
 static const struct value *part_values(const struct values *values, size_t part, unsigned dimension)
 {
@@ -15,6 +13,7 @@ static const struct value *part_values(const struct values *values, size_t part,
 struct layout layout_of(const struct values *values)
 {
     struct layout layout = {.count = value_of_sort(values, COUNT), .mode = value_of_sort(values, MODE)};
+    layout.value = part_values(values, 0, 0)[2].raw;
     for (unsigned i = 0; i < layout.count; i++) {
         const struct value *value = part_values(values, 1, i);
         layout.dimensions[i].block = value[0].raw;
@@ -24,43 +23,6 @@ struct layout layout_of(const struct values *values)
         layout.dimensions[i].span = value[4].raw;
     }
     return layout;
-}
-
-struct view view_of(const struct values *values)
-{
-    struct view view = {.count = value_of_sort(values, COUNT), .sized = value_of_sort(values, SIZED) == 1};
-    for (unsigned i = 0; i < view.count; i++) {
-        view.permutation[i] = part_values(values, 1, i)->raw;
-        if (view.sized) {
-            const struct value *value = part_values(values, 2, i);
-            view.sizes[i] = value[0].raw;
-            view.strides[i] = value[1].raw;
-        }
-    }
-    const struct value *clip = part_values(values, 3, 0);
-    view.row_offset = clip[0].raw;
-    view.row_span = clip[1].raw;
-    view.column_offset = clip[2].raw;
-    view.column_span = clip[3].raw;
-    return view;
-}
-
-/* Rule 1: the index of an element; false if it is clipped. */
-static bool matrix_index(const struct access *access, unsigned element, uint64_t *index)
-{
-    const struct view *view = &access->view;
-    uint64_t row = element / access->columns, column = element % access->columns;
-    if (!access->has_view) {
-        *index = element;
-        return true;
-    }
-    if (row < view->row_offset || row >= view->row_offset + view->row_span || column < view->column_offset ||
-        column >= view->column_offset + view->column_span) {
-        return false;
-    }
-    uint64_t width = access->columns < view->column_span ? access->columns : view->column_span;
-    *index = (row - view->row_offset) * width + column - view->column_offset;
-    return true;
 }
 
 /* A view without dimensions takes the layout's spans, row-major. */
@@ -74,23 +36,116 @@ static void take_spans(struct view *view, const struct layout *layout)
     }
 }
 
-/* Rule 2: the index through the view's dimensions. */
-static uint64_t view_index(const struct access *access, uint64_t index)
+struct view view_of(const struct values *values, const struct layout *layout)
 {
-    if (!access->has_view) {
-        return index;
+    struct view view = {.count = value_of_sort(values, COUNT), .sized = value_of_sort(values, SIZED) == 1};
+    for (unsigned i = 0; i < view.count; i++) {
+        view.permutation[i] = part_values(values, 1, i)->raw;
+        if (view.sized) {
+            const struct value *value = part_values(values, 2, i);
+            view.sizes[i] = value[0].raw;
+            view.strides[i] = value[1].raw;
+        }
     }
-    struct view view = access->view;
     if (!view.sized) {
-        take_spans(&view, &access->layout);
+        take_spans(&view, layout);
     }
-    uint64_t sum = 0;
-    for (unsigned i = view.count; i > 0; i--) {
-        unsigned dimension = view.permutation[i - 1];
-        sum += index % view.sizes[dimension] * view.strides[dimension];
-        index /= view.sizes[dimension];
+    const struct value *clip = part_values(values, 3, 0);
+    view.rows = (struct clip){clip[0].raw, clip[1].raw};
+    view.columns = (struct clip){clip[2].raw, clip[3].raw};
+    return view;
+}
+
+enum bound bound_of(const struct clip *clip, uint64_t position)
+{
+    if (position < clip->offset) {
+        return BEFORE;
     }
-    return sum;
+    return position < clip->offset + clip->span ? WITHIN : BEHIND;
+}
+
+uint64_t clipped_width(const struct access *access)
+{
+    return access->columns < access->view.columns.span ? access->columns : access->view.columns.span;
+}
+
+/* Rule 1: the index of an element; false if it is clipped. */
+static bool find_matrix_index(const struct access *access, unsigned element, struct place *place)
+{
+    const struct view *view = &access->view;
+    uint64_t row = element / access->columns, column = element % access->columns;
+    if (!access->has_view) {
+        place->matrix_index = element;
+        return true;
+    }
+    if (bound_of(&view->rows, row) != WITHIN || bound_of(&view->columns, column) != WITHIN) {
+        return false;
+    }
+    place->matrix_index = (row - view->rows.offset) * clipped_width(access) + column - view->columns.offset;
+    return true;
+}
+
+/* Takes an index apart by a size; gives what is left of it. */
+static uint64_t divide(uint64_t index, uint64_t size, struct division *division)
+{
+    *division = (struct division){index, size, index % size, index / size};
+    return division->left;
+}
+
+/* Rule 2: the index through the view's dimensions. */
+static void find_index(const struct access *access, struct place *place)
+{
+    const struct view *view = &access->view;
+    if (!access->has_view) {
+        place->index = place->matrix_index;
+        return;
+    }
+    uint64_t left = place->matrix_index;
+    for (unsigned i = view->count; i > 0; i--) {
+        unsigned dimension = view->permutation[i - 1];
+        left = divide(left, view->sizes[dimension], &place->view[dimension]);
+        place->index += place->view[dimension].coordinate * view->strides[dimension];
+    }
+}
+
+static uint32_t side_of(int64_t coordinate, int64_t size)
+{
+    if (coordinate < 0) {
+        return MOONBLEAT_SIDE_BELOW;
+    }
+    return coordinate < size ? MOONBLEAT_SIDE_INSIDE : MOONBLEAT_SIDE_ABOVE;
+}
+
+/* Rules 3 and 4: the coordinates. Rule 3 goes from the last dimension to the first, rule 4 names the
+ * first one outside. */
+static void find_coordinates(const struct layout *layout, struct place *place)
+{
+    uint64_t left = place->index;
+    for (unsigned i = layout->count; i > 0; i--) {
+        struct coordinate *coordinate = &place->coordinates[i - 1];
+        left = divide(left, (uint64_t)layout->dimensions[i - 1].span, &place->spans[i - 1]);
+        coordinate->given = (int64_t)place->spans[i - 1].coordinate + layout->dimensions[i - 1].offset;
+        coordinate->side = side_of(coordinate->given, layout->dimensions[i - 1].size);
+        if (coordinate->side != MOONBLEAT_SIDE_INSIDE) {
+            place->dimension = i - 1;
+            place->side = coordinate->side;
+        }
+    }
+}
+
+/* What becomes of an element by its coordinates. */
+static enum outcome outcome_of(const struct access *access, const struct place *place)
+{
+    if (place->side == MOONBLEAT_SIDE_INSIDE) {
+        return PLACED;
+    }
+    if (access->layout.mode == MOONBLEAT_CLAMP_UNDEFINED) {
+        return OUTSIDE;
+    }
+    if (access->is_store) {
+        return DISCARDED;
+    }
+    return access->layout.mode == MOONBLEAT_CLAMP_CONSTANT ? FILLED : PLACED;
 }
 
 /* A remainder with the divisor's sign. */
@@ -115,45 +170,44 @@ static int64_t clamped(uint32_t mode, int64_t coordinate, int64_t size)
     }
 }
 
-/* What becomes of an element that lies outside in some dimension. */
-static enum outcome outside(const struct access *access)
+/* Rule 5. */
+static void find_byte(const struct access *access, struct place *place)
 {
-    if (access->layout.mode == MOONBLEAT_CLAMP_UNDEFINED) {
-        return OUTSIDE;
+    const struct layout *layout = &access->layout;
+    for (unsigned i = 0; i < layout->count; i++) {
+        struct coordinate *coordinate = &place->coordinates[i];
+        coordinate->kept = coordinate->side == MOONBLEAT_SIDE_INSIDE
+                               ? coordinate->given
+                               : clamped(layout->mode, coordinate->given, layout->dimensions[i].size);
+        place->tensor_index +=
+            (uint64_t)(coordinate->kept / layout->dimensions[i].block * layout->dimensions[i].stride);
     }
-    if (access->is_store) {
-        return DISCARDED;
-    }
-    return access->layout.mode == MOONBLEAT_CLAMP_CONSTANT ? FILLED : PLACED;
+    place->byte = access->base + place->tensor_index * access->size;
+}
+
+/* The low bits of a number, as many as some bytes have. */
+static uint32_t low_bits(uint32_t number, unsigned size)
+{
+    return number & UINT32_MAX >> (8 * (sizeof number - size));
 }
 
 struct place place_of(const struct access *access, unsigned element)
 {
-    const struct layout *layout = &access->layout;
     struct place place = {.outcome = SKIPPED};
-    if (!matrix_index(access, element, &place.index)) {
+    if (!find_matrix_index(access, element, &place)) {
         return place;
     }
-    place.index = view_index(access, place.index);
+    find_index(access, &place);
     if (place.index > UINT32_MAX) {
         place.outcome = INDEX_TOO_LARGE;
         return place;
     }
-    /* Rule 3 goes from the last dimension to the first, rule 4 names the first one outside. */
-    place.outcome = PLACED;
-    int64_t rest = (int64_t)place.index, tensor_index = 0;
-    for (unsigned i = layout->count; i > 0; i--) {
-        int64_t size = layout->dimensions[i - 1].size;
-        int64_t coordinate = rest % layout->dimensions[i - 1].span + layout->dimensions[i - 1].offset;
-        rest /= layout->dimensions[i - 1].span;
-        if (coordinate < 0 || coordinate >= size) {
-            place.outcome = outside(access);
-            place.dimension = i - 1;
-            place.coordinate = coordinate;
-            coordinate = clamped(layout->mode, coordinate, size);
-        }
-        tensor_index += coordinate / layout->dimensions[i - 1].block * layout->dimensions[i - 1].stride;
+    find_coordinates(&access->layout, &place);
+    place.outcome = outcome_of(access, &place);
+    if (place.outcome == FILLED) {
+        place.bits = low_bits(access->layout.value, access->size);
+    } else if (place.outcome == PLACED) {
+        find_byte(access, &place);
     }
-    place.byte = access->base + (uint64_t)tensor_index * access->size;
     return place;
 }

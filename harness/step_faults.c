@@ -7,50 +7,9 @@
 #include "places.h"
 #include "vectors.h"
 
-/* The field of a rank and a number. */
-static bool find_field(const struct refused *refused, enum rank rank, uint32_t number, struct field *field)
-{
-    uint32_t before = 0;
-    for (size_t at = 0; field_at(refused->sheet, refused->sheet_len, at, field); at = field_end(field)) {
-        if (field->form == NULL) {
-            return false;
-        }
-        if (field->form->rank == rank && before++ == number) {
-            return true;
-        }
-    }
-    return false;
-}
-
-bool find_step(const struct refused *refused, uint32_t number, struct step *step)
-{
-    if (!find_field(refused, STEP_RANK, number, &step->field)) {
-        return false;
-    }
-    field_values(&step->field, &step->values);
-    return true;
-}
-
-/* The types before a step: the steps before it are carried out, and no byte of a memory changes a
- * type. */
-static bool find_types(const struct refused *refused, struct step *step)
-{
-    static uint8_t memory[MOONBLEAT_MEMORY_MAX];
-    static uint32_t elements[MOONBLEAT_ELEMENTS];
-    uint32_t answer[MOONBLEAT_ANSWER] = {0};
-    return refused->memory_len <= MOONBLEAT_MEMORY_MAX &&
-           moonbleat_carry_out(refused->sheet, step->field.at, memory, refused->memory_len, step->types, elements,
-                               answer) == 0;
-}
-
-static const uint8_t *type_of(const struct step *step, uint32_t number)
-{
-    return step->types + (size_t)MOONBLEAT_TYPE_BYTES * (number % MOONBLEAT_REGISTERS);
-}
-
 static bool is_empty(const struct step *step, uint32_t number)
 {
-    return type_of(step, number)[MOONBLEAT_TYPE_ROWS] == 0;
+    return register_type(step, number)[MOONBLEAT_TYPE_ROWS] == 0;
 }
 
 bool find_empty_register(const struct step *step, struct text *cause)
@@ -71,7 +30,7 @@ bool find_empty_register(const struct step *step, struct text *cause)
 
 static void add_type(struct text *text, const struct step *step, uint32_t number)
 {
-    const uint8_t *type = type_of(step, number);
+    const uint8_t *type = register_type(step, number);
     add_text(text, "register %" PRIu32 " (%ux%u %s)", number, (unsigned)type[MOONBLEAT_TYPE_ROWS],
              (unsigned)type[MOONBLEAT_TYPE_COLUMNS], kind_name(type[MOONBLEAT_TYPE_KIND]));
 }
@@ -100,7 +59,7 @@ static bool find_reduce_fault(const struct step *step, struct text *cause)
     };
     uint32_t mode = value_of_sort(&step->values, MODE), source = value_of_sort(&step->values, REGISTER);
     uint32_t rows = value_of_sort(&step->values, ROWS), columns = value_of_sort(&step->values, COLUMNS);
-    if (reduce_fits(mode, rows, columns, type_of(step, source))) {
+    if (reduce_fits(mode, rows, columns, register_type(step, source))) {
         return false;
     }
     add_text(cause, "a result of %" PRIu32 "x%" PRIu32 " of ", rows, columns);
@@ -113,8 +72,8 @@ static bool find_multiply_fault(const struct step *step, struct text *cause)
 {
     enum { RESULT_AT, A_AT, B_AT, C_AT };
     const struct value *values = step->values.at;
-    const uint8_t *a = type_of(step, values[A_AT].raw), *b = type_of(step, values[B_AT].raw),
-                  *c = type_of(step, values[C_AT].raw);
+    const uint8_t *a = register_type(step, values[A_AT].raw), *b = register_type(step, values[B_AT].raw),
+                  *c = register_type(step, values[C_AT].raw);
     bool sides_fit = a[MOONBLEAT_TYPE_ROWS] == c[MOONBLEAT_TYPE_ROWS] &&
                      a[MOONBLEAT_TYPE_COLUMNS] == b[MOONBLEAT_TYPE_ROWS] &&
                      b[MOONBLEAT_TYPE_COLUMNS] == c[MOONBLEAT_TYPE_COLUMNS];
@@ -130,7 +89,7 @@ static bool find_multiply_fault(const struct step *step, struct text *cause)
 static bool find_input_fault(const struct step *step, struct text *cause)
 {
     struct vector vector = vector_of(&step->values);
-    const uint8_t *type = type_of(step, vector.input);
+    const uint8_t *type = register_type(step, vector.input);
     bool packed = is_packed(vector.interpretation);
     bool sides_fit = type[MOONBLEAT_TYPE_ROWS] == input_rows(&vector) && type[MOONBLEAT_TYPE_COLUMNS] == 1;
     if (sides_fit && (!packed || type[MOONBLEAT_TYPE_KIND] == MOONBLEAT_U32)) {
@@ -187,41 +146,6 @@ bool find_operand_fault(const struct step *step, size_t memory_len, unsigned *el
     return true;
 }
 
-/* The register whose type a load or a store goes by. */
-static uint32_t matrix_of(const struct step *step)
-{
-    uint32_t object = value_of_sort(&step->values, OBJECT);
-    if (step->field.tag == MOONBLEAT_TAG_STORE) {
-        return value_of_sort(&step->values, REGISTER);
-    }
-    return object == MOONBLEAT_NONE ? value_of_sort(&step->values, RESULT) : object;
-}
-
-/* What a load or a store addresses with. */
-static bool find_access(const struct refused *refused, const struct step *step, struct access *access)
-{
-    struct field layout, view;
-    struct values values;
-    uint32_t view_number = value_of_sort(&step->values, VIEW);
-    access->is_store = step->field.tag == MOONBLEAT_TAG_STORE;
-    access->has_view = view_number != MOONBLEAT_NONE;
-    if (!find_field(refused, LAYOUT_RANK, value_of_sort(&step->values, LAYOUT), &layout) ||
-        (access->has_view && !find_field(refused, VIEW_RANK, view_number, &view))) {
-        return false;
-    }
-    field_values(&layout, &values);
-    access->layout = layout_of(&values);
-    if (access->has_view) {
-        field_values(&view, &values);
-        access->view = view_of(&values);
-    }
-    const uint8_t *type = type_of(step, matrix_of(step));
-    access->base = step->values.at[step->values.count - 1].raw;
-    access->columns = type[MOONBLEAT_TYPE_COLUMNS];
-    access->size = kind_bits(type[MOONBLEAT_TYPE_KIND]) / 8;
-    return access->columns > 0;
-}
-
 static bool find_base_fault(const struct access *access, struct text *cause)
 {
     add_text(cause, "base %" PRIu64 " is not a multiple of 16", access->base);
@@ -258,7 +182,8 @@ static bool find_outside_fault(const struct access *access, const struct place *
 {
     add_text(cause, ": coordinate %" PRId64 " of dimension %u is not within 0 to %" PRId64
                     ", and the clamp mode is Undefined",
-             place->coordinate, place->dimension, access->layout.dimensions[place->dimension].size - 1);
+             place->coordinates[place->dimension].given, place->dimension,
+             access->layout.dimensions[place->dimension].size - 1);
     return place->outcome == OUTSIDE;
 }
 

@@ -3,18 +3,7 @@
 #define STEP_FAULTS_H
 
 #include "diagnose.h"
-#include "fields.h"
-#include "moonbleat.h"
-
-/* A step, its numbers, and the registers' types before it. */
-struct step {
-    struct field field;
-    struct values values;
-    uint8_t types[MOONBLEAT_TYPES];
-};
-
-/* The step of a number, without the types; false if the sheet has none. */
-bool find_step(const struct refused *refused, uint32_t number, struct step *step);
+#include "steps.h"
 
 /* Refusals 7, 8 and, of a vector step, 14 of a step whose types are known; false if it gets none. */
 bool find_empty_register(const struct step *step, struct text *cause);

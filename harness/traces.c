@@ -4,7 +4,7 @@
 
 #include "fields.h"
 #include "moonbleat.h"
-#include "step_faults.h"
+#include "steps.h"
 
 struct entry entry_of(const uint8_t *content)
 {
