@@ -27,7 +27,7 @@ struct command {
 };
 
 extern const struct command asm_command, show_command, check_command, run_command, tape_command, run_tape_command,
-    trace_command, replay_command, divisions_command, diff_command, night_command, help_command;
+    trace_command, replay_command, divisions_command, where_command, diff_command, night_command, help_command;
 
 /* All commands in the help's order, NULL behind the last. */
 extern const struct command *const commands[];

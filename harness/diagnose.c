@@ -3,6 +3,7 @@
 #include "fields.h"
 #include "judge.h"
 #include "moonbleat.h"
+#include "question_faults.h"
 #include "record_faults.h"
 #include "step_faults.h"
 #include "trace_faults.h"
@@ -37,6 +38,9 @@ bool diagnose(const struct refused *refused, struct text *cause)
     *cause = (struct text){.len = 0};
     if (refused->trace != NULL) {
         return find_trace_fault(refused, cause);
+    }
+    if (refused->of_question) {
+        return find_question_fault(refused, cause);
     }
     if (number <= MOONBLEAT_REFUSED_EDITION) {
         return find_field_fault(refused, cause);

@@ -9,7 +9,7 @@
 
 /* -- Names ------------------------------------------------------------------------------------ */
 
-static const char *clamp_mode_name(uint32_t mode)
+const char *clamp_mode_name(uint32_t mode)
 {
     static const char *const names[] = {
         [MOONBLEAT_CLAMP_UNDEFINED] = "Undefined",   [MOONBLEAT_CLAMP_CONSTANT] = "Constant",

@@ -136,6 +136,9 @@ char prefix_of(enum sort sort);
 /* Whether a number follows from the others of its text: it is not written there. */
 bool is_computed(enum sort sort);
 
+/* The name of a clamp mode; NULL if there is none. */
+const char *clamp_mode_name(uint32_t mode);
+
 /* What stands in place of an object or a view that there is none of. */
 #define NONE_WORD "none"
 

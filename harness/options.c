@@ -13,6 +13,7 @@
 
 const struct option_form option_forms[OPTIONS] = {
     [OPTION_MEMORY] = {"--memory", "N", "the memory's length in bytes, decimal or 0x and hex; 65536 if not given"},
+    [OPTION_ELEMENT] = {"--element", "E", "tell the way of one element: its number, or ROW,COLUMN"},
     [OPTION_OUT] = {"-o", "OUT",
                     "write what comes out to OUT: the memory afterwards, the sheet of asm, the trace, or the report of "
                     "night"},

@@ -8,6 +8,7 @@
 /* Every option that some command takes; its row is in options.c. */
 enum option {
     OPTION_MEMORY,
+    OPTION_ELEMENT,
     OPTION_OUT,
     OPTION_REGISTERS,
     OPTION_JSON,

@@ -18,7 +18,7 @@ static const struct refusal {
     [MOONBLEAT_REFUSED_TAG] = {BYTE, "the field's tag is not one that the sheet's edition, or a trace, has"},
     [MOONBLEAT_REFUSED_ORDER] = {BYTE, "a field is out of order, repeated or one too many, or there is no edition"},
     [MOONBLEAT_REFUSED_LENGTH] = {BYTE, "the field's length is not one that its tag has"},
-    [MOONBLEAT_REFUSED_NUMBER] = {BYTE, "a number of the field is out of its range"},
+    [MOONBLEAT_REFUSED_NUMBER] = {BYTE, "a number of the field, or what is asked for, is out of its range"},
     [MOONBLEAT_REFUSED_EDITION] = {BYTE, "the edition is not a known one"},
     [MOONBLEAT_REFUSED_EMPTY_REGISTER] = {STEP, "a register that the step reads is empty"},
     [MOONBLEAT_REFUSED_SHAPE] = {STEP, "shapes or kinds of the step's matrices do not fit"},
@@ -47,7 +47,7 @@ struct text refusal_place(const struct refused *refused)
     static const char *const names[] = {
         [NOTHING] = "", [BYTE] = "byte", [STEP] = "step", [ELEMENT] = "step", [RECORD] = "record"};
     const uint32_t *answer = refused->answer;
-    enum place place = find_refusal(answer[MOONBLEAT_NUMBER])->place;
+    enum place place = refused->of_question ? ELEMENT : find_refusal(answer[MOONBLEAT_NUMBER])->place;
     struct text text = {.len = 0};
     if (place != NOTHING) {
         add_text(&text, "%s %" PRIu32, names[place], answer[MOONBLEAT_PLACE]);

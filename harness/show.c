@@ -73,7 +73,7 @@ static void show_bytes(FILE *file, const uint8_t *bytes, size_t len)
     fputs(len > SHOWN ? " ..\n" : "\n", file);
 }
 
-static void show_field(FILE *file, const struct field *field, const struct reading *reading)
+void show_field(FILE *file, const struct field *field, unsigned number)
 {
     struct values values;
     if (field->form == NULL) {
@@ -83,7 +83,7 @@ static void show_field(FILE *file, const struct field *field, const struct readi
     }
     field_values(field, &values);
     if (field->form->rank != EDITION_RANK) {
-        fprintf(file, "%s %u: ", rank_forms[field->form->rank].name, reading->counts[field->form->rank]);
+        fprintf(file, "%s %u: ", rank_forms[field->form->rank].name, number);
     }
     show_part(file, &field->form->parts[0], &values, 0);
     for (size_t i = field->form->parts[0].count; i < values.count; i++) {
@@ -101,12 +101,18 @@ static void show_field(FILE *file, const struct field *field, const struct readi
     fputc('\n', file);
 }
 
+/* How many fields of a field's rank came before it. */
+static unsigned number_in(const struct reading *reading, const struct field *field)
+{
+    return field->form == NULL ? 0 : reading->counts[field->form->rank];
+}
+
 /* Prints fields from a byte on to one that is at `end` or makes no sense; gives its byte. */
 static size_t show_fields(FILE *file, const uint8_t *sheet, size_t sheet_len, size_t at, size_t end, struct reading *reading)
 {
     struct field field;
     while (at < end && field_at(sheet, sheet_len, at, &field) && field.form != NULL) {
-        show_field(file, &field, reading);
+        show_field(file, &field, number_in(reading, &field));
         note_field(reading, &field);
         at = field_end(&field);
     }
@@ -125,7 +131,7 @@ void show_refused_sheet(FILE *file, const uint8_t *sheet, size_t sheet_len, size
     struct field field;
     size_t at = show_fields(file, sheet, sheet_len, 0, refused, &reading);
     if (field_at(sheet, sheet_len, at, &field)) {
-        show_field(file, &field, &reading);
+        show_field(file, &field, number_in(&reading, &field));
         if (field.form != NULL) {
             note_field(&reading, &field);
         }

@@ -6,6 +6,11 @@
 #include <stdint.h>
 #include <stdio.h>
 
+#include "fields.h"
+
+/* Prints a field, which has a number among those of its rank. */
+void show_field(FILE *file, const struct field *field, unsigned number);
+
 /* Prints the fields of a sheet that the library reads. */
 void show_sheet(FILE *file, const uint8_t *sheet, size_t sheet_len);
 

@@ -1,0 +1,53 @@
+#include "where.h"
+
+#include <inttypes.h>
+#include <stdio.h>
+
+#include "kinds.h"
+#include "show.h"
+
+bool find_where(const struct refused *asked, uint32_t number, struct where *where)
+{
+    where->asked = asked;
+    where->number = number;
+    return find_step(asked, number, &where->step) && is_access(&where->step) && find_types(asked, &where->step) &&
+           find_access(asked, &where->step, &where->access);
+}
+
+unsigned element_count(const struct where *where)
+{
+    return where->access.rows * where->access.columns;
+}
+
+static void complain_of_itself(const struct where *where, unsigned element, const struct told *told,
+                               const struct told *worked)
+{
+    struct text by_library = {.len = 0}, by_tool = {.len = 0};
+    add_outcome(&by_library, where->access.kind, told);
+    add_outcome(&by_tool, where->access.kind, worked);
+    fprintf(stderr, "moonbleat: step %" PRIu32 ", element %u: the library says %s\n", where->number, element,
+            by_library.at);
+    fprintf(stderr, "moonbleat: this tool works out %s: a fault in the tool\n", by_tool.at);
+}
+
+bool find_outcome(const struct where *where, unsigned element, struct told *told, struct place *place)
+{
+    uint32_t answer[MOONBLEAT_ANSWER];
+    uint32_t number = moonbleat_outcome(where->asked->sheet, where->asked->sheet_len, where->asked->memory_len,
+                                        where->number, element, told->numbers, answer);
+    *place = place_of(&where->access, element);
+    struct told worked = told_by(place);
+    if (number == 0 && same_outcome(told, &worked)) {
+        return true;
+    }
+    complain_of_itself(where, element, told, &worked);
+    return false;
+}
+
+void print_step(const struct where *where)
+{
+    const struct access *access = &where->access;
+    show_field(stdout, &where->step.field, where->number);
+    printf("matrix %u by %u of %s, clamp mode %s\n", access->rows, access->columns, kind_name(access->kind),
+           clamp_mode_name(access->layout.mode));
+}

@@ -1,0 +1,45 @@
+/* Where the elements of a load or a store go: as a map, and one element's way rule by rule. */
+#ifndef WHERE_H
+#define WHERE_H
+
+#include "outcomes.h"
+#include "steps.h"
+
+/* A load or a store of an accepted sheet. */
+struct where {
+    const struct refused *asked; /* the sheet, and the memory's length */
+    uint32_t number;             /* of the step */
+    struct step step;
+    struct access access;
+};
+
+/* Finds the load or the store of a number in an accepted sheet; false if there is none. */
+bool find_where(const struct refused *asked, uint32_t number, struct where *where);
+
+/* How many elements its matrix has. */
+unsigned element_count(const struct where *where);
+
+/* Asks the library for the outcome of an element, and works out its place. The two must be the same;
+ * false if they are not, which is a fault in this tool and told on standard error. */
+bool find_outcome(const struct where *where, unsigned element, struct told *told, struct place *place);
+
+/* Prints what the step is: two lines. */
+void print_step(const struct where *where);
+
+/* Prints the map of the matrix, a cell an element, then what its signs mean, then a summary. */
+void print_map(const struct where *where, const struct told *outcomes);
+
+/* The lines of a way: the element, two of rule 1, one for each dimension of rules 2 to 4, one more of
+ * rule 2, two of rule 5, and the outcome. */
+enum { WAY_LINES_MAX = 3 * DIMENSIONS_MAX + 7 };
+
+struct way {
+    struct text lines[WAY_LINES_MAX];
+    size_t count;
+};
+
+/* Tells the way of an element, rule by rule, to its outcome. */
+void tell_way(const struct where *where, unsigned element, const struct place *place, const struct told *told,
+              struct way *way);
+
+#endif
