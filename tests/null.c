@@ -12,6 +12,7 @@ struct result {
     uint32_t counts[MOONBLEAT_COUNTS];
     uint32_t records[1];
     uint32_t verdict[MOONBLEAT_VERDICT];
+    uint32_t outcome[MOONBLEAT_OUTCOME];
     uint8_t types[MOONBLEAT_TYPES];
     uint32_t elements[MOONBLEAT_ELEMENTS];
     uint32_t answer[MOONBLEAT_ANSWER];
@@ -145,6 +146,12 @@ static void divisions_of_nothing(uint8_t *nothing, int32_t *no_numbers, struct r
     result->returned = moonbleat_divisions(nothing, 0, 0, result->answer);
 }
 
+static void outcome_of_nothing(uint8_t *nothing, int32_t *no_numbers, struct result *result)
+{
+    (void)no_numbers;
+    result->returned = moonbleat_outcome(nothing, 0, 0, 0, 0, result->outcome, result->answer);
+}
+
 static const struct {
     const char *name;
     call *call;
@@ -168,6 +175,7 @@ static const struct {
     {"replay nothing", replay_nothing, 0},
     {"replay nothing for no access", replay_nothing_for_no_access, 0},
     {"divisions of nothing", divisions_of_nothing, MOONBLEAT_REFUSED_ORDER},
+    {"outcome of nothing", outcome_of_nothing, MOONBLEAT_REFUSED_ORDER},
 };
 
 enum { CASES = sizeof cases / sizeof cases[0], GARBAGE = 0xA5 };

@@ -13,6 +13,7 @@
 
 #include "files.h"
 #include "moonbleat.h"
+#include "traces.h"
 
 enum { STACK = 1 << 18, PAINT = 0xA5 };
 
@@ -26,6 +27,7 @@ static struct {
     uint8_t trace[MOONBLEAT_TRACE_MAX];
     size_t trace_len;
     uint32_t verdict[MOONBLEAT_VERDICT];
+    uint32_t outcome[MOONBLEAT_OUTCOME];
     uint32_t counts[MOONBLEAT_COUNTS];
     uint8_t types[MOONBLEAT_TYPES];
     uint32_t elements[MOONBLEAT_ELEMENTS];
@@ -84,6 +86,18 @@ static void do_divisions(void)
     moonbleat_divisions(lent.sheet.at, lent.sheet.len, sizeof lent.memory, lent.answer);
 }
 
+/* The last load or store of the sheet, and its last element, by the trace that was made of it; without
+ * one, step 0. */
+static void do_outcome(void)
+{
+    struct entry last = {.step = 0};
+    if (lent.trace_len > 0) {
+        last = entry_at(lent.trace, lent.trace_len / MOONBLEAT_ACCESS_BYTES - 1);
+    }
+    moonbleat_outcome(lent.sheet.at, lent.sheet.len, sizeof lent.memory, last.step, last.element, lent.outcome,
+                      lent.answer);
+}
+
 static struct {
     const char *name;
     void (*call)(void);
@@ -93,7 +107,7 @@ static struct {
     {"moonbleat_check", do_check, 0},         {"moonbleat_carry_out", do_carry_out, 0},
     {"moonbleat_translate", do_translate, 0}, {"moonbleat_run", do_run, 0},
     {"moonbleat_trace", do_trace, 0},         {"moonbleat_replay", do_replay, 0},
-    {"moonbleat_divisions", do_divisions, 0},
+    {"moonbleat_divisions", do_divisions, 0}, {"moonbleat_outcome", do_outcome, 0},
 };
 
 enum { FUNCTIONS = sizeof functions / sizeof functions[0] };
