@@ -132,17 +132,20 @@ demo: all
 
 tool-test: all
 	tests/tool.sh $(TOOL)
+	tests/where.sh $(TOOL)
 	tests/examples.sh $(TOOL)
 	tests/night.sh $(TOOL)
 
-test: tool-test $(TOOL)/test-null $(TOOL)/test-stack $(SHEET_FILES)
+test: tool-test $(addprefix $(TOOL)/test-,null outcome stack) $(SHEET_FILES)
 	$(TOOL)/test-null
+	$(TOOL)/test-outcome
 	$(TOOL)/test-stack $(SHEET_FILES)/00???-*.sheet
 	tests/install.sh
 
 memcheck: all
 	$(MAKE) $(SANITIZED) tool-test
 	RUNNER='$(VALGRIND) $(LEAKS)' EVERY=3 tests/tool.sh $(TOOL)
+	RUNNER='$(VALGRIND) $(LEAKS)' EVERY=3 tests/where.sh $(TOOL)
 	RUNNER='$(VALGRIND) $(LEAKS)' EVERY=9 tests/night.sh $(TOOL)
 	CARGO_TARGET_X86_64_UNKNOWN_LINUX_GNU_RUNNER='$(VALGRIND)' $(CARGO) run $(CARGO_WORDS) -- --sheets 500
 

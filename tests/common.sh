@@ -104,3 +104,16 @@ contains() {
         fail "$2 does not have '$1'"
     fi
 }
+
+# json FILTER WORD..: of the command with --json standard output must be one object on one line in which the
+# filter is true, and standard error empty.
+json() {
+    filter=$1
+    shift
+    "$@" --json
+    if [ "$(wc -l < stdout)" -eq 1 ] && [ ! -s stderr ] && jq -e "$filter" < stdout > answer 2>&1; then
+        pass
+    else
+        fail "$*: not so in JSON: $filter: $(head -c 300 stdout)"
+    fi
+}

@@ -4,7 +4,9 @@
  *   - the text of a sheet, of a refused one too, assembles to the sheet's bytes;
  *   - every sheet is shown;
  *   - of a refused sheet the cause is found, and of an accepted one's tape with one number changed and
- *     its trace with one byte changed or the end cut off.
+ *     its trace with one byte changed or the end cut off;
+ *   - of some elements of an accepted sheet's loads and stores the way is told, to the library's outcome,
+ *     which has what the trace has, and a changed outcome is noticed.
  *
  *   sheets FOLDER
  */
@@ -22,9 +24,12 @@
 #include "moonbleat.h"
 #include "round_trip.h"
 #include "show.h"
+#include "traces.h"
+#include "where.h"
 
 static size_t sheets, failed, refused[MOONBLEAT_REFUSED_RECORD + 1], refused_traces[MOONBLEAT_REFUSED_TRACE_ORDER + 1];
 static size_t read_sheets[MOONBLEAT_EDITION_MAX + 1]; /* by edition */
+static size_t sorts[MOONBLEAT_SORT_BYTE + 1], sides[MOONBLEAT_SIDE_ABOVE + 1]; /* of outcomes */
 static FILE *nowhere;
 
 /* The refusals of a trace's own fields. */
@@ -118,6 +123,56 @@ static void try_trace(const char *name, const struct bytes *sheet, size_t memory
     expect_cause(name, &replayed, refused_traces);
 }
 
+/* Whether an outcome with any of its numbers changed is taken for another one. */
+static bool is_noticed(const struct told *told)
+{
+    bool noticed = true;
+    for (size_t i = 0; i < MOONBLEAT_OUTCOME; i++) {
+        struct told changed = *told;
+        changed.numbers[i]++;
+        noticed &= !same_outcome(told, &changed);
+    }
+    return noticed;
+}
+
+static void try_way(const char *name, const struct refused *accepted, const struct entry *entry)
+{
+    static struct way way;
+    struct where where;
+    struct told told;
+    struct place place;
+    if (!find_where(accepted, entry->step, &where) || !find_outcome(&where, entry->element, &told, &place)) {
+        fail(name, "the way leads to another outcome");
+        return;
+    }
+    tell_way(&where, entry->element, &place, &told, &way);
+    bool has_byte = entry->sort == MOONBLEAT_SORT_BYTE;
+    if (told.numbers[MOONBLEAT_OUTCOME_SORT] != entry->sort ||
+        (has_byte && told.numbers[MOONBLEAT_OUTCOME_VALUE] != entry->byte)) {
+        fail(name, "the trace has another outcome");
+        return;
+    }
+    if (!is_noticed(&told)) {
+        fail(name, "a changed outcome is not noticed");
+    }
+    sorts[entry->sort]++;
+    sides[told.numbers[MOONBLEAT_OUTCOME_SIDE]]++;
+}
+
+/* Some elements of an accepted sheet: about so many, from all over its trace. */
+static void try_ways(const char *name, const struct refused *accepted)
+{
+    enum { TRIED = 16 };
+    static uint8_t trace[MOONBLEAT_TRACE_MAX];
+    uint32_t answer[MOONBLEAT_ANSWER];
+    moonbleat_trace(accepted->sheet, accepted->sheet_len, accepted->memory_len, trace, sizeof trace, answer);
+    size_t count = answer[MOONBLEAT_BYTE_ELEMENTS] / MOONBLEAT_ACCESS_BYTES;
+    for (size_t i = 0; i < count; i += 1 + count / TRIED) {
+        struct entry entry = entry_at(trace, i);
+        try_way(name, accepted, &entry);
+    }
+}
+
 static void try_diagnosis(const char *name, const struct bytes *sheet, size_t memory_len)
 {
     uint32_t answer[MOONBLEAT_ANSWER];
@@ -126,6 +181,7 @@ static void try_diagnosis(const char *name, const struct bytes *sheet, size_t me
     if (moonbleat_check(sheet->at, sheet->len, memory_len, answer) == 0) {
         try_tape(name, sheet, memory_len);
         try_trace(name, sheet, memory_len);
+        try_ways(name, &checked);
     } else {
         expect_cause(name, &checked, refused);
     }
@@ -183,6 +239,20 @@ int main(int argc, char **argv)
         printf(" %zu:%zu", of_traces[i], refused_traces[of_traces[i]]);
         if (refused_traces[of_traces[i]] == 0) {
             fail(argv[1], "a refusal of a trace was not met");
+        }
+    }
+    printf("\noutcomes by sort:");
+    for (uint32_t sort = 0; sort <= MOONBLEAT_SORT_BYTE; sort++) {
+        printf(" %s:%zu", sort_name(sort), sorts[sort]);
+        if (sorts[sort] == 0) {
+            fail(argv[1], "a sort of outcome was not met");
+        }
+    }
+    printf(", by side:");
+    for (uint32_t side = 0; side <= MOONBLEAT_SIDE_ABOVE; side++) {
+        printf(" %s:%zu", side_name(side), sides[side]);
+        if (sides[side] == 0) {
+            fail(argv[1], "a side was not met");
         }
     }
     printf("\n%zu failed\n", failed);

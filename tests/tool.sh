@@ -175,6 +175,7 @@ unreadable() {
     refused "$wanted_place" "$wanted_cause" trace sheet -o out
     refused_replay "$wanted_place" "$wanted_cause" replay sheet no_trace
     refused "$wanted_place" "$wanted_cause" divisions sheet
+    refused "$wanted_place" "$wanted_cause" where sheet 0
     absent out
 }
 
@@ -191,6 +192,7 @@ misstepped() {
     refused "$wanted_place" "$wanted_cause" trace sheet --memory 64 -o out
     refused_replay "$wanted_place" "$wanted_cause" replay sheet no_trace --memory 64
     refused "$wanted_place" "$wanted_cause" divisions sheet --memory 64
+    refused "$wanted_place" "$wanted_cause" where sheet 1 --element 1 --memory 64
     absent out
 }
 
@@ -558,6 +560,8 @@ for hex in "$edition $fill" 01; do
     refused_replay '18 0 0' 'the memory is longer than 65536 bytes' replay sheet no_trace --memory 65537
     refused '18 0 0' 'the memory is longer than 65536 bytes' divisions sheet --memory 65537
     refused '18 0 0' 'the memory is longer than 65536 bytes' divisions sheet --memory 18446744073709551615
+    refused '18 0 0' 'the memory is longer than 65536 bytes' where sheet 7 --memory 65537
+    refused '18 0 0' 'the memory is longer than 65536 bytes' where sheet 7 --memory 18446744073709551615
     absent out
 done
 
@@ -668,6 +672,21 @@ wrong '--memory needs a word after it' divisions sheet --memory
 wrong '--memory 12x: not a length in bytes' divisions sheet --memory 12x
 wrong '--memory is given twice' divisions sheet --memory 64 --memory 64
 wrong '--json takes no word after it' divisions sheet --json=1
+wrong 'where takes SHEET STEP' where
+wrong 'where takes SHEET STEP' where sheet
+wrong 'where takes SHEET STEP, and memory is one more' where sheet 1 memory
+wrong 'where does not take -o' where sheet 1 -o out
+wrong 'where does not take -1' where sheet -1
+for word in load 1x '' 0x 1,0 4294967296; do
+    wrong "$word: not the number of a step" where sheet "$word"
+done
+for word in x '' , 1, ,1 1,x x,1 -1 1,-1 1,1,1 '1, 1' 4294967296 0,4294967296 4294967296,0; do
+    wrong "--element $word: not the number of an element, and not ROW,COLUMN" where sheet 1 --element "$word"
+done
+wrong '--element needs a word after it' where sheet 1 --element
+wrong '--element is given twice' where sheet 1 --element 0 --element 0
+wrong 'check does not take --element' check sheet --element 0
+wrong '--memory 12x: not a length in bytes' where sheet 1 --memory 12x
 wrong 'show takes SHEET' show
 wrong 'show does not take --memory' show sheet --memory 64
 
@@ -710,12 +729,14 @@ broken "nowhere: $gone" trace nowhere -o out
 broken "nowhere: $gone" replay nowhere no_trace
 broken "nowhere: $gone" replay sheet nowhere
 broken "nowhere: $gone" divisions nowhere
+broken "nowhere: $gone" where nowhere 1
 broken '.: Is a directory' check . --memory 64
 broken '.: Is a directory' run sheet . -o out
 broken '.: Is a directory' run-tape sheet . memory -o out
 broken '.: Is a directory' trace . -o out
 broken '.: Is a directory' replay sheet .
 broken '.: Is a directory' divisions .
+broken '.: Is a directory' where . 1
 broken 'sheet/inside: Not a directory' show sheet/inside
 absent out
 
@@ -928,7 +949,7 @@ if [ "$(ls -A folder)" = out ]; then pass; else fail "left on a full disk: $(ls 
 if [ -c /dev/full ]; then
     tool trace sheet -o trace
     for words in 'run sheet memory' 'tape sheet' 'show sheet' 'check sheet --memory 64' 'trace sheet' \
-        'trace sheet -o -' 'replay sheet trace' 'divisions sheet' '--help'; do
+        'trace sheet -o -' 'replay sheet trace' 'divisions sheet' 'where sheet 1' 'where sheet 1 --element 0' '--help'; do
         # shellcheck disable=SC2086
         tool $words > /dev/full 2> stderr
         if [ $? -eq 3 ]; then pass; else fail "$words to a full device"; fi
@@ -1229,19 +1250,6 @@ wrong 'asm needs -o OUT' asm text
 wrong 'show prints one of --asm and --json' show --asm --json text
 
 # -- JSON ----------------------------------------------------------------------------------------
-
-# json TEXT WORD..: standard output must be one object on one line in which the filter is true, and
-# standard error empty.
-json() {
-    filter=$1
-    shift
-    "$@" --json
-    if [ "$(wc -l < stdout)" -eq 1 ] && [ ! -s stderr ] && jq -e "$filter" < stdout > answer 2>&1; then
-        pass
-    else
-        fail "$*: not so in JSON: $filter: $(head -c 300 stdout)"
-    fi
-}
 
 bytes sheet "$edition $layout $own_view $fill" 21 0800 00 FF 00 00 10000000 22 0700 00 00 FF 20000000
 json '.command == "check" and .accepted and .refusal == null and .memory == 64 and .byte_elements == 16' \
