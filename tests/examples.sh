@@ -2,7 +2,8 @@
 # Tries the examples of docs/SHEETS.md. Each block is named by its kind: a `sheet` is assembled, and
 # the `run`, `tape`, `trace`, `divisions` or `refusal` behind it must be what the tool prints for it, on
 # a memory of 256 bytes in which byte i holds i; `hex` must be the bytes of the sheet before it that has
-# a run. A `recorded` is a card's trace in hex, and the `replay` behind it what the tool says of it.
+# a run. A `recorded` is a card's trace in hex, and the `replay` behind it what the tool says of it. A `where`
+# names its step, and the element if it is the way of one.
 #
 #   tests/examples.sh FOLDER      FOLDER has the programs moonbleat and unhex
 
@@ -37,6 +38,13 @@ assembles() {
     fi
 }
 
+# places NAME: where, asked for the step and the element that the block names, must print it.
+places() {
+    # shellcheck disable=SC2046
+    gives "$1" "$bin/moonbleat" where sheet --memory 256 \
+        $(sed -n 's/^step \([0-9]*\): .*/\1/p;s/^element \([0-9]*\): .*/--element \1/p' "$1")
+}
+
 for block in [0-9]*; do
     case $block in
         *.sheet) assembles "$block" ;;
@@ -44,6 +52,7 @@ for block in [0-9]*; do
         *.tape) gives "$block" "$bin/moonbleat" tape sheet ;;
         *.trace) gives "$block" "$bin/moonbleat" trace sheet --memory 256 ;;
         *.divisions) gives "$block" "$bin/moonbleat" divisions sheet --memory 256 ;;
+        *.where) places "$block" ;;
         *.recorded) "$bin/unhex" < "$block" > recorded || fail "docs/SHEETS.md, block $block: hex" ;;
         *.replay) gives "$block" "$bin/moonbleat" replay sheet recorded --memory 256 ;;
         *.hex) "$bin/unhex" < "$block" > bytes && gives bytes cat sheet ;;

@@ -75,6 +75,7 @@ complete_words() {
 expect 'completion of commands' prints 'run run-tape' complete_words ru
 expect 'completion of help' prints 'tape' complete_words help ta
 expect 'completion of options' prints '--memory' complete_words check --m
+expect 'completion of where' prints '--memory --element --json --help' complete_words where sheet 1 -
 expect 'completion of --help' prints '-o --registers --json --help' complete_words run -
 touch "$work/sheet-file"
 expect 'completion of files' prints "$work/sheet-file" complete_words check "$work/sheet-f"
