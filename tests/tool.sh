@@ -10,8 +10,8 @@
 . "$(dirname "$0")/common.sh"
 strips=$root/strips
 
-# where NUMBER FIRST SECOND: the words for a refusal's place.
-where() {
+# place_of NUMBER FIRST SECOND: the words for a refusal's place.
+place_of() {
     case $1 in
         1 | 2 | 3 | 4 | 5 | 6) echo " at byte $2" ;;
         7 | 8 | 9 | 10 | 11) echo " at step $2" ;;
@@ -24,7 +24,7 @@ where() {
 # else.
 refuses() {
     # shellcheck disable=SC2086
-    echo "moonbleat: refusal ${1%% *}$(where $1): $2" > line
+    echo "moonbleat: refusal ${1%% *}$(place_of $1): $2" > line
     same "the line of refusal ${1%% *}" stderr line
 }
 
@@ -680,7 +680,7 @@ wrong 'where does not take -1' where sheet -1
 for word in load 1x '' 0x 1,0 4294967296; do
     wrong "$word: not the number of a step" where sheet "$word"
 done
-for word in x '' , 1, ,1 1,x x,1 -1 1,-1 1,1,1 '1, 1' 4294967296 0,4294967296 4294967296,0; do
+for word in x '' ',' '1,' ',1' 1,x x,1 -1 1,-1 1,1,1 '1, 1' 4294967296 0,4294967296 4294967296,0; do
     wrong "--element $word: not the number of an element, and not ROW,COLUMN" where sheet 1 --element "$word"
 done
 wrong '--element needs a word after it' where sheet 1 --element
