@@ -55,6 +55,13 @@ accepted_strip() {
         grep -v '^#' "$strips/$1/divisions.txt" > expected
         same "$1: divisions" stdout expected
     fi
+    # The outcomes of where are those of the trace.
+    call 0 trace sheet --memory "$(wc -c < memory)" --json
+    jq -c '.accesses[] | [.step, .element, .sort, .byte]' stdout > expected
+    for step in $(jq '[.accesses[].step] | unique | .[]' stdout); do
+        tool where sheet "$step" --memory "$(wc -c < memory)" --json
+    done | jq -c '.step as $step | .outcomes[] | [$step, .element, .sort, .byte]' > outcomes
+    same "$1: where" outcomes expected
     call 0 replay sheet out --memory "$(wc -c < memory)"
     echo "agrees, $(($(wc -c < out) / 12)) accesses" | sed 's/ 1 accesses/ 1 access/' > expected
     same "$1: replay" stdout expected
@@ -72,6 +79,9 @@ refused_strip() {
     call 1 divisions sheet --memory "$(wc -c < memory)"
     silent
     same "$1: the refusal of divisions" stderr line
+    call 1 where sheet 1 --memory "$(wc -c < memory)"
+    silent
+    same "$1: the refusal of where" stderr line
     call 1 run sheet memory -o out
     silent
     same "$1: the refusal of run" stderr line
