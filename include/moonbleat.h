@@ -214,7 +214,7 @@ enum {
     MOONBLEAT_SORT_BYTE = 3       /* has a byte, its first one in memory; of the others the byte is 0 */
 };
 
-/* Sides of an outcome: on which one of its dimension the element's coordinate lies. */
+/* Sides of an outcome: where the element's coordinate in its dimension lies. */
 enum {
     MOONBLEAT_SIDE_INSIDE = 0, /* no dimension is outside */
     MOONBLEAT_SIDE_BELOW = 1,  /* below 0 */
@@ -382,8 +382,9 @@ uint32_t moonbleat_divisions(const uint8_t *sheet, size_t sheet_len, size_t memo
  * A filled or discarded element has a dimension and a side, and so has a load's element whose byte
  * comes from the clamp mode (the edge, a repetition, a mirror image). One that is inside in every
  * dimension, and a skipped one, have 0 and MOONBLEAT_SIDE_INSIDE. Refusals 18 and 1 to 15, as
- * moonbleat_check gives them, then 5 at the step and the element that were asked for, whatever they
- * are: where moonbleat_check accepts the sheet, a 5 is this one.
+ * moonbleat_check gives them, then 5, at the step and the element that are asked for, if that step is
+ * no load or store of the sheet or has no such element. (Of a sheet that moonbleat_check accepts, a 5
+ * is always this one.)
  */
 uint32_t moonbleat_outcome(const uint8_t *sheet, size_t sheet_len, size_t memory_len, uint32_t step,
                            uint32_t element, uint32_t outcome[4], uint32_t answer[4]);
