@@ -157,8 +157,9 @@ $(SHEET_FILES): $(ARCHIVE) $(wildcard compare/src/*.rs compare/src/reference/*.r
 	mv $@.part $@
 
 text-test: $(SHEET_FILES)
-	$(MAKE) $(SANITIZED) $(addprefix target/sanitized/test-,sheets fuzz_text null)
+	$(MAKE) $(SANITIZED) $(addprefix target/sanitized/test-,sheets fuzz_text null outcome)
 	target/sanitized/test-null
+	target/sanitized/test-outcome
 	target/sanitized/test-sheets $(SHEET_FILES)
 	target/sanitized/test-fuzz_text $(TEXTS) strips/*/sheet.txt
 

@@ -1,3 +1,4 @@
+/* The map of a load or a store. */
 #include <inttypes.h>
 #include <stdarg.h>
 #include <stdio.h>
@@ -15,7 +16,7 @@ enum { SORTS = MOONBLEAT_SORT_BYTE + 1, SIDES = MOONBLEAT_SIDE_ABOVE + 1 };
 
 /* How many elements are of each sort, and on each side of each dimension; the bits of those that are
  * filled, which all get the same. */
-struct tally {
+struct totals {
     unsigned sorts[SORTS];
     unsigned sides[DIMENSIONS_MAX][SIDES];
     uint32_t bits;
@@ -124,46 +125,46 @@ __attribute__((format(printf, 2, 3))) static void explain(const char *sign, cons
     va_end(arguments);
 }
 
-static struct tally tally_of(const struct told *outcomes, unsigned count)
+static struct totals totals_of(const struct told *outcomes, unsigned count)
 {
-    struct tally tally = {.sorts = {0}};
+    struct totals totals = {.sorts = {0}};
     for (unsigned i = 0; i < count; i++) {
         const uint32_t *numbers = outcomes[i].numbers;
-        tally.sorts[numbers[MOONBLEAT_OUTCOME_SORT]]++;
-        tally.sides[numbers[MOONBLEAT_OUTCOME_DIMENSION]][numbers[MOONBLEAT_OUTCOME_SIDE]]++;
+        totals.sorts[numbers[MOONBLEAT_OUTCOME_SORT]]++;
+        totals.sides[numbers[MOONBLEAT_OUTCOME_DIMENSION]][numbers[MOONBLEAT_OUTCOME_SIDE]]++;
         if (numbers[MOONBLEAT_OUTCOME_SORT] == MOONBLEAT_SORT_FILLED) {
-            tally.bits = numbers[MOONBLEAT_OUTCOME_VALUE];
+            totals.bits = numbers[MOONBLEAT_OUTCOME_VALUE];
         }
     }
-    return tally;
+    return totals;
 }
 
-static void explain_sorts(const struct access *access, const struct tally *tally)
+static void explain_sorts(const struct access *access, const struct totals *totals)
 {
-    if (tally->sorts[MOONBLEAT_SORT_BYTE] > 0) {
+    if (totals->sorts[MOONBLEAT_SORT_BYTE] > 0) {
         explain("number", access->size > 1 ? "its first byte in memory" : "its byte in memory");
     }
-    if (tally->sorts[MOONBLEAT_SORT_SKIPPED] > 0) {
+    if (totals->sorts[MOONBLEAT_SORT_SKIPPED] > 0) {
         explain(signs[MOONBLEAT_SORT_SKIPPED], "skipped: outside the clip, %s",
                 access->is_store ? "not stored" : "keeps what the object has");
     }
-    if (tally->sorts[MOONBLEAT_SORT_FILLED] > 0) {
+    if (totals->sorts[MOONBLEAT_SORT_FILLED] > 0) {
         struct text fill = {.len = 0};
-        add_fill(&fill, access->kind, tally->bits);
+        add_fill(&fill, access->kind, totals->bits);
         explain(signs[MOONBLEAT_SORT_FILLED], "filled with %s: outside the tensor", fill.at);
     }
-    if (tally->sorts[MOONBLEAT_SORT_DISCARDED] > 0) {
+    if (totals->sorts[MOONBLEAT_SORT_DISCARDED] > 0) {
         explain(signs[MOONBLEAT_SORT_DISCARDED], "discarded: outside the tensor, not stored");
     }
 }
 
-static void explain_sides(const struct access *access, const struct tally *tally)
+static void explain_sides(const struct access *access, const struct totals *totals)
 {
     for (unsigned i = 0; i < access->layout.count; i++) {
-        if (tally->sides[i][MOONBLEAT_SIDE_BELOW] > 0) {
+        if (totals->sides[i][MOONBLEAT_SIDE_BELOW] > 0) {
             explain(side_text(i, MOONBLEAT_SIDE_BELOW).at, "below in dimension %u, the first outside: under 0", i);
         }
-        if (tally->sides[i][MOONBLEAT_SIDE_ABOVE] > 0) {
+        if (totals->sides[i][MOONBLEAT_SIDE_ABOVE] > 0) {
             explain(side_text(i, MOONBLEAT_SIDE_ABOVE).at,
                     "above in dimension %u, the first outside: past %" PRId64, i,
                     access->layout.dimensions[i].size - 1);
@@ -181,47 +182,47 @@ static void add_count(struct text *list, unsigned count, const char *what)
     }
 }
 
-static struct text sort_list(const struct tally *tally)
+static struct text sort_list(const struct totals *totals)
 {
     struct text list = {.len = 0};
-    add_count(&list, tally->sorts[MOONBLEAT_SORT_BYTE], "with a byte");
-    add_count(&list, tally->sorts[MOONBLEAT_SORT_FILLED], "filled");
-    add_count(&list, tally->sorts[MOONBLEAT_SORT_DISCARDED], "discarded");
-    add_count(&list, tally->sorts[MOONBLEAT_SORT_SKIPPED], "skipped");
+    add_count(&list, totals->sorts[MOONBLEAT_SORT_BYTE], "with a byte");
+    add_count(&list, totals->sorts[MOONBLEAT_SORT_FILLED], "filled");
+    add_count(&list, totals->sorts[MOONBLEAT_SORT_DISCARDED], "discarded");
+    add_count(&list, totals->sorts[MOONBLEAT_SORT_SKIPPED], "skipped");
     return list;
 }
 
-static struct text side_list(const struct tally *tally)
+static struct text side_list(const struct totals *totals)
 {
     struct text list = {.len = 0};
     for (unsigned i = 0; i < DIMENSIONS_MAX; i++) {
         for (uint32_t side = MOONBLEAT_SIDE_BELOW; side < SIDES; side++) {
             struct text what = {.len = 0};
             add_text(&what, "%s in dimension %u", side_name(side), i);
-            add_count(&list, tally->sides[i][side], what.at);
+            add_count(&list, totals->sides[i][side], what.at);
         }
     }
     return list;
 }
 
-static void print_summary(const struct where *where, const struct tally *tally)
+static void print_summary(const struct where *where, const struct totals *totals)
 {
     unsigned count = element_count(where);
-    struct text sides = side_list(tally);
-    printf("%u element%s: %s; %s\n", count, plural(count), sort_list(tally).at,
+    struct text sides = side_list(totals);
+    printf("%u element%s: %s; %s\n", count, plural(count), sort_list(totals).at,
            sides.len > 0 ? sides.at : "none outside");
 }
 
 void print_map(const struct where *where, const struct told *outcomes)
 {
     struct widths widths = cell_widths(where, outcomes);
-    struct tally tally = tally_of(outcomes, element_count(where));
+    struct totals totals = totals_of(outcomes, element_count(where));
     putchar('\n');
     print_columns(where, &widths);
     print_rows(where, &widths, outcomes);
     putchar('\n');
-    explain_sorts(&where->access, &tally);
-    explain_sides(&where->access, &tally);
+    explain_sorts(&where->access, &totals);
+    explain_sides(&where->access, &totals);
     putchar('\n');
-    print_summary(where, &tally);
+    print_summary(where, &totals);
 }

@@ -1,3 +1,4 @@
+/* The way of an element, rule by rule. */
 #include <inttypes.h>
 
 #include "where.h"
