@@ -136,9 +136,10 @@ tool-test: all
 	tests/examples.sh $(TOOL)
 	tests/night.sh $(TOOL)
 
-test: tool-test $(addprefix $(TOOL)/test-,null outcome stack) $(SHEET_FILES)
+test: tool-test $(addprefix $(TOOL)/test-,null outcome where stack) $(SHEET_FILES)
 	$(TOOL)/test-null
 	$(TOOL)/test-outcome
+	$(TOOL)/test-where
 	$(TOOL)/test-stack $(SHEET_FILES)/00???-*.sheet
 	tests/install.sh
 
@@ -157,9 +158,10 @@ $(SHEET_FILES): $(ARCHIVE) $(wildcard compare/src/*.rs compare/src/reference/*.r
 	mv $@.part $@
 
 text-test: $(SHEET_FILES)
-	$(MAKE) $(SANITIZED) $(addprefix target/sanitized/test-,sheets fuzz_text null outcome)
+	$(MAKE) $(SANITIZED) $(addprefix target/sanitized/test-,sheets fuzz_text null outcome where)
 	target/sanitized/test-null
 	target/sanitized/test-outcome
+	target/sanitized/test-where
 	target/sanitized/test-sheets $(SHEET_FILES)
 	target/sanitized/test-fuzz_text $(TEXTS) strips/*/sheet.txt
 

@@ -79,13 +79,20 @@ static void print_map_json(const struct where *where, const struct told *outcome
     close_answer(&json);
 }
 
+static int fail(const struct text *fault)
+{
+    fprintf(stderr, "moonbleat: %s\n", fault->at);
+    return FAILED;
+}
+
 static int give_map(const struct request *request, const struct where *where)
 {
     static struct told outcomes[MOONBLEAT_REGISTER_ELEMENTS];
     for (unsigned i = 0; i < element_count(where); i++) {
         struct place place;
-        if (!find_outcome(where, i, &outcomes[i], &place)) {
-            return FAILED;
+        struct text fault;
+        if (!find_outcome(where, i, &outcomes[i], &place, &fault)) {
+            return fail(&fault);
         }
     }
     if (request->words[OPTION_JSON] != NULL) {
@@ -123,8 +130,9 @@ static int give_way(const struct request *request, const struct where *where, un
     static struct way way;
     struct told told;
     struct place place;
-    if (!find_outcome(where, element, &told, &place)) {
-        return FAILED;
+    struct text fault;
+    if (!find_outcome(where, element, &told, &place, &fault)) {
+        return fail(&fault);
     }
     tell_way(where, element, &place, &told, &way);
     if (request->words[OPTION_JSON] != NULL) {
@@ -178,9 +186,9 @@ static int answer_question(const struct request *request, const struct bytes *sh
     }
     struct where where;
     if (!find_where(&asked, question->step, &where)) {
-        fprintf(stderr, "moonbleat: step %" PRIu32 ": this tool finds no load or store: a fault in the tool\n",
-                question->step);
-        return FAILED;
+        struct text fault = {.len = 0};
+        add_text(&fault, "step %" PRIu32 ": a fault in this tool: it finds no load or store", question->step);
+        return fail(&fault);
     }
     return give_where(request, &where, question);
 }

@@ -19,18 +19,20 @@ unsigned element_count(const struct where *where)
     return where->access.rows * where->access.columns;
 }
 
-static void complain_of_itself(const struct where *where, unsigned element, const struct told *told,
-                               const struct told *worked)
+static struct text fault_of(const struct where *where, unsigned element, const struct told *told,
+                            const struct told *worked)
 {
-    struct text by_library = {.len = 0}, by_tool = {.len = 0};
+    struct text by_library = {.len = 0}, by_tool = {.len = 0}, fault = {.len = 0};
     add_outcome(&by_library, where->access.kind, told);
     add_outcome(&by_tool, where->access.kind, worked);
-    fprintf(stderr, "moonbleat: step %" PRIu32 ", element %u: the library says %s\n", where->number, element,
-            by_library.at);
-    fprintf(stderr, "moonbleat: this tool works out %s: a fault in the tool\n", by_tool.at);
+    add_text(&fault,
+             "step %" PRIu32 ", element %u: a fault in this tool: it works out '%s', and the library says '%s'",
+             where->number, element, by_tool.at, by_library.at);
+    return fault;
 }
 
-bool find_outcome(const struct where *where, unsigned element, struct told *told, struct place *place)
+bool find_outcome(const struct where *where, unsigned element, struct told *told, struct place *place,
+                  struct text *fault)
 {
     uint32_t answer[MOONBLEAT_ANSWER];
     uint32_t number = moonbleat_outcome(where->asked->sheet, where->asked->sheet_len, where->asked->memory_len,
@@ -40,7 +42,7 @@ bool find_outcome(const struct where *where, unsigned element, struct told *told
     if (number == 0 && same_outcome(told, &worked)) {
         return true;
     }
-    complain_of_itself(where, element, told, &worked);
+    *fault = fault_of(where, element, told, &worked);
     return false;
 }
 

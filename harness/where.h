@@ -20,8 +20,9 @@ bool find_where(const struct refused *asked, uint32_t number, struct where *wher
 unsigned element_count(const struct where *where);
 
 /* Asks the library for the outcome of an element, and works out its place. The two must be the same;
- * false if they are not, which is a fault in this tool and told on standard error. */
-bool find_outcome(const struct where *where, unsigned element, struct told *told, struct place *place);
+ * false, with a sentence on both, if they are not, which is a fault in this tool. */
+bool find_outcome(const struct where *where, unsigned element, struct told *told, struct place *place,
+                  struct text *fault);
 
 /* Prints what the step is: two lines. */
 void print_step(const struct where *where);

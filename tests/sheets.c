@@ -6,7 +6,7 @@
  *   - of a refused sheet the cause is found, and of an accepted one's tape with one number changed and
  *     its trace with one byte changed or the end cut off;
  *   - of some elements of an accepted sheet's loads and stores the way is told, to the library's outcome,
- *     which has what the trace has, and a changed outcome is noticed.
+ *     which has what the trace has.
  *
  *   sheets FOLDER
  */
@@ -123,26 +123,16 @@ static void try_trace(const char *name, const struct bytes *sheet, size_t memory
     expect_cause(name, &replayed, refused_traces);
 }
 
-/* Whether an outcome with any of its numbers changed is taken for another one. */
-static bool is_noticed(const struct told *told)
-{
-    bool noticed = true;
-    for (size_t i = 0; i < MOONBLEAT_OUTCOME; i++) {
-        struct told changed = *told;
-        changed.numbers[i]++;
-        noticed &= !same_outcome(told, &changed);
-    }
-    return noticed;
-}
-
 static void try_way(const char *name, const struct refused *accepted, const struct entry *entry)
 {
     static struct way way;
     struct where where;
     struct told told;
     struct place place;
-    if (!find_where(accepted, entry->step, &where) || !find_outcome(&where, entry->element, &told, &place)) {
-        fail(name, "the way leads to another outcome");
+    struct text fault = {.len = 0};
+    if (!find_where(accepted, entry->step, &where) ||
+        !find_outcome(&where, entry->element, &told, &place, &fault)) {
+        fail(name, fault.len > 0 ? fault.at : "no load or store is found");
         return;
     }
     tell_way(&where, entry->element, &place, &told, &way);
@@ -151,9 +141,6 @@ static void try_way(const char *name, const struct refused *accepted, const stru
         (has_byte && told.numbers[MOONBLEAT_OUTCOME_VALUE] != entry->byte)) {
         fail(name, "the trace has another outcome");
         return;
-    }
-    if (!is_noticed(&told)) {
-        fail(name, "a changed outcome is not noticed");
     }
     sorts[entry->sort]++;
     sides[told.numbers[MOONBLEAT_OUTCOME_SIDE]]++;
