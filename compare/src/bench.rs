@@ -13,6 +13,8 @@ use crate::reference::{
 /// A sample lasts at least so long, so that the clock's grain does not matter.
 const SAMPLE: Duration = Duration::from_micros(500);
 const STEPS: usize = 32;
+/// The elements of a sheet's steps after its fill, each of a whole register.
+const ELEMENTS: usize = (STEPS - 1) * SIDE_MAX * SIDE_MAX;
 /// Spans for the elements of a 16 by 16 matrix: none to four leading ones of 1, three between.
 const SPANS: [[u16; 5]; 6] = [
     [2, 2, 4, 4, 4],
@@ -51,6 +53,21 @@ pub fn bench(archive: &dyn Jobs, reference: &dyn Jobs, samples: usize) {
     for spans in SPANS {
         bench_spans(spans, archive, reference, samples);
     }
+    println!();
+    bench_sides(archive, reference, samples);
+}
+
+/// Prints the table of what lies outside.
+pub fn bench_sides(archive: &dyn Jobs, reference: &dyn Jobs, samples: usize) {
+    println!(
+        "carry_out of {STEPS} steps, a fill and 16 by 16 loads or stores, by what lies outside"
+    );
+    println!("{:<40}{:>14}{:>18}{:>8}", "sheet", "archive ns/el", "reference ns/el", "ratio");
+    for (name, sheet) in sheets_by_sides() {
+        let mut bench = Bench::new(&sheet, reference);
+        let [one, other] = bench.carry_out_an_element([archive, reference], ELEMENTS, samples);
+        println!("{name:<40}{one:>14.2}{other:>18.2}{:>8.2}", one / other);
+    }
 }
 
 fn bench_sheet(name: &str, sheet: &[u8], archive: &dyn Jobs, reference: &dyn Jobs, samples: usize) {
@@ -80,15 +97,14 @@ fn bench_side(side: usize, archive: &dyn Jobs, reference: &dyn Jobs, samples: us
 
 fn bench_spans(spans: [u16; 5], archive: &dyn Jobs, reference: &dyn Jobs, samples: usize) {
     let sheet = sheet_bytes(&loads_by_spans(spans));
-    let elements = (STEPS - 1) * SIDE_MAX * SIDE_MAX;
     let mut bench = Bench::new(&sheet, reference);
     let [counted, expected] = [archive, reference].map(|jobs| {
         bench.divisions(jobs);
         bench.answer
     });
     assert_eq!(counted, expected, "divisions of spans {spans:?}");
-    let divisions = f64::from(counted[3]) / elements as f64;
-    let [one, other] = bench.carry_out_an_element([archive, reference], elements, samples);
+    let divisions = f64::from(counted[3]) / ELEMENTS as f64;
+    let [one, other] = bench.carry_out_an_element([archive, reference], ELEMENTS, samples);
     let (spans, ratio) = (spaced(spans), one / other);
     println!("{spans:<14}{divisions:>14.2}{one:>16.2}{other:>18.2}{ratio:>8.2}");
 }
@@ -219,7 +235,7 @@ pub fn timed_sheets() -> Vec<(String, Vec<u8>)> {
     let by_spans = SPANS
         .map(|spans| (format!("spans {}", spaced(spans)), sheet_bytes(&loads_by_spans(spans))));
     let named = named_sheets().into_iter().map(|(name, sheet)| (String::from(name), sheet));
-    named.chain(by_spans).collect()
+    named.chain(by_spans).chain(sheets_by_sides()).collect()
 }
 
 fn spaced(spans: [u16; 5]) -> String {
@@ -283,21 +299,67 @@ fn plain_loads(side: usize) -> Sheet {
     Sheet { layouts: vec![square_layout(side)], steps, ..Sheet::default() }
 }
 
-/// Loads of whole registers through a layout of five dimensions, which are as long as their spans.
-fn loads_by_spans(spans: [u16; 5]) -> Sheet {
-    let mut dimensions = spans.map(|span| dimension(span, 1));
+/// Loads of whole registers through a layout.
+fn loads_through(layout: Layout) -> Sheet {
+    Sheet { layouts: vec![layout], ..plain_loads(SIDE_MAX) }
+}
+
+/// Dimensions as long as their spans, one after the other.
+fn row_major(spans: &[u16]) -> Vec<Dimension> {
+    let mut dimensions: Vec<Dimension> = spans.iter().map(|&span| dimension(span, 1)).collect();
     for i in (1..spans.len()).rev() {
         dimensions[i - 1].stride = dimensions[i].stride * spans[i];
     }
-    let layouts = vec![layout(ClampMode::Undefined, dimensions.to_vec())];
-    Sheet { layouts, ..plain_loads(SIDE_MAX) }
+    dimensions
+}
+
+fn loads_by_spans(spans: [u16; 5]) -> Sheet {
+    loads_through(layout(ClampMode::Undefined, row_major(&spans)))
+}
+
+/// Loads whose elements are all inside, in part or all outside in one dimension, or mirrored in
+/// every one; and stores that are outside in part. Their runs are long enough for a tape.
+fn sheets_by_sides() -> Vec<(String, Vec<u8>)> {
+    let square: &[u16] = &[16, 16];
+    let mut sheets = Vec::new();
+    for spans in [square, &SPANS[0]] {
+        let (middle, last) = (spans.len() / 2, spans.len() - 1);
+        for (name, layout) in [
+            ("inside", moved(spans, last, 0)),
+            ("a quarter filled", moved(spans, middle, -1)),
+            ("all filled", moved(spans, last, 4)),
+            ("all mirrored", mirrored(spans)),
+        ] {
+            let name = format!("loads, {} dimensions, {name}", spans.len());
+            sheets.push((name, sheet_bytes(&loads_through(layout))));
+        }
+    }
+    let discarding = Sheet { layouts: vec![moved(square, 1, 2)], ..stores() };
+    sheets.push((String::from("stores, 2 dimensions, half discarded"), sheet_bytes(&discarding)));
+    sheets
+}
+
+/// A layout in which the coordinates of one dimension are moved by so many quarters of its size.
+fn moved(spans: &[u16], moved: usize, quarters: i16) -> Layout {
+    let mut dimensions = row_major(spans);
+    dimensions[moved].offset = quarters * spans[moved] as i16 / 4;
+    layout(ClampMode::Constant, dimensions)
+}
+
+/// A layout in which every coordinate is outside, and mirrored onto the spans in reverse.
+fn mirrored(spans: &[u16]) -> Layout {
+    let mut dimensions = row_major(spans);
+    for dimension in &mut dimensions {
+        dimension.size += 1;
+        dimension.offset = dimension.size as i16;
+    }
+    layout(ClampMode::MirrorRepeat, dimensions)
 }
 
 /// A quarter of the rows lies outside and is mirrored.
 fn padded_loads() -> Sheet {
     let rows = Dimension { offset: -2, span: 16, ..dimension(12, 16) };
-    let layout = layout(ClampMode::MirrorRepeat, vec![rows, dimension(16, 1)]);
-    Sheet { layouts: vec![layout], ..plain_loads(16) }
+    loads_through(layout(ClampMode::MirrorRepeat, vec![rows, dimension(16, 1)]))
 }
 
 fn five_dimensional_views() -> Sheet {

@@ -8,7 +8,7 @@ use std::process::ExitCode;
 use std::time::Instant;
 
 use archive::Archive;
-use compare::bench::{bench, timed_sheets};
+use compare::bench::{bench, bench_sides, timed_sheets};
 use compare::case::{Case, Comparison};
 use compare::coverage::Coverage;
 use compare::jobs::Reference;
@@ -23,8 +23,9 @@ compare [--sheets N] [--seed S] [--edition E] [--case K] [--trace]
     on N random sheets (20000) of each edition. The same seed gives the same sheets. --edition E
     takes only the random sheets of edition E, --case K only sheet K of them, --trace prints the
     number of each before it is tried.
-compare bench [--samples N]
-    Time both sides on named sheets, N samples each (51).
+compare bench [--sides] [--samples N]
+    Time both sides on named sheets, N samples each (51). --sides prints only the last table, of
+    what lies outside.
 compare dump FOLDER [--sheets N] [--seed S] [--edition E]
     Write each of the sheets to a file of the folder, NUMBER-MEMORY-EDITION.sheet, where MEMORY
     is the length of the memory that it is compared on.";
@@ -38,6 +39,7 @@ const TIMES_TIMED: u64 = 10;
 struct Options {
     help: bool,
     bench: bool,
+    sides: bool,
     dump: Option<String>,
     sheets: u64,
     samples: usize,
@@ -60,7 +62,8 @@ fn main() -> ExitCode {
         }
     };
     if options.bench {
-        bench(&Archive, &Reference::default(), options.samples);
+        let timings = if options.sides { bench_sides } else { bench };
+        timings(&Archive, &Reference::default(), options.samples);
         return ExitCode::SUCCESS;
     }
     let done = match &options.dump {
@@ -80,6 +83,7 @@ fn parse(arguments: impl Iterator<Item = String>) -> Result<Options, String> {
     let mut options = Options {
         help: false,
         bench: false,
+        sides: false,
         dump: None,
         sheets: SHEETS_FOR_COVERAGE,
         samples: 51,
@@ -97,6 +101,7 @@ fn parse(arguments: impl Iterator<Item = String>) -> Result<Options, String> {
         match argument.as_str() {
             "--help" => options.help = true,
             "bench" => options.bench = true,
+            "--sides" => options.sides = true,
             "dump" => options.dump = Some(arguments.next().ok_or("dump needs a folder")?),
             "--sheets" => options.sheets = number()?,
             "--samples" => options.samples = number()?.max(1) as usize,
