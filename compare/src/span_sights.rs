@@ -3,7 +3,7 @@
 
 use std::collections::BTreeSet;
 
-use crate::reference::{divides, divisions, indices, Checked, Dimension, Outcome};
+use crate::reference::{divides, divisions, indices, side, Checked, Dimension, Outcome};
 
 const LEADING_AT_0: &str = "leading span of 1 at an index of 0";
 const SECOND_AT_0: &str = "second leading span of 1 at an index of 0";
@@ -129,5 +129,5 @@ fn of_outside(dimensions: &[Dimension], indices: &[u64], outcome: &Outcome) -> V
 /// Whether the coordinate of an index in a dimension is outside.
 pub fn is_outside(dimension: &Dimension, index: u64) -> bool {
     let coordinate = (index % u64::from(dimension.span)) as i64 + i64::from(dimension.offset);
-    !(0..i64::from(dimension.size)).contains(&coordinate)
+    side(coordinate, dimension).is_some()
 }

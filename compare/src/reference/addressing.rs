@@ -24,6 +24,20 @@ pub enum Outcome {
     Placed(usize),
 }
 
+/// On which side of its dimension a coordinate lies that is not inside.
+#[derive(Clone, Copy, PartialEq, Eq, Debug)]
+pub enum Side {
+    Below,
+    Above,
+}
+
+/// A dimension in which an element is not inside.
+#[derive(Clone, Copy, PartialEq, Eq, Debug)]
+pub struct Outside {
+    pub dimension: usize,
+    pub side: Side,
+}
+
 /// What a load or a store addresses with.
 pub struct Addressing<'a> {
     pub access: Access,
@@ -48,6 +62,23 @@ impl Addressing<'_> {
             }
             Clamped::Discarded => Ok(Outcome::Discarded),
         }
+    }
+
+    /// The first dimension, from 0 up, in which an element is not inside, if any; none for a
+    /// skipped element; or 12.
+    pub fn outside(&self, element: usize) -> Result<Option<Outside>, Cause> {
+        let Some(index) = self.index(element)? else {
+            return Ok(None);
+        };
+        Ok(self.all_outside(index).next())
+    }
+
+    /// The dimensions, from 0 up, in which an index is not inside.
+    pub fn all_outside(&self, index: u64) -> impl Iterator<Item = Outside> + '_ {
+        let coordinates = self.coordinates(index);
+        self.layout.dimensions.iter().enumerate().filter_map(move |(i, dimension)| {
+            side(coordinates[i], dimension).map(|side| Outside { dimension: i, side })
+        })
     }
 
     /// Rules 1 and 2: an element's index, none if it is skipped; or 12.
@@ -100,23 +131,28 @@ impl Addressing<'_> {
         sum
     }
 
-    /// Rule 4: each coordinate with its offset, clamped.
+    /// Rule 3 and the beginning of rule 4: the coordinates of an index, which may be outside.
+    pub fn coordinates(&self, index: u64) -> Vec<i64> {
+        let dimensions = &self.layout.dimensions;
+        let span_coordinates = span_coordinates(dimensions, index);
+        dimensions.iter().zip(span_coordinates).map(|(d, c)| with_offset(d, c)).collect()
+    }
+
+    /// Rule 4: each coordinate with its offset, clamped by its side.
     fn tensor_coordinates(&self, span_coordinates: &[u64; 5]) -> Result<Clamped, Cause> {
         let mut coordinates = [0; DIMENSIONS_MAX];
         for (i, dimension) in self.layout.dimensions.iter().enumerate() {
-            let c = span_coordinates[i] as i64 + i64::from(dimension.offset);
+            let c = with_offset(dimension, span_coordinates[i]);
             let n = i64::from(dimension.size);
-            coordinates[i] = if (0..n).contains(&c) {
-                c
-            } else {
-                match (self.layout.clamp_mode, self.access) {
-                    (ClampMode::Undefined, _) => return Err(Cause::Undefined),
-                    (_, Access::Store) => return Ok(Clamped::Discarded),
-                    (ClampMode::Constant, Access::Load) => return Ok(Clamped::Filled),
-                    (ClampMode::ClampToEdge, Access::Load) => c.clamp(0, n - 1),
-                    (ClampMode::Repeat, Access::Load) => c.rem_euclid(n),
-                    (ClampMode::MirrorRepeat, Access::Load) => mirrored(c, n),
-                }
+            coordinates[i] = match (side(c, dimension), self.layout.clamp_mode, self.access) {
+                (None, _, _) => c,
+                (Some(_), ClampMode::Undefined, _) => return Err(Cause::Undefined),
+                (Some(_), _, Access::Store) => return Ok(Clamped::Discarded),
+                (Some(_), ClampMode::Constant, Access::Load) => return Ok(Clamped::Filled),
+                (Some(Side::Below), ClampMode::ClampToEdge, Access::Load) => 0,
+                (Some(Side::Above), ClampMode::ClampToEdge, Access::Load) => n - 1,
+                (Some(_), ClampMode::Repeat, Access::Load) => c.rem_euclid(n),
+                (Some(_), ClampMode::MirrorRepeat, Access::Load) => mirrored(c, n),
             };
         }
         Ok(Clamped::Inside(coordinates))
@@ -184,6 +220,22 @@ pub fn divides(dimension: &Dimension, index: u64) -> bool {
 pub fn divisions(dimensions: &[Dimension], index: u64) -> u32 {
     let met = dimensions.iter().zip(indices(dimensions, index));
     met.filter(|&(dimension, index)| divides(dimension, index)).count() as u32
+}
+
+/// A coordinate of a dimension, which may be outside.
+fn with_offset(dimension: &Dimension, span_coordinate: u64) -> i64 {
+    span_coordinate as i64 + i64::from(dimension.offset)
+}
+
+/// The side on which a coordinate lies, unless it is inside its dimension.
+pub fn side(c: i64, dimension: &Dimension) -> Option<Side> {
+    if c < 0 {
+        Some(Side::Below)
+    } else if c >= i64::from(dimension.size) {
+        Some(Side::Above)
+    } else {
+        None
+    }
 }
 
 /// MirrorRepeat; for a dimension of 1, where the source divides by zero, 0.
@@ -261,6 +313,15 @@ mod tests {
         assert_eq!(divisions(&past, 13), 2);
         assert_eq!(divisions(&with_spans(&[1, 3]), 1), 1);
         assert_eq!(divisions(&with_spans(&[3, 1]), 1), 1);
+    }
+
+    #[test]
+    fn a_dimension_is_inside_from_0_to_below_its_size() {
+        let of_size = |size| Dimension { block_size: 1, size, stride: 1, offset: 0, span: 1 };
+        let sides = |size| [-4_096, -1, 0, 2, 3, 8_190].map(|c| side(c, &of_size(size)));
+        let (below, above) = (Some(Side::Below), Some(Side::Above));
+        assert_eq!(sides(3), [below, below, None, None, above, above]);
+        assert_eq!(sides(1), [below, below, None, above, above, above]);
     }
 
     #[test]

@@ -24,11 +24,15 @@ pub struct Checked {
 impl Checked {
     /// What each load and store addresses with, and what becomes of its elements.
     pub fn addressings(&self) -> impl Iterator<Item = (Addressing<'_>, &[Outcome])> {
-        let steps = self.sheet.steps.iter().zip(&self.types).zip(&self.outcomes);
-        steps.filter_map(|((step, types), outcomes)| {
-            let addressing = addressing(&self.sheet, step, types, self.memory_len)?;
-            Some((addressing.expect("accepted"), &outcomes[..]))
-        })
+        let steps = self.outcomes.iter().enumerate();
+        steps.filter_map(|(step, outcomes)| Some((self.addressing(step)?, &outcomes[..])))
+    }
+
+    /// What a load or a store addresses with; None for a whole step.
+    pub fn addressing(&self, step: usize) -> Option<Addressing<'_>> {
+        let types = &self.types[step];
+        let addressing = addressing(&self.sheet, &self.sheet.steps[step], types, self.memory_len)?;
+        Some(addressing.expect("accepted"))
     }
 
     /// How many elements of loads and stores have a byte.

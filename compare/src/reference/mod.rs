@@ -6,6 +6,7 @@ mod addressing;
 mod carry;
 mod edition;
 mod kind;
+mod outcome;
 mod refusal;
 mod registers;
 mod sheet;
@@ -14,10 +15,13 @@ mod trace;
 mod vector;
 mod whole;
 
-pub use addressing::{divides, divisions, indices, Access, Addressing, Outcome};
+pub use addressing::{
+    divides, divisions, indices, side, Access, Addressing, Outcome, Outside, Side,
+};
 pub use carry::{carry_out, check, check_step, do_step, Carried, Checked, Types};
 pub use edition::Edition;
 pub use kind::Kind;
+pub use outcome::{outcome, Located};
 pub use refusal::{Cause, Refusal};
 pub use registers::{Matrix, Registers, Type};
 pub use sheet::{

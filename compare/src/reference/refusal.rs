@@ -41,7 +41,8 @@ causes! {
         4: WrongLength TraceLength;
         5: DimensionCount LengthDisagrees ClampModeRange BlockSize DimensionSize Offset Span
            HasDimensions NotAPermutation ViewDimensionSize RegisterRange Side KindRange FillValue
-           NoSuchLayout NoSuchView ReduceModeRange CombineRange UnreadableModel TraceSort TraceByte;
+           NoSuchLayout NoSuchView ReduceModeRange CombineRange UnreadableModel TraceSort TraceByte
+           AskedPastSteps AskedWholeStep AskedPastMatrix;
         6: WrongEdition;
         7: EmptyRegister;
         8: ReduceHalves ReduceRows ReduceColumns MultiplyShapes AccumulatorKind;
