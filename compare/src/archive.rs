@@ -1,6 +1,6 @@
 //! The proved archive behind the C interface of `include/moonbleat.h`.
 
-use compare::jobs::{Answer, Jobs, State, VerdictRow};
+use compare::jobs::{Answer, Jobs, OutcomeRow, State, VerdictRow};
 
 extern "C" {
     fn moonbleat_read(
@@ -83,9 +83,19 @@ extern "C" {
         memory_len: usize,
         answer: *mut u32,
     ) -> u32;
+
+    fn moonbleat_outcome(
+        sheet: *const u8,
+        sheet_len: usize,
+        memory_len: usize,
+        step: u32,
+        element: u32,
+        outcome: *mut u32,
+        answer: *mut u32,
+    ) -> u32;
 }
 
-/// The archive's nine functions. They ask nothing of their arguments but that each pointer has
+/// The archive's ten functions. They ask nothing of their arguments but that each pointer has
 /// the length that is passed with it or that the header names, as references in Rust have.
 pub struct Archive;
 
@@ -219,5 +229,29 @@ impl Jobs for Archive {
     fn divisions(&self, sheet: &[u8], memory_len: usize, answer: &mut Answer) -> u32 {
         // SAFETY: as above; the memory's length comes without a memory.
         unsafe { moonbleat_divisions(sheet.as_ptr(), sheet.len(), memory_len, answer.as_mut_ptr()) }
+    }
+
+    fn outcome(
+        &self,
+        sheet: &[u8],
+        memory_len: usize,
+        step: u32,
+        element: u32,
+        outcome: &mut OutcomeRow,
+        answer: &mut Answer,
+    ) -> u32 {
+        // SAFETY: as above; the memory's length comes without a memory, and step and element are
+        // the archive's to judge.
+        unsafe {
+            moonbleat_outcome(
+                sheet.as_ptr(),
+                sheet.len(),
+                memory_len,
+                step,
+                element,
+                outcome.as_mut_ptr(),
+                answer.as_mut_ptr(),
+            )
+        }
     }
 }

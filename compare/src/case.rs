@@ -6,10 +6,11 @@ use crate::coverage::Coverage;
 use crate::damage::{damage, noise};
 use crate::generate::{generate, many_records};
 use crate::jobs::{Answer, Jobs, Reference, State, VerdictRow, AGREES};
+use crate::outcomes::{no_elements, random_place, Place, Told};
 use crate::random::Random;
 use crate::reference::{
-    check, entries, read_sheet, translate, Edition, ACCESS_LENGTH, MEMORY_MAX, RECORDS_MAX,
-    RECORD_NUMBERS,
+    check, entries, read_sheet, read_trace, translate, Edition, Entry, ACCESS_LENGTH, MEMORY_MAX,
+    RECORDS_MAX, RECORD_NUMBERS,
 };
 use crate::tapes::{damage_tape, random_tape, Tape};
 use crate::traces::{accesses, traces};
@@ -38,6 +39,22 @@ pub struct Case {
     pub trace_room: usize,
     pub tapes: Vec<Tape>,
     pub traces: Vec<Vec<u8>>,
+    /// The elements whose outcomes are asked for: from one on, each so many places after the last.
+    pub asked: Asked,
+    /// A place whose outcome is asked for too, whether there is an element or not.
+    pub place: Place,
+}
+
+/// Some of the elements of a sheet's loads and stores.
+#[derive(Clone, Copy)]
+pub struct Asked {
+    pub first: usize,
+    pub apart: usize,
+}
+
+impl Asked {
+    /// Every element.
+    pub const ALL: Asked = Asked { first: 0, apart: 1 };
 }
 
 impl Case {
@@ -84,6 +101,8 @@ impl Case {
             trace_room: byte_room(of_traces, ACCESS_LENGTH * own.len()),
             tapes: tapes(random, &sheet, &tape, memory_len),
             traces: traces(of_traces, &own, told_len, edition),
+            asked: Asked::ALL,
+            place: random_place(of_traces),
             sheet,
             memory,
             told_len,
@@ -137,6 +156,7 @@ pub enum Job {
     Trace,
     Replay,
     Divisions,
+    Outcome,
 }
 
 /// Everything that a call was lent and may have changed, as it is afterwards, and its result.
@@ -291,8 +311,9 @@ impl Comparison<'_> {
         let carried = self.same(Job::CarryOut, |jobs| carry_out_exit(jobs, case))?;
         self.round_trip(case)?;
         self.tape_agrees(case, &carried)?;
-        self.trace_agrees(case)?;
+        let accesses = self.trace_agrees(case)?;
         self.divisions_agree(case)?;
+        self.outcomes_agree(case, &accesses)?;
         // The compiler may think that what is lent to be read stays as it is; look again.
         let Case { sheet, tapes, traces, .. } = black_box(case);
         if (sheet, tapes, traces) != (&inputs.0, &inputs.1, &inputs.2) {
@@ -346,14 +367,15 @@ impl Comparison<'_> {
         Ok(())
     }
 
-    /// The trace that is written for an accepted sheet agrees with it in a replay.
-    fn trace_agrees(&mut self, case: &Case) -> Result<(), String> {
+    /// The trace that is written for an accepted sheet agrees with it in a replay. Gives its
+    /// accesses, none of a refused sheet.
+    fn trace_agrees(&mut self, case: &Case) -> Result<Vec<Entry>, String> {
         self.same(Job::Trace, |jobs| trace_exit(jobs, case, case.trace_room))?;
         let own = check(&case.sheet, case.told_len).map(|checked| entries(&checked));
         for trace in &case.traces {
             self.coverage.replay(&own, case.told_len, trace);
         }
-        let Ok(accesses) = &own else { return Ok(()) };
+        let Ok(accesses) = &own else { return Ok(Vec::new()) };
         let length = ACCESS_LENGTH * accesses.len();
         self.coverage.trace_room(length, case.trace_room);
         let traced = self.same(Job::Trace, |jobs| trace_exit(jobs, case, length))?;
@@ -362,7 +384,7 @@ impl Comparison<'_> {
             return Err(format!("a sheet's own trace differs: {:?}", replayed.verdict));
         }
         self.coverage.replay(&own, case.told_len, traced.bytes());
-        Ok(())
+        Ok(read_trace(traced.bytes()).expect("it agrees"))
     }
 
     /// Both sides count the same divisions, or refuse alike.
@@ -372,6 +394,40 @@ impl Comparison<'_> {
             self.coverage.divisions(&checked);
         }
         Ok(())
+    }
+
+    /// Both sides give the same outcome of each element that is asked for, with the sort and the
+    /// byte of the trace, and refuse alike where there is no element.
+    fn outcomes_agree(&mut self, case: &Case, accesses: &[Entry]) -> Result<(), String> {
+        let checked = check(&case.sheet, case.told_len);
+        let Asked { first, apart } = case.asked;
+        for access in accesses.iter().skip(first).step_by(apart) {
+            let place = [access.step, access.element].map(u32::from);
+            let told = self.same_outcome(case, place)?;
+            if !told.agrees(access) {
+                return Err(format!("the trace has {access:?}, the outcome is {told:?}"));
+            }
+        }
+        for place in no_elements(&case.sheet, &checked).into_iter().chain([case.place]) {
+            self.same_outcome(case, place)?;
+        }
+        Ok(())
+    }
+
+    /// The outcome at a place on both sides.
+    fn same_outcome(&mut self, case: &Case, place: Place) -> Result<Told, String> {
+        let told = |jobs| Told::by(jobs, &case.sheet, case.told_len, place);
+        let (archive, reference) = (told(self.archive), told(self.reference));
+        if archive != reference {
+            let [step, element] = place;
+            return Err(format!(
+                "Outcome of step {step}, element {element}: archive and reference differ in \
+                 {archive:?} and {reference:?}"
+            ));
+        }
+        self.coverage.outcome(&archive.outcome);
+        self.coverage.answer(Job::Outcome, &archive.answer, self.reference.cause());
+        Ok(archive)
     }
 }
 

@@ -4,7 +4,7 @@
 use std::collections::{BTreeMap, BTreeSet};
 
 use crate::case::Job;
-use crate::jobs::Answer;
+use crate::jobs::{names_a_dimension, Answer, OutcomeRow};
 use crate::reference::{
     check, do_step, read_sheet, Cause, Checked, Edition, Entry, Outcome, Refusal, Registers, Sheet,
     Step, RECORD_NUMBERS, WHOLE_STEP,
@@ -18,7 +18,7 @@ const PLACES: usize = 3;
 const PLACES_KEPT: usize = 1_000;
 /// One in so many sheets is to have a vector step, where the edition has such steps.
 const VECTORS_ONE_IN: u64 = 3;
-const JOBS: [Job; 9] = [
+const JOBS: [Job; 10] = [
     Job::Read,
     Job::Rewrite,
     Job::Check,
@@ -28,6 +28,7 @@ const JOBS: [Job; 9] = [
     Job::Trace,
     Job::Replay,
     Job::Divisions,
+    Job::Outcome,
 ];
 
 /// Counts of answers, causes and outcomes of the sheets that were made for an edition.
@@ -36,6 +37,7 @@ pub struct Coverage {
     edition: Edition,
     sheets: u64,
     sheets_with_vectors: u64,
+    outcomes_with_a_dimension: u64,
     answers: BTreeMap<(Job, u32), Answers>,
     causes: BTreeMap<Cause, u64>,
     sights: BTreeMap<String, u64>,
@@ -52,7 +54,9 @@ fn numbers(job: Job) -> Vec<u32> {
     match job {
         Job::Read => (0..=6).collect(),
         Job::Rewrite => (0..=6).chain([19]).collect(),
-        Job::Check | Job::CarryOut | Job::Divisions => (0..=15).chain([18]).collect(),
+        Job::Check | Job::CarryOut | Job::Divisions | Job::Outcome => {
+            (0..=15).chain([18]).collect()
+        }
         Job::Translate => (0..=16).chain([18]).collect(),
         Job::Run => (0..=6).chain([17, 18]).collect(),
         Job::Trace => (0..=15).chain([18, 19]).collect(),
@@ -227,6 +231,11 @@ impl Coverage {
         }
     }
 
+    /// Notes whether the outcome of an element names a dimension.
+    pub fn outcome(&mut self, row: &OutcomeRow) {
+        self.outcomes_with_a_dimension += u64::from(names_a_dimension(row));
+    }
+
     fn sight(&mut self, sight: String) {
         *self.sights.entry(sight).or_default() += 1;
     }
@@ -269,6 +278,7 @@ impl Coverage {
             table += &format!("{some} of {all} sheets have vector steps\n");
         }
         table += &self.replays();
+        table += &self.outcomes();
         table += &format!("{:<8}", "number");
         for job in JOBS {
             table += &format!("{:>20}", format!("{job:?} (places)"));
@@ -287,14 +297,26 @@ impl Coverage {
         table
     }
 
+    /// How many calls of a job were accepted, and how many there were.
+    fn accepted_of(&self, job: Job) -> (u64, u64) {
+        let calls = self.answers.iter().filter(|((of_job, _), _)| *of_job == job);
+        let all = calls.map(|(_, answers)| answers.count).sum();
+        (self.answers.get(&(job, 0)).map_or(0, |answers| answers.count), all)
+    }
+
     /// What became of the replays.
     fn replays(&self) -> String {
-        let replays = self.answers.iter().filter(|((job, _), _)| *job == Job::Replay);
-        let all: u64 = replays.map(|(_, answers)| answers.count).sum();
-        let accepted = self.answers.get(&(Job::Replay, 0)).map_or(0, |answers| answers.count);
+        let (accepted, all) = self.accepted_of(Job::Replay);
         let agree = self.sights.get(trace_sights::AGREES).copied().unwrap_or(0);
         let (differ, refused) = (accepted - agree, all - accepted);
         format!("{all} replays: {agree} agree, {differ} differ, {refused} are refused\n")
+    }
+
+    /// What became of the questions for an outcome.
+    fn outcomes(&self) -> String {
+        let (accepted, all) = self.accepted_of(Job::Outcome);
+        let (named, refused) = (self.outcomes_with_a_dimension, all - accepted);
+        format!("{all} outcomes asked: {named} name a dimension, {refused} are refused\n")
     }
 }
 

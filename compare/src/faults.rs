@@ -3,7 +3,7 @@
 use crate::case::{Case, Comparison};
 use crate::coverage::Coverage;
 use crate::generate::UNCLIPPED;
-use crate::jobs::{verdict_row, Answer, Jobs, Reference, State, VerdictRow, AGREES};
+use crate::jobs::{verdict_row, Answer, Jobs, OutcomeRow, Reference, State, VerdictRow, AGREES};
 use crate::reference::{
     check, divides, do_step, entries, indices, read_sheet, read_trace, trace_bytes, verdict,
     Addressing, Cause, Checked, Dimension, Edition, Entry, Interpretation, Kind, Matrix,
@@ -258,6 +258,18 @@ impl Jobs for Faulty {
             _ => {}
         }
         number
+    }
+
+    fn outcome(
+        &self,
+        sheet: &[u8],
+        memory_len: usize,
+        step: u32,
+        element: u32,
+        outcome: &mut OutcomeRow,
+        answer: &mut Answer,
+    ) -> u32 {
+        self.reference.outcome(sheet, memory_len, step, element, outcome, answer)
     }
 }
 

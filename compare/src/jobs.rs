@@ -1,11 +1,14 @@
 //! The public jobs with the parameters of the C interface, and the reference behind them.
 
-use std::cell::Cell;
+use std::cell::{Cell, Ref, RefCell};
 
-use crate::reference::{self, Carried, Cause, Refusal, Registers, Verdict, RECORD_NUMBERS};
+use crate::reference::{
+    self, Carried, Cause, Checked, Located, Outcome, Refusal, Registers, Side, Verdict,
+    RECORD_NUMBERS,
+};
 
 /// The row of four: number, place, second place, byte-elements (of a rewrite and a trace: bytes;
-/// of a replay: accesses; of divisions: their number).
+/// of a replay: accesses; of divisions: their number; of an outcome: 0).
 pub type Answer = [u32; 4];
 
 /// A replay's verdict: 1 and 0, or 0 and the index of the first difference.
@@ -19,6 +22,34 @@ pub fn verdict_row(verdict: Verdict) -> VerdictRow {
         Verdict::Agrees => AGREES,
         Verdict::Differs(index) => [0, index as u32],
     }
+}
+
+/// The outcome of an element: its sort, its byte or the bits that fill it, the first dimension in
+/// which it is not inside, and the side.
+pub type OutcomeRow = [u32; 4];
+/// Dimension and side of an element that is inside in every dimension.
+const INSIDE: [u32; 2] = [0, 0];
+
+/// An outcome handed over.
+pub fn outcome_row(located: Located) -> OutcomeRow {
+    let value = match located.outcome {
+        Outcome::Filled(bits) => bits,
+        Outcome::Placed(byte) => byte as u32,
+        Outcome::Skipped | Outcome::Discarded => 0,
+    };
+    let [dimension, side] = located.outside.map_or(INSIDE, |outside| {
+        let side = match outside.side {
+            Side::Below => 1,
+            Side::Above => 2,
+        };
+        [outside.dimension as u32, side]
+    });
+    [located.outcome.sort().into(), value, dimension, side]
+}
+
+/// Whether an outcome names a dimension.
+pub fn names_a_dimension(row: &OutcomeRow) -> bool {
+    row[2..] != INSIDE
 }
 
 /// The registers as the C interface hands them over: four bytes a register (kind, rows, columns,
@@ -49,7 +80,7 @@ impl State {
     }
 }
 
-/// The nine functions of `include/moonbleat.h`: each returns the refusal's number.
+/// The ten functions of `include/moonbleat.h`: each returns the refusal's number.
 pub trait Jobs {
     fn read(&self, sheet: &[u8], counts: &mut [u32; 3], answer: &mut Answer) -> u32;
 
@@ -96,13 +127,31 @@ pub trait Jobs {
     ) -> u32;
 
     fn divisions(&self, sheet: &[u8], memory_len: usize, answer: &mut Answer) -> u32;
+
+    fn outcome(
+        &self,
+        sheet: &[u8],
+        memory_len: usize,
+        step: u32,
+        element: u32,
+        outcome: &mut OutcomeRow,
+        answer: &mut Answer,
+    ) -> u32;
 }
 
 /// The plain implementation. It remembers why it refused last, which the C interface does not
-/// tell.
+/// tell, and the last sheet of which it gave an outcome, since there are many to give.
 #[derive(Default)]
 pub struct Reference {
     cause: Cell<Option<Cause>>,
+    last: RefCell<Option<Last>>,
+}
+
+/// A sheet, a memory length, and what checking gave.
+struct Last {
+    sheet: Vec<u8>,
+    memory_len: usize,
+    checked: Result<Checked, Refusal>,
 }
 
 impl Reference {
@@ -119,6 +168,16 @@ impl Reference {
             Err(refusal) => [refusal.cause.number(), refusal.place[0], refusal.place[1], 0],
         };
         answer[0]
+    }
+
+    /// What checking a sheet gives, which is remembered until another one comes.
+    pub fn checked(&self, sheet: &[u8], memory_len: usize) -> Ref<'_, Result<Checked, Refusal>> {
+        let same = |last: &Last| last.sheet == sheet && last.memory_len == memory_len;
+        if !self.last.borrow().as_ref().is_some_and(same) {
+            let checked = reference::check(sheet, memory_len);
+            self.last.replace(Some(Last { sheet: sheet.to_vec(), memory_len, checked }));
+        }
+        Ref::map(self.last.borrow(), |last| &last.as_ref().expect("there is one").checked)
     }
 
     fn finish_carried(
@@ -220,5 +279,21 @@ impl Jobs for Reference {
     fn divisions(&self, sheet: &[u8], memory_len: usize, answer: &mut Answer) -> u32 {
         let checked = reference::check(sheet, memory_len);
         self.finish(answer, checked.map(|checked| checked.divisions()))
+    }
+
+    fn outcome(
+        &self,
+        sheet: &[u8],
+        memory_len: usize,
+        step: u32,
+        element: u32,
+        outcome: &mut OutcomeRow,
+        answer: &mut Answer,
+    ) -> u32 {
+        let checked = self.checked(sheet, memory_len);
+        let checked = checked.as_ref().map_err(|refusal| *refusal);
+        let located = checked.and_then(|checked| checked.located(step, element));
+        *outcome = located.map_or([0; 4], outcome_row);
+        self.finish(answer, located.map(|_| 0))
     }
 }

@@ -8,6 +8,7 @@ pub mod damage;
 mod faults;
 pub mod generate;
 pub mod jobs;
+mod outcomes;
 pub mod random;
 pub mod reference;
 pub mod shrink;

@@ -9,7 +9,7 @@ use std::time::Instant;
 
 use archive::Archive;
 use compare::bench::{bench, bench_sides, timed_sheets};
-use compare::case::{Case, Comparison};
+use compare::case::{Asked, Case, Comparison};
 use compare::coverage::Coverage;
 use compare::jobs::Reference;
 use compare::random::Random;
@@ -35,6 +35,9 @@ const SHEETS_FOR_COVERAGE: u64 = 20_000;
 const SEED: u64 = 1;
 /// Each sheet of the timings is compared so often, with other traces each time.
 const TIMES_TIMED: u64 = 10;
+/// So far apart are the elements of such a sheet whose outcomes are asked for, others each time: it
+/// has 7,936, and each question checks them all. No side of a matrix divides it.
+const TIMED_APART: usize = 251;
 
 struct Options {
     help: bool,
@@ -159,7 +162,8 @@ fn compare_timed(seed: u64) -> Result<(), String> {
     for (name, sheet) in &sheets {
         for number in 0..TIMES_TIMED {
             let random = &mut Random::of_case(seed, number);
-            let case = Case::of_sheet(random, edition, sheet.clone(), MEMORY_MAX);
+            let mut case = Case::of_sheet(random, edition, sheet.clone(), MEMORY_MAX);
+            case.asked = Asked { first: number as usize, apart: TIMED_APART };
             compare_case(&mut comparison, case)
                 .map_err(|what| format!("seed {seed}, {name} of the timings: {what}"))?;
         }

@@ -83,6 +83,9 @@ fn candidates(case: &Case) -> Vec<Case> {
     for room in shorter(case.trace_room) {
         add(&|case| case.trace_room = room);
     }
+    if case.place != [0, 0] {
+        add(&|case| case.place = [0, 0]);
+    }
     add_plain_rooms(case, &mut candidates);
     candidates
 }
@@ -218,7 +221,8 @@ impl fmt::Display for Case {
         writeln!(f, "memory length told where there is no memory: {}", self.told_len)?;
         writeln!(f, "room for a sheet: {} bytes", self.sheet_room)?;
         writeln!(f, "room for a trace: {} bytes", self.trace_room)?;
-        write!(f, "room for a tape: {} numbers", self.tape_room)?;
+        writeln!(f, "room for a tape: {} numbers", self.tape_room)?;
+        write!(f, "outcome asked for: step {}, element {}", self.place[0], self.place[1])?;
         for tape in &self.tapes {
             write!(f, "\ntape, {} records of {} numbers:", tape.records, tape.numbers.len())?;
             for record in tape.numbers.chunks(RECORD_NUMBERS) {

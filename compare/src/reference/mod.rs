@@ -21,7 +21,7 @@ pub use addressing::{
 pub use carry::{carry_out, check, check_step, do_step, Carried, Checked, Types};
 pub use edition::Edition;
 pub use kind::Kind;
-pub use outcome::{outcome, Located};
+pub use outcome::Located;
 pub use refusal::{Cause, Refusal};
 pub use registers::{Matrix, Registers, Type};
 pub use sheet::{

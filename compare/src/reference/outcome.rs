@@ -1,7 +1,7 @@
 //! The outcome of one element, with the way in which it was clamped.
 
 use super::addressing::{Outcome, Outside};
-use super::carry::{check, Checked};
+use super::carry::Checked;
 use super::refusal::{Cause, Refusal};
 
 /// What becomes of an element, and the first dimension in which it is not inside, if any.
@@ -9,17 +9,6 @@ use super::refusal::{Cause, Refusal};
 pub struct Located {
     pub outcome: Outcome,
     pub outside: Option<Outside>,
-}
-
-/// The outcome of an element of a load or a store: the sheet's refusal, or 5 where there is no
-/// such element.
-pub fn outcome(
-    sheet: &[u8],
-    memory_len: usize,
-    step: u32,
-    element: u32,
-) -> Result<Located, Refusal> {
-    check(sheet, memory_len)?.located(step, element)
 }
 
 impl Checked {
@@ -42,6 +31,7 @@ impl Checked {
 #[cfg(test)]
 mod tests {
     use super::super::addressing::Side;
+    use super::super::carry::check;
     use super::super::sheet::{sheet_bytes, ClampMode, Clip, Dimension, Layout, Sheet, Step, View};
     use super::super::Kind;
     use super::*;
@@ -72,7 +62,8 @@ mod tests {
 
     /// What becomes of the elements of a step.
     fn of_step(clamp_mode: ClampMode, step: u32) -> Vec<(Outcome, Option<(usize, Side)>)> {
-        let located = |element| outcome(&sheet(clamp_mode), 4, step, element).expect("accepted");
+        let checked = check(&sheet(clamp_mode), 4).expect("accepted");
+        let located = |element| checked.located(step, element).expect("there is one");
         let pair = |outside: Outside| (outside.dimension, outside.side);
         (0..8).map(located).map(|l| (l.outcome, l.outside.map(pair))).collect()
     }
@@ -113,9 +104,9 @@ mod tests {
 
     #[test]
     fn there_is_no_outcome_of_another_step_or_past_a_matrix() {
-        let sheet = sheet(ClampMode::Constant);
+        let checked = check(&sheet(ClampMode::Constant), 4).expect("accepted");
         let refused = |step, element| {
-            let refusal = outcome(&sheet, 4, step, element).expect_err("no such element");
+            let refusal = checked.located(step, element).expect_err("no such element");
             assert_eq!((refusal.cause.number(), refusal.place), (5, [step, element]));
             refusal.cause
         };
@@ -124,7 +115,5 @@ mod tests {
         assert_eq!(refused(u32::MAX, u32::MAX), Cause::AskedPastSteps);
         assert_eq!(refused(LOAD, 8), Cause::AskedPastMatrix);
         assert_eq!(refused(STORE, u32::MAX), Cause::AskedPastMatrix);
-        let too_short = outcome(&sheet, 3, 0, 0).expect_err("byte 3 is past memory");
-        assert_eq!((too_short.cause, too_short.place), (Cause::PastMemory, [1, 5]));
     }
 }

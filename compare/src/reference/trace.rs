@@ -27,15 +27,25 @@ pub struct Entry {
     pub byte: u32,
 }
 
+impl Outcome {
+    /// The number of its sort.
+    pub fn sort(self) -> u8 {
+        match self {
+            Outcome::Skipped => SKIPPED,
+            Outcome::Filled(_) => FILLED,
+            Outcome::Discarded => DISCARDED,
+            Outcome::Placed(_) => PLACED,
+        }
+    }
+}
+
 impl Entry {
     fn of(step: usize, element: usize, outcome: Outcome) -> Entry {
-        let (sort, byte) = match outcome {
-            Outcome::Skipped => (SKIPPED, 0),
-            Outcome::Filled(_) => (FILLED, 0),
-            Outcome::Discarded => (DISCARDED, 0),
-            Outcome::Placed(byte) => (PLACED, byte as u32),
+        let byte = match outcome {
+            Outcome::Placed(byte) => byte as u32,
+            _ => 0,
         };
-        Entry { step: step as u16, element: element as u16, sort, byte }
+        Entry { step: step as u16, element: element as u16, sort: outcome.sort(), byte }
     }
 
     /// Writes the access's field.
