@@ -4,7 +4,7 @@ use std::hint::black_box;
 
 use crate::coverage::Coverage;
 use crate::damage::{damage, noise};
-use crate::generate::{generate, many_records};
+use crate::generate::{generate, many_records, partly_outside, Generated};
 use crate::jobs::{Answer, Jobs, Reference, State, VerdictRow, AGREES};
 use crate::outcomes::{no_elements, random_place, Place, Told};
 use crate::random::Random;
@@ -23,6 +23,8 @@ const GARBAGE: u8 = 0xA5;
 const GARBAGE_WORD: u32 = 0xA5A5_A5A5;
 /// Random cases that an edition has.
 const CASES_AN_EDITION: u64 = 1 << 48;
+/// From this one on they are partly outside.
+pub const FIRST_PARTLY_OUTSIDE: u64 = CASES_AN_EDITION / 2;
 
 /// The inputs of every job.
 #[derive(Clone)]
@@ -62,17 +64,10 @@ impl Case {
     /// another one.
     pub fn of_seed(edition: Edition, seed: u64, number: u64) -> Case {
         let random = &mut Random::of_case(seed, first_case(edition) + number);
-        let (sheet, memory_len) = match random.below(100) {
-            0..=57 => {
-                let generated = generate(random, edition);
-                (generated.sheet, generated.memory_len)
-            }
-            58..=59 => (many_records(random, edition), MEMORY_MAX),
-            60..=94 => {
-                let generated = generate(random, edition);
-                (damage(random, &generated.sheet, edition), generated.memory_len)
-            }
-            _ => (noise(random, edition), random.below(100)),
+        let Generated { sheet, memory_len } = if number < FIRST_PARTLY_OUTSIDE {
+            any_sheet(random, edition)
+        } else {
+            partly_outside(random, edition)
         };
         Case::of_sheet(random, edition, sheet, memory_len)
     }
@@ -107,6 +102,19 @@ impl Case {
             memory,
             told_len,
         }
+    }
+}
+
+/// A sheet as it is made, one with a long tape, a damaged one, or noise.
+fn any_sheet(random: &mut Random, edition: Edition) -> Generated {
+    match random.below(100) {
+        0..=57 => generate(random, edition),
+        58..=59 => Generated { sheet: many_records(random, edition), memory_len: MEMORY_MAX },
+        60..=94 => {
+            let generated = generate(random, edition);
+            Generated { sheet: damage(random, &generated.sheet, edition), ..generated }
+        }
+        _ => Generated { sheet: noise(random, edition), memory_len: random.below(100) },
     }
 }
 
@@ -410,6 +418,9 @@ impl Comparison<'_> {
         }
         for place in no_elements(&case.sheet, &checked).into_iter().chain([case.place]) {
             self.same_outcome(case, place)?;
+        }
+        if let Ok(checked) = &checked {
+            self.coverage.sides(checked);
         }
         Ok(())
     }

@@ -10,7 +10,7 @@ use crate::reference::{
     Step, RECORD_NUMBERS, WHOLE_STEP,
 };
 use crate::tapes::Tape;
-use crate::{span_sights, trace_sights, vector_sights};
+use crate::{side_sights, span_sights, trace_sights, vector_sights};
 
 /// How many different places a refusal is to be met at, where it has more than one.
 const PLACES: usize = 3;
@@ -231,6 +231,13 @@ impl Coverage {
         }
     }
 
+    /// Notes where the elements of an accepted sheet are, each of which is asked for its outcome.
+    pub fn sides(&mut self, checked: &Checked) {
+        for sight in side_sights::of_accepted(checked) {
+            self.sight(sight);
+        }
+    }
+
     /// Notes whether the outcome of an element names a dimension.
     pub fn outcome(&mut self, row: &OutcomeRow) {
         self.outcomes_with_a_dimension += u64::from(names_a_dimension(row));
@@ -324,6 +331,7 @@ impl Coverage {
 fn sights(edition: Edition) -> Vec<String> {
     let mut sights = trace_sights::every();
     sights.extend(span_sights::every());
+    sights.extend(side_sights::every());
     if edition.has_vectors() {
         sights.extend(vector_sights::every());
     }

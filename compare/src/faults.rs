@@ -2,13 +2,13 @@
 
 use crate::case::{Case, Comparison};
 use crate::coverage::Coverage;
-use crate::generate::UNCLIPPED;
 use crate::jobs::{verdict_row, Answer, Jobs, OutcomeRow, Reference, State, VerdictRow, AGREES};
 use crate::reference::{
     check, divides, do_step, entries, indices, read_sheet, read_trace, trace_bytes, verdict,
     Addressing, Cause, Checked, Dimension, Edition, Entry, Interpretation, Kind, Matrix,
-    MemoryLayout, Outcome, Registers, Step, VectorStep, View, ACCESS_LENGTH, BIAS_SIZE, PLACED,
+    MemoryLayout, Outcome, Registers, Step, VectorStep, ACCESS_LENGTH, BIAS_SIZE, PLACED,
 };
+use crate::side_sights::unclipped_index;
 use crate::span_sights::is_outside;
 use crate::traces::{mended, BYTE, SORT};
 
@@ -397,12 +397,6 @@ fn index_with(
         (Fault::CountsByTheElementsNumber, _) => Some(element as u64),
         _ => addressing.index(element).expect("accepted"),
     }
-}
-
-/// The index that an element would have if its view clipped nothing, unless it is too large.
-fn unclipped_index(addressing: &Addressing, element: usize) -> Option<u64> {
-    let view = addressing.view.map(|view| View { clip: UNCLIPPED, ..view.clone() });
-    Addressing { view: view.as_ref(), ..*addressing }.index(element).ok()?
 }
 
 /// Counts the divisions of an index with a fault.

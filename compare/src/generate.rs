@@ -45,6 +45,32 @@ pub fn generate(random: &mut Random, edition: Edition) -> Generated {
     Generated { sheet, memory_len }
 }
 
+/// A random sheet of accepted steps through one layout. Some of its leading dimensions are inside,
+/// so that elements are outside in a later one first; now and then the first has a span of 1.
+pub fn partly_outside(random: &mut Random, edition: Edition) -> Generated {
+    let count = random.pick(&[1, 2, 3, 4, 5, 5, 5]);
+    let mut dimensions = padded_dimensions(random, count);
+    for dimension in &mut dimensions[..random.below(count)] {
+        dimension.offset = 0;
+        dimension.span = dimension.size;
+    }
+    if random.percent(20) {
+        dimensions[0].span = 1;
+    }
+    let clamp_mode = random.pick(&[
+        ClampMode::Constant,
+        ClampMode::ClampToEdge,
+        ClampMode::Repeat,
+        ClampMode::MirrorRepeat,
+    ]);
+    let layouts = vec![Layout { clamp_mode, clamp_value: random.bits() as u32, dimensions }];
+    let mut sheet = Sheet { edition, layouts, ..Sheet::default() };
+    let count = step_count(random);
+    StepMaker { random, types: Types::default(), memory_len: MEMORY_MAX }
+        .add_steps(&mut sheet, count, None);
+    Generated { sheet: sheet_bytes(&sheet), memory_len: MEMORY_MAX }
+}
+
 /// The refusal that a step is to get, if any. Where there are vector steps, those that they can
 /// get come more often, for them and for the others.
 fn wanted_refusal(random: &mut Random, edition: Edition) -> Option<u32> {

@@ -12,6 +12,7 @@ mod outcomes;
 pub mod random;
 pub mod reference;
 pub mod shrink;
+mod side_sights;
 mod span_sights;
 pub mod strips;
 pub mod tapes;

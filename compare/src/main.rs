@@ -9,7 +9,7 @@ use std::time::Instant;
 
 use archive::Archive;
 use compare::bench::{bench, bench_sides, timed_sheets};
-use compare::case::{Asked, Case, Comparison};
+use compare::case::{Asked, Case, Comparison, FIRST_PARTLY_OUTSIDE};
 use compare::coverage::Coverage;
 use compare::jobs::Reference;
 use compare::random::Random;
@@ -19,10 +19,10 @@ use compare::strips::check_strips;
 
 const HELP: &str = "\
 compare [--sheets N] [--seed S] [--edition E] [--case K] [--trace]
-    Compare every public job of the archive with the reference on the sheets of the timings and
-    on N random sheets (20000) of each edition. The same seed gives the same sheets. --edition E
-    takes only the random sheets of edition E, --case K only sheet K of them, --trace prints the
-    number of each before it is tried.
+    Compare every public job of the archive with the reference on the sheets of the timings and,
+    of each edition, on N random sheets (20000) and on N/20 more that are partly outside. The same
+    seed gives the same sheets. --edition E takes only the random sheets of edition E, --case K
+    only sheet K of them, --trace prints the number of each before it is tried.
 compare bench [--sides] [--samples N]
     Time both sides on named sheets, N samples each (51). --sides prints only the last table, of
     what lies outside.
@@ -32,6 +32,8 @@ compare dump FOLDER [--sheets N] [--seed S] [--edition E]
 
 /// From this many sheets of an edition on, every refusal and every outcome must have been met.
 const SHEETS_FOR_COVERAGE: u64 = 20_000;
+/// For so many sheets there is one more that is partly outside.
+const SHEETS_A_PARTLY_OUTSIDE: u64 = 20;
 const SEED: u64 = 1;
 /// Each sheet of the timings is compared so often, with other traces each time.
 const TIMES_TIMED: u64 = 10;
@@ -177,31 +179,37 @@ fn compare_edition(options: &Options, edition: Edition) -> Result<(), String> {
     let reference = Reference::default();
     let coverage = Coverage::new(edition);
     let mut comparison = Comparison { archive: &Archive, reference: &reference, coverage };
-    let cases = match options.case {
-        Some(case) => case..case + 1,
-        None => 0..options.sheets,
-    };
-    let count = cases.end - cases.start;
+    let numbers = numbers(options);
     let of_edition = format!("seed {}, edition {}", options.seed, edition.number());
-    println!("{of_edition}, sheets {} to {}", cases.start, cases.end.saturating_sub(1));
-    for number in cases {
+    println!("{of_edition}, {} sheets", numbers.len());
+    for number in &numbers {
         if options.trace {
             println!("sheet {number}");
         }
-        let case = Case::of_seed(edition, options.seed, number);
+        let case = Case::of_seed(edition, options.seed, *number);
         compare_case(&mut comparison, case)
             .map_err(|what| format!("{of_edition}, sheet {number}: {what}"))?;
     }
     println!("{}", comparison.coverage.table());
-    if count >= SHEETS_FOR_COVERAGE {
+    if options.case.is_none() && options.sheets >= SHEETS_FOR_COVERAGE {
         let missing = comparison.coverage.missing();
         if !missing.is_empty() {
             return Err(format!("{of_edition}: never met:\n  {}", missing.join("\n  ")));
         }
         println!("every refusal of every job and every outcome was met");
     }
-    println!("{count} sheets of edition {} agree", edition.number());
+    println!("{} sheets of edition {} agree", numbers.len(), edition.number());
     Ok(())
+}
+
+/// The numbers of an edition's random cases.
+fn numbers(options: &Options) -> Vec<u64> {
+    if let Some(case) = options.case {
+        return vec![case];
+    }
+    let outside =
+        FIRST_PARTLY_OUTSIDE..FIRST_PARTLY_OUTSIDE + options.sheets / SHEETS_A_PARTLY_OUTSIDE;
+    (0..options.sheets).chain(outside).collect()
 }
 
 /// Compares every job on a case. One that fails is shrunk, and all is said about it.
