@@ -2,11 +2,14 @@
 
 use crate::case::{Case, Comparison};
 use crate::coverage::Coverage;
-use crate::jobs::{verdict_row, Answer, Jobs, OutcomeRow, Reference, State, VerdictRow, AGREES};
+use crate::jobs::{
+    outcome_row, verdict_row, Answer, Jobs, OutcomeRow, Reference, State, VerdictRow, AGREES,
+};
 use crate::reference::{
     check, divides, do_step, entries, indices, read_sheet, read_trace, trace_bytes, verdict,
-    Addressing, Cause, Checked, Dimension, Edition, Entry, Interpretation, Kind, Matrix,
-    MemoryLayout, Outcome, Registers, Step, VectorStep, ACCESS_LENGTH, BIAS_SIZE, PLACED,
+    Addressing, Cause, Checked, Dimension, Edition, Entry, Interpretation, Kind, Located, Matrix,
+    MemoryLayout, Outcome, Outside, Registers, Side, Step, VectorStep, ACCESS_LENGTH, BIAS_SIZE,
+    PLACED,
 };
 use crate::side_sights::unclipped_index;
 use crate::span_sights::is_outside;
@@ -58,6 +61,19 @@ enum Fault {
     CountsByTheElementsNumber,
     CountsByTheRegistersSize,
     KeepsTheDivisionsOfRefused,
+    NamesTheLastDimension,
+    CountsDimensionsFrom1,
+    TellsAboveNextBelow,
+    TellsBelowAtTheSize,
+    TellsTheSideAfterRepeating,
+    NamesNoneOfDiscarded,
+    NamesNoneOfPlaced,
+    NamesOneOfSkipped,
+    FillsWithTheWholeValue,
+    LosesHighBitsOfAPlace,
+    GivesOutcomesByTheRegistersSize,
+    CountsTheOutcome,
+    KeepsTheOutcomeOfRefused,
 }
 
 const FAULTS: [Fault; 8] = [
@@ -112,6 +128,23 @@ const DIVISION_FAULTS: [Fault; 9] = [
     Fault::CountsByTheElementsNumber,
     Fault::CountsByTheRegistersSize,
     Fault::KeepsTheDivisionsOfRefused,
+];
+
+/// Faults that take outcomes to show.
+const OUTCOME_FAULTS: [Fault; 13] = [
+    Fault::NamesTheLastDimension,
+    Fault::CountsDimensionsFrom1,
+    Fault::TellsAboveNextBelow,
+    Fault::TellsBelowAtTheSize,
+    Fault::TellsTheSideAfterRepeating,
+    Fault::NamesNoneOfDiscarded,
+    Fault::NamesNoneOfPlaced,
+    Fault::NamesOneOfSkipped,
+    Fault::FillsWithTheWholeValue,
+    Fault::LosesHighBitsOfAPlace,
+    Fault::GivesOutcomesByTheRegistersSize,
+    Fault::CountsTheOutcome,
+    Fault::KeepsTheOutcomeOfRefused,
 ];
 
 /// The reference with a fault.
@@ -269,7 +302,28 @@ impl Jobs for Faulty {
         outcome: &mut OutcomeRow,
         answer: &mut Answer,
     ) -> u32 {
-        self.reference.outcome(sheet, memory_len, step, element, outcome, answer)
+        let [step, element] = match self.fault {
+            Fault::LosesHighBitsOfAPlace => [step, element].map(|number| number & 0xFFFF),
+            _ => [step, element],
+        };
+        self.reference.outcome(sheet, memory_len, step, element, outcome, answer);
+        if answer[0] != 0 {
+            outcome[0] = u32::from(matches!(self.fault, Fault::KeepsTheOutcomeOfRefused));
+            return answer[0];
+        }
+        let checked = self.reference.checked(sheet, memory_len);
+        let checked = checked.as_ref().expect("accepted");
+        *outcome = outcome_with(self.fault, checked, step as usize, element as usize);
+        match self.fault {
+            Fault::CountsTheOutcome => answer[3] = 1,
+            Fault::GivesOutcomesByTheRegistersSize
+                if by_the_registers_size(checked).located(step, element).is_err() =>
+            {
+                (*outcome, *answer) = ([0; 4], [5, step, element, 0]);
+            }
+            _ => {}
+        }
+        answer[0]
     }
 }
 
@@ -424,6 +478,57 @@ fn divides_with(fault: Fault, dimension: &Dimension, index: u64) -> bool {
     }
 }
 
+/// The outcome of an element with a fault.
+fn outcome_with(fault: Fault, checked: &Checked, step: usize, element: usize) -> OutcomeRow {
+    let addressing = checked.addressing(step).expect("a load or a store");
+    let outcome = match (fault, checked.outcomes[step][element]) {
+        (Fault::FillsWithTheWholeValue, Outcome::Filled(_)) => {
+            Outcome::Filled(addressing.layout.clamp_value)
+        }
+        (_, outcome) => outcome,
+    };
+    let outside = outside_with(fault, &addressing, element, outcome);
+    outcome_row(Located { outcome, outside })
+}
+
+/// The dimension and the side that an element has with a fault.
+fn outside_with(
+    fault: Fault,
+    addressing: &Addressing,
+    element: usize,
+    outcome: Outcome,
+) -> Option<Outside> {
+    let index = match (fault, outcome) {
+        (Fault::NamesNoneOfDiscarded, Outcome::Discarded) => return None,
+        (Fault::NamesNoneOfPlaced, Outcome::Placed(_)) => return None,
+        (Fault::NamesOneOfSkipped, Outcome::Skipped) => unclipped_index(addressing, element)?,
+        _ => addressing.index(element).expect("accepted")?,
+    };
+    let mut all = addressing.all_outside(index);
+    let Outside { dimension, side } = match fault {
+        Fault::NamesTheLastDimension => all.last()?,
+        _ => all.next()?,
+    };
+    let coordinate = addressing.coordinates(index)[dimension];
+    let side = side_with(fault, coordinate, addressing.layout.dimensions[dimension].size, side);
+    match fault {
+        Fault::CountsDimensionsFrom1 => Some(Outside { dimension: dimension + 1, side }),
+        _ => Some(Outside { dimension, side }),
+    }
+}
+
+/// The side on which a coordinate is with a fault.
+fn side_with(fault: Fault, coordinate: i64, size: u16, side: Side) -> Side {
+    let size = i64::from(size);
+    match fault {
+        Fault::TellsAboveNextBelow if coordinate == -1 => Side::Above,
+        Fault::TellsBelowAtTheSize if coordinate == size => Side::Below,
+        Fault::TellsTheSideAfterRepeating if coordinate.rem_euclid(size) < size / 2 => Side::Below,
+        Fault::TellsTheSideAfterRepeating => Side::Above,
+        _ => side,
+    }
+}
+
 const EDITION_1: [u8; 4] = [1, 1, 0, 1];
 const EDITION_2: [u8; 4] = [1, 1, 0, 2];
 
@@ -502,7 +607,7 @@ fn each_fault_is_found_out() {
     for fault in VECTOR_FAULTS {
         assert!(found_out(&faulty(fault), Edition::Two), "{fault:?}");
     }
-    for fault in [&TRACE_FAULTS[..], &DIVISION_FAULTS].concat() {
+    for fault in [&TRACE_FAULTS[..], &DIVISION_FAULTS, &OUTCOME_FAULTS].concat() {
         for edition in Edition::ALL {
             assert!(found_out(&faulty(fault), edition), "{fault:?}");
         }
