@@ -1,8 +1,9 @@
 //! The strips of the scope and three beside them: sheets and memories from the files under `strips/`, and what the
 //! scope says that they give.
 
-use crate::jobs::{Jobs, State, AGREES};
-use crate::reference::{trace_bytes, Entry, RECORD_NUMBERS};
+use crate::jobs::{Answer, Jobs, OutcomeRow, State, AGREES};
+use crate::outcomes::{Place, Told};
+use crate::reference::{trace_bytes, Entry, PLACED, RECORD_NUMBERS};
 
 /// A strip: a sheet, the memory that it is carried out on, and what that gives.
 pub struct Strip {
@@ -68,29 +69,64 @@ pub const STRIP_4_TAPE: [[i32; RECORD_NUMBERS]; 5] = [
     [1, 1, 6, 2, 2, -1],
 ];
 
-/// The sort and the byte of an element in a trace.
-type Access = (u8, u32);
-const SKIPPED: Access = (0, 0);
-const FILLED: Access = (1, 0);
-const DISCARDED: Access = (2, 0);
+/// Where the loads and stores of the strips begin, after a fill.
+const FIRST_ACCESS: Place = [1, 0];
+const NO_OUTCOME: OutcomeRow = [0; 4];
+const SKIPPED: OutcomeRow = [0, 0, 0, 0];
+/// With strip 1's value.
+const FILLED_BELOW: OutcomeRow = [1, 9, 0, 1];
+const FILLED_ABOVE: OutcomeRow = [1, 9, 0, 2];
+const DISCARDED_BELOW: OutcomeRow = [2, 0, 0, 1];
+const DISCARDED_ABOVE: OutcomeRow = [2, 0, 0, 2];
 
-const fn at(byte: u32) -> Access {
-    (3, byte)
+/// At a byte, and inside.
+const fn at(byte: u32) -> OutcomeRow {
+    [3, byte, 0, 0]
+}
+
+/// At a byte, from a coordinate of dimension 0 that is below.
+const fn below(byte: u32) -> OutcomeRow {
+    [3, byte, 0, 1]
+}
+
+const fn above(byte: u32) -> OutcomeRow {
+    [3, byte, 0, 2]
 }
 
 /// Strips with what becomes of the elements of their loads and stores, from step 1 on, as the
-/// scope says.
-const ACCESSES: [(&str, &[[Access; 8]]); 4] = [
-    ("01-constant", &[[FILLED, FILLED, at(0), at(1), at(2), at(3), FILLED, FILLED]]),
-    ("04-mirror-repeat", &[[at(2), at(1), at(0), at(1), at(2), at(3), at(2), at(1)]]),
+/// scope says. In strips 1 to 6 the coordinates are -2 to 5, of which 0 to 3 are inside; of a
+/// dimension of 1, 0 alone.
+const OUTCOMES: [(&str, &[&[OutcomeRow]]); 9] = [
+    (
+        "01-constant",
+        &[&[FILLED_BELOW, FILLED_BELOW, at(0), at(1), at(2), at(3), FILLED_ABOVE, FILLED_ABOVE]],
+    ),
+    ("02-clamp-to-edge", &[&[below(0), below(0), at(0), at(1), at(2), at(3), above(3), above(3)]]),
+    ("03-repeat", &[&[below(2), below(3), at(0), at(1), at(2), at(3), above(0), above(1)]]),
+    ("04-mirror-repeat", &[&[below(2), below(1), at(0), at(1), at(2), at(3), above(2), above(1)]]),
+    (
+        "04-mirror-repeat-of-one",
+        &[&[below(0), below(0), at(0), above(0), above(0), above(0), above(0), above(0)]],
+    ),
     (
         "06-clamped-store",
         &[
-            [at(16), at(16), at(16), at(17), at(18), at(19), at(19), at(19)],
-            [DISCARDED, DISCARDED, at(0), at(1), at(2), at(3), DISCARDED, DISCARDED],
+            &[below(16), below(16), at(16), at(17), at(18), at(19), above(19), above(19)],
+            &[
+                DISCARDED_BELOW,
+                DISCARDED_BELOW,
+                at(0),
+                at(1),
+                at(2),
+                at(3),
+                DISCARDED_ABOVE,
+                DISCARDED_ABOVE,
+            ],
         ],
     ),
-    ("08-clip", &[[SKIPPED, SKIPPED, at(0), at(1), SKIPPED, SKIPPED, at(4), at(5)]]),
+    ("07-permuted-view", &[&[at(0), at(3), at(1), at(4), at(2), at(5)]]),
+    ("08-clip", &[&[SKIPPED, SKIPPED, at(0), at(1), SKIPPED, SKIPPED, at(4), at(5)]]),
+    ("10-stride-zero-single", &[&[at(0)]]),
 ];
 
 /// Strips with the divisions that rule 3 counts over all elements of their loads and stores.
@@ -128,8 +164,10 @@ pub fn check_strips(jobs: &dyn Jobs) -> Result<usize, String> {
     }
     check_strip_4_tape(jobs)?;
     let named = |name| strips.iter().find(|strip| strip.name == name).expect("there is one");
-    for (name, steps) in ACCESSES {
-        check_trace(jobs, named(name), steps).map_err(|what| format!("strip {name}: {what}"))?;
+    for (name, steps) in OUTCOMES {
+        check_trace(jobs, named(name), steps)
+            .and_then(|()| check_outcomes(jobs, named(name), steps))
+            .map_err(|what| format!("strip {name}: {what}"))?;
     }
     for (name, count) in DIVISIONS {
         check_divisions(jobs, named(name), count)
@@ -154,7 +192,11 @@ fn check_strip(jobs: &dyn Jobs, strip: &Strip) -> Result<(), String> {
         Expected::Memory(at, bytes) => {
             expected_memory[at..at + bytes.len()].copy_from_slice(bytes);
         }
-        Expected::Refusal(refusal) => expected_answer = refusal,
+        Expected::Refusal(refusal) => {
+            expected_answer = refusal;
+            let [number, step, element] = refusal;
+            check_outcome(jobs, strip, FIRST_ACCESS, NO_OUTCOME, [number, step, element, 0])?;
+        }
     }
     equal("number and place", &answer[..3], &expected_answer)?;
     equal("memory", &memory, &expected_memory)
@@ -183,10 +225,12 @@ fn check_strip_4_tape(jobs: &dyn Jobs) -> Result<(), String> {
 }
 
 /// The trace of a strip is the one that is expected, which agrees in a replay.
-fn check_trace(jobs: &dyn Jobs, strip: &Strip, steps: &[[Access; 8]]) -> Result<(), String> {
+fn check_trace(jobs: &dyn Jobs, strip: &Strip, steps: &[&[OutcomeRow]]) -> Result<(), String> {
     let mut entries = Vec::new();
-    for (step, accesses) in (1..).zip(steps) {
-        for (element, &(sort, byte)) in (0..).zip(accesses) {
+    for (step, outcomes) in (1..).zip(steps) {
+        for (element, &[sort, value, ..]) in (0..).zip(*outcomes) {
+            let sort = sort as u8;
+            let byte = if sort == PLACED { value } else { 0 };
             entries.push(Entry { step, element, sort, byte });
         }
     }
@@ -198,6 +242,33 @@ fn check_trace(jobs: &dyn Jobs, strip: &Strip, steps: &[[Access; 8]]) -> Result<
     jobs.replay(&strip.sheet, memory_len, &expected, &mut verdict, &mut answer);
     equal("answer of its replay", &answer, &[0, 0, 0, entries.len() as u32])?;
     equal("verdict", &verdict, &AGREES)
+}
+
+/// Each element has the outcome that is expected. The fill and what is past a matrix have none.
+fn check_outcomes(jobs: &dyn Jobs, strip: &Strip, steps: &[&[OutcomeRow]]) -> Result<(), String> {
+    let mut none = vec![[0, 0], [1 + steps.len() as u32, 0]];
+    for (step, &outcomes) in (1..).zip(steps) {
+        none.push([step, outcomes.len() as u32]);
+        for (element, &outcome) in (0..).zip(outcomes) {
+            check_outcome(jobs, strip, [step, element], outcome, [0; 4])?;
+        }
+    }
+    for [step, element] in none {
+        check_outcome(jobs, strip, [step, element], NO_OUTCOME, [5, step, element, 0])?;
+    }
+    Ok(())
+}
+
+fn check_outcome(
+    jobs: &dyn Jobs,
+    strip: &Strip,
+    place: Place,
+    outcome: OutcomeRow,
+    answer: Answer,
+) -> Result<(), String> {
+    let told = Told::by(jobs, &strip.sheet, strip.memory.len(), place);
+    equal(&format!("outcome at {place:?}"), &told.outcome, &outcome)?;
+    equal(&format!("answer at {place:?}"), &told.answer, &answer)
 }
 
 fn check_divisions(jobs: &dyn Jobs, strip: &Strip, count: u32) -> Result<(), String> {
