@@ -48,7 +48,7 @@ pub struct Case {
 }
 
 /// Some of the elements of a sheet's loads and stores.
-#[derive(Clone, Copy)]
+#[derive(Clone, Copy, PartialEq, Eq)]
 pub struct Asked {
     pub first: usize,
     pub apart: usize,

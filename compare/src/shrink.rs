@@ -2,7 +2,7 @@
 
 use std::fmt;
 
-use crate::case::Case;
+use crate::case::{Asked, Case};
 use crate::damage::fields;
 use crate::reference::{
     read_sheet, sheet_bytes, Sheet, Step, VectorStep, RECORDS_MAX, RECORD_NUMBERS,
@@ -85,6 +85,9 @@ fn candidates(case: &Case) -> Vec<Case> {
     }
     if case.place != [0, 0] {
         add(&|case| case.place = [0, 0]);
+    }
+    if case.asked != Asked::ALL {
+        add(&|case| case.asked = Asked::ALL);
     }
     add_plain_rooms(case, &mut candidates);
     candidates
