@@ -49,6 +49,14 @@ struct Answers {
     places: BTreeSet<[u32; 2]>,
 }
 
+impl Answers {
+    fn add_place(&mut self, place: [u32; 2]) {
+        if self.places.len() < PLACES_KEPT {
+            self.places.insert(place);
+        }
+    }
+}
+
 /// The numbers that a job can give, 0 for an accepted input included.
 fn numbers(job: Job) -> Vec<u32> {
     match job {
@@ -80,13 +88,29 @@ impl Coverage {
         Coverage { edition, ..Coverage::default() }
     }
 
+    /// Adds what other sheets of the edition met.
+    pub fn add(&mut self, other: Coverage) {
+        self.sheets += other.sheets;
+        self.sheets_with_vectors += other.sheets_with_vectors;
+        self.outcomes_with_a_dimension += other.outcomes_with_a_dimension;
+        for (key, met) in other.answers {
+            let answers = self.answers.entry(key).or_default();
+            answers.count += met.count;
+            met.places.into_iter().for_each(|place| answers.add_place(place));
+        }
+        for (cause, count) in other.causes {
+            *self.causes.entry(cause).or_default() += count;
+        }
+        for (sight, count) in other.sights {
+            *self.sights.entry(sight).or_default() += count;
+        }
+    }
+
     /// Notes an answer of a job and the reference's cause for it.
     pub fn answer(&mut self, job: Job, answer: &Answer, cause: Option<Cause>) {
         let answers = self.answers.entry((job, answer[0])).or_default();
         answers.count += 1;
-        if answers.places.len() < PLACES_KEPT {
-            answers.places.insert([answer[1], answer[2]]);
-        }
+        answers.add_place([answer[1], answer[2]]);
         if let Some(cause) = cause {
             *self.causes.entry(cause).or_default() += 1;
         }

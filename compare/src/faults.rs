@@ -623,3 +623,25 @@ fn no_cases_meet_nothing() {
     assert!(missing(Edition::One) > 200);
     assert!(missing(Edition::Two) > missing(Edition::One) + 80);
 }
+
+/// What some of an edition's cases met, with the reference on both sides.
+fn met(edition: Edition, numbers: impl Iterator<Item = u64>) -> Coverage {
+    let reference = Reference::default();
+    let coverage = Coverage::new(edition);
+    let mut comparison = Comparison { archive: &reference, reference: &reference, coverage };
+    for number in numbers {
+        comparison.compare(&Case::of_seed(edition, 1, number)).expect("it is the same");
+    }
+    comparison.coverage
+}
+
+#[test]
+fn two_shares_of_the_cases_meet_what_all_meet() {
+    for edition in Edition::ALL {
+        let all = met(edition, 0..CASES);
+        let mut both = met(edition, (0..CASES).step_by(2));
+        both.add(met(edition, (1..CASES).step_by(2)));
+        assert_eq!(both.table(), all.table());
+        assert_eq!(both.missing(), all.missing());
+    }
+}

@@ -5,6 +5,7 @@ mod archive;
 
 use std::path::Path;
 use std::process::ExitCode;
+use std::thread::{self, available_parallelism};
 use std::time::Instant;
 
 use archive::Archive;
@@ -176,23 +177,14 @@ fn compare_timed(seed: u64) -> Result<(), String> {
 
 /// The random cases of an edition, then what they met.
 fn compare_edition(options: &Options, edition: Edition) -> Result<(), String> {
-    let reference = Reference::default();
-    let coverage = Coverage::new(edition);
-    let mut comparison = Comparison { archive: &Archive, reference: &reference, coverage };
     let numbers = numbers(options);
     let of_edition = format!("seed {}, edition {}", options.seed, edition.number());
     println!("{of_edition}, {} sheets", numbers.len());
-    for number in &numbers {
-        if options.trace {
-            println!("sheet {number}");
-        }
-        let case = Case::of_seed(edition, options.seed, *number);
-        compare_case(&mut comparison, case)
-            .map_err(|what| format!("{of_edition}, sheet {number}: {what}"))?;
-    }
-    println!("{}", comparison.coverage.table());
+    let coverage = compare_numbers(options, edition, &numbers)
+        .map_err(|(number, what)| format!("{of_edition}, sheet {number}: {what}"))?;
+    println!("{}", coverage.table());
     if options.case.is_none() && options.sheets >= SHEETS_FOR_COVERAGE {
-        let missing = comparison.coverage.missing();
+        let missing = coverage.missing();
         if !missing.is_empty() {
             return Err(format!("{of_edition}: never met:\n  {}", missing.join("\n  ")));
         }
@@ -200,6 +192,64 @@ fn compare_edition(options: &Options, edition: Edition) -> Result<(), String> {
     }
     println!("{} sheets of edition {} agree", numbers.len(), edition.number());
     Ok(())
+}
+
+/// A case that fails: its number, and all that is said about it.
+type Failure = (u64, String);
+
+/// Compares the cases of some numbers, shared out among threads unless each is to be printed.
+fn compare_numbers(
+    options: &Options,
+    edition: Edition,
+    numbers: &[u64],
+) -> Result<Coverage, Failure> {
+    let threads = match available_parallelism() {
+        Ok(count) if !options.trace => count.get(),
+        _ => 1,
+    };
+    let shares = thread::scope(|scope| {
+        let share = |first| move || compare_share(options, edition, numbers, first, threads);
+        let running: Vec<_> = (0..threads).map(|first| scope.spawn(share(first))).collect();
+        running.into_iter().map(|thread| thread.join().expect("no thread panics")).collect()
+    });
+    join(shares, edition)
+}
+
+/// What all shares met, or the first case that failed.
+fn join(shares: Vec<Result<Coverage, Failure>>, edition: Edition) -> Result<Coverage, Failure> {
+    let mut coverage = Coverage::new(edition);
+    let mut failures = Vec::new();
+    for share in shares {
+        match share {
+            Ok(met) => coverage.add(met),
+            Err(failure) => failures.push(failure),
+        }
+    }
+    match failures.into_iter().min() {
+        Some(failure) => Err(failure),
+        None => Ok(coverage),
+    }
+}
+
+/// Compares each so many-th case from one on, up to the first that fails.
+fn compare_share(
+    options: &Options,
+    edition: Edition,
+    numbers: &[u64],
+    first: usize,
+    apart: usize,
+) -> Result<Coverage, Failure> {
+    let reference = Reference::default();
+    let coverage = Coverage::new(edition);
+    let mut comparison = Comparison { archive: &Archive, reference: &reference, coverage };
+    for &number in numbers.iter().skip(first).step_by(apart) {
+        if options.trace {
+            println!("sheet {number}");
+        }
+        let case = Case::of_seed(edition, options.seed, number);
+        compare_case(&mut comparison, case).map_err(|what| (number, what))?;
+    }
+    Ok(comparison.coverage)
 }
 
 /// The numbers of an edition's random cases.
