@@ -41,13 +41,13 @@ pub struct Case {
     pub trace_room: usize,
     pub tapes: Vec<Tape>,
     pub traces: Vec<Vec<u8>>,
-    /// The elements whose outcomes are asked for: from one on, each so many places after the last.
+    /// Which outcomes are asked for.
     pub asked: Asked,
     /// A place whose outcome is asked for too, whether there is an element or not.
     pub place: Place,
 }
 
-/// Some of the elements of a sheet's loads and stores.
+/// Some of many: one, and each so many places after the last.
 #[derive(Clone, Copy, PartialEq, Eq)]
 pub struct Asked {
     pub first: usize,
@@ -55,8 +55,11 @@ pub struct Asked {
 }
 
 impl Asked {
-    /// Every element.
     pub const ALL: Asked = Asked { first: 0, apart: 1 };
+
+    fn of<T>(self, many: impl IntoIterator<Item = T>) -> impl Iterator<Item = T> {
+        many.into_iter().skip(self.first).step_by(self.apart)
+    }
 }
 
 impl Case {
@@ -408,15 +411,14 @@ impl Comparison<'_> {
     /// byte of the trace, and refuse alike where there is no element.
     fn outcomes_agree(&mut self, case: &Case, accesses: &[Entry]) -> Result<(), String> {
         let checked = check(&case.sheet, case.told_len);
-        let Asked { first, apart } = case.asked;
-        for access in accesses.iter().skip(first).step_by(apart) {
+        for access in case.asked.of(accesses) {
             let place = [access.step, access.element].map(u32::from);
             let told = self.same_outcome(case, place)?;
             if !told.agrees(access) {
                 return Err(format!("the trace has {access:?}, the outcome is {told:?}"));
             }
         }
-        for place in no_elements(&case.sheet, &checked).into_iter().chain([case.place]) {
+        for place in case.asked.of(no_elements(&case.sheet, &checked)).chain([case.place]) {
             self.same_outcome(case, place)?;
         }
         if let Ok(checked) = &checked {

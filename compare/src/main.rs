@@ -38,8 +38,8 @@ const SHEETS_A_PARTLY_OUTSIDE: u64 = 20;
 const SEED: u64 = 1;
 /// Each sheet of the timings is compared so often, with other traces each time.
 const TIMES_TIMED: u64 = 10;
-/// So far apart are the elements of such a sheet whose outcomes are asked for, others each time: it
-/// has 7,936, and each question checks them all. No side of a matrix divides it.
+/// So far apart are the outcomes of such a sheet that are asked for, others each time: there are up
+/// to 7,936, and each question checks all. It divides no matrix.
 const TIMED_APART: usize = 251;
 
 struct Options {
