@@ -6,7 +6,7 @@ use crate::coverage::Coverage;
 use crate::damage::{damage, noise};
 use crate::generate::{generate, many_records, partly_outside, Generated};
 use crate::jobs::{Answer, Jobs, Reference, State, VerdictRow, AGREES};
-use crate::outcomes::{no_elements, random_place, Place, Told};
+use crate::outcomes::{first_access, no_elements, random_place, Place, Told};
 use crate::random::Random;
 use crate::reference::{
     check, entries, read_sheet, read_trace, translate, Edition, Entry, ACCESS_LENGTH, MEMORY_MAX,
@@ -20,7 +20,7 @@ const TAPE_ROOM: usize = RECORDS_MAX * RECORD_NUMBERS;
 /// Bytes before and after a lent slice that must stay as they are.
 const GUARD: usize = 32;
 const GARBAGE: u8 = 0xA5;
-const GARBAGE_WORD: u32 = 0xA5A5_A5A5;
+pub const GARBAGE_WORD: u32 = 0xA5A5_A5A5;
 /// Random cases that an edition has.
 const CASES_AN_EDITION: u64 = 1 << 48;
 /// From this one on they are partly outside.
@@ -410,7 +410,6 @@ impl Comparison<'_> {
     /// Both sides give the same outcome of each element that is asked for, with the sort and the
     /// byte of the trace, and refuse alike where there is no element.
     fn outcomes_agree(&mut self, case: &Case, accesses: &[Entry]) -> Result<(), String> {
-        let checked = check(&case.sheet, case.told_len);
         for access in case.asked.of(accesses) {
             let place = [access.step, access.element].map(u32::from);
             let told = self.same_outcome(case, place)?;
@@ -418,11 +417,14 @@ impl Comparison<'_> {
                 return Err(format!("the trace has {access:?}, the outcome is {told:?}"));
             }
         }
-        for place in case.asked.of(no_elements(&case.sheet, &checked)).chain([case.place]) {
+        let refused = if let Ok(checked) = check(&case.sheet, case.told_len) {
+            self.coverage.sides(&checked);
+            no_elements(&checked)
+        } else {
+            vec![first_access(&read_sheet(&case.sheet).unwrap_or_default().steps)]
+        };
+        for place in case.asked.of(refused).chain([case.place]) {
             self.same_outcome(case, place)?;
-        }
-        if let Ok(checked) = &checked {
-            self.coverage.sides(checked);
         }
         Ok(())
     }

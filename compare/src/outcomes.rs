@@ -1,13 +1,14 @@
 //! Questions for the outcome of an element, beside those for each element that there is, and what
 //! a call leaves.
 
+use crate::case::GARBAGE_WORD;
 use crate::jobs::{Answer, Jobs, OutcomeRow};
 use crate::random::Random;
-use crate::reference::{read_sheet, Checked, Entry, Refusal, Step, PLACED};
+use crate::reference::{Checked, Entry, Step, PLACED};
 
-const GARBAGE: u32 = 0xA5A5_A5A5;
-/// Bits that a number of a byte or of two bytes would lose.
-const HIGH_BITS: [u32; 2] = [1 << 8, 1 << 16];
+/// What a byte, and what two bytes, would lose of a number.
+const PAST_A_BYTE: u32 = 1 << 8;
+const PAST_TWO_BYTES: u32 = 1 << 16;
 const FAR: u32 = u32::MAX;
 
 /// A step and an element of it.
@@ -24,7 +25,7 @@ pub struct Told {
 impl Told {
     /// What a call leaves of garbage that it is lent.
     pub fn by(jobs: &dyn Jobs, sheet: &[u8], memory_len: usize, place: Place) -> Told {
-        let (mut outcome, mut answer) = ([GARBAGE; 4], [GARBAGE; 4]);
+        let (mut outcome, mut answer) = ([GARBAGE_WORD; 4], [GARBAGE_WORD; 4]);
         let [step, element] = place;
         let returned = jobs.outcome(sheet, memory_len, step, element, &mut outcome, &mut answer);
         Told { returned, outcome, answer }
@@ -37,30 +38,28 @@ impl Told {
     }
 }
 
-/// Places at which an accepted sheet has no element of a load or a store. Of a refused one, where
-/// nothing is looked up, the beginning of its first load or store.
-pub fn no_elements(sheet: &[u8], checked: &Result<Checked, Refusal>) -> Vec<Place> {
-    let Ok(checked) = checked else {
-        let steps = read_sheet(sheet).map_or(Vec::new(), |sheet| sheet.steps);
-        let access = |step: &Step| matches!(step, Step::Load { .. } | Step::Store { .. });
-        return vec![[steps.iter().position(access).unwrap_or(0) as u32, 0]];
-    };
+/// Places at which an accepted sheet has no element of a load or a store: past each matrix, in each
+/// other step, and past the steps.
+pub fn no_elements(checked: &Checked) -> Vec<Place> {
     let steps = checked.outcomes.len() as u32;
     let mut places = vec![[steps, 0], [FAR, 0]];
-    let mut first_access = None;
     for step in 0..steps {
         if let Some(addressing) = checked.addressing(step as usize) {
             let past = addressing.type_.elements() as u32;
-            places.extend([past, 1 << 16, FAR].map(|element| [step, element]));
-            first_access = first_access.or(Some(step));
+            places.extend([past, PAST_TWO_BYTES, FAR].map(|element| [step, element]));
         } else {
             places.push([step, 0]);
         }
     }
-    if let Some(step) = first_access {
-        places.extend(HIGH_BITS.map(|high| [step | high, 0]));
-    }
+    let [access, element] = first_access(&checked.sheet.steps);
+    places.extend([PAST_A_BYTE, PAST_TWO_BYTES].map(|past| [past + access, element]));
     places
+}
+
+/// The first place of some steps that may have an outcome, or the first of all.
+pub fn first_access(steps: &[Step]) -> Place {
+    let is_access = |step: &Step| matches!(step, Step::Load { .. } | Step::Store { .. });
+    [steps.iter().position(is_access).unwrap_or(0) as u32, 0]
 }
 
 /// Any place, most often one that a sheet might have.

@@ -5,10 +5,9 @@ use std::collections::BTreeSet;
 
 use crate::generate::UNCLIPPED;
 use crate::reference::{
-    Access, Addressing, Checked, ClampMode, Dimension, Outcome, Outside, Side, View,
+    Access, Addressing, Checked, ClampMode, Dimension, Outcome, Outside, Side, View, DIMENSIONS_MAX,
 };
 
-const DIMENSIONS_MAX: usize = 5;
 const ACCESSES: [Access; 2] = [Access::Load, Access::Store];
 const SIDES: [Side; 2] = [Side::Below, Side::Above];
 /// The modes that place an element of a load that is outside.

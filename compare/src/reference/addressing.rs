@@ -5,7 +5,7 @@ use super::registers::Type;
 use super::sheet::{ClampMode, Dimension, Layout, View};
 
 /// The most dimensions of a layout or a view.
-const DIMENSIONS_MAX: usize = 5;
+pub const DIMENSIONS_MAX: usize = 5;
 
 /// Which way the elements go.
 #[derive(Clone, Copy, PartialEq, Eq, Debug)]

@@ -16,7 +16,7 @@ mod vector;
 mod whole;
 
 pub use addressing::{
-    divides, divisions, indices, side, Access, Addressing, Outcome, Outside, Side,
+    divides, divisions, indices, side, Access, Addressing, Outcome, Outside, Side, DIMENSIONS_MAX,
 };
 pub use carry::{carry_out, check, check_step, do_step, Carried, Checked, Types};
 pub use edition::Edition;
