@@ -451,6 +451,7 @@ fn vectors(side: usize, interpretation: Interpretation) -> Sheet {
 mod tests {
     use super::*;
     use crate::jobs::Reference;
+    use crate::reference::{check, Outcome};
 
     #[test]
     fn the_sheets_of_the_timings_are_accepted() {
@@ -460,6 +461,42 @@ mod tests {
                 call(&mut bench, &Reference::default());
                 assert_eq!(bench.answer[0], 0, "{name}");
             }
+        }
+    }
+
+    /// How many elements are filled and discarded, each outside in one dimension, and how many
+    /// are placed from outside in every dimension.
+    fn outside(sheet: &[u8]) -> [usize; 3] {
+        let checked = check(sheet, MEMORY_MAX).expect("accepted");
+        let mut counts = [0; 3];
+        for (addressing, outcomes) in checked.addressings() {
+            let dimensions = addressing.layout.dimensions.len();
+            for (element, outcome) in outcomes.iter().enumerate() {
+                let index = addressing.index(element).expect("accepted").expect("no view");
+                match (outcome, addressing.all_outside(index).count()) {
+                    (Outcome::Filled(_), 1) => counts[0] += 1,
+                    (Outcome::Discarded, 1) => counts[1] += 1,
+                    (Outcome::Placed(_), count) if count == dimensions => counts[2] += 1,
+                    (Outcome::Placed(_), 0) => {}
+                    other => panic!("{other:?}"),
+                }
+            }
+        }
+        counts
+    }
+
+    #[test]
+    fn what_lies_outside_is_as_named() {
+        for (name, sheet) in sheets_by_sides() {
+            let expected = match name.rsplit(", ").next().expect("a name") {
+                "inside" => [0, 0, 0],
+                "a quarter filled" => [ELEMENTS / 4, 0, 0],
+                "all filled" => [ELEMENTS, 0, 0],
+                "all mirrored" => [0, 0, ELEMENTS],
+                "half discarded" => [0, ELEMENTS / 2, 0],
+                other => panic!("{other}"),
+            };
+            assert_eq!(outside(&sheet), expected, "{name}");
         }
     }
 }
