@@ -86,7 +86,7 @@ $(TOOL)/readme: README.md include/moonbleat.h $(ARCHIVE) | $(TOOL)
 $(TOOL)/unhex: harness/unhex.c | $(TOOL)
 	$(COMPILE) harness/unhex.c -o $@
 
-$(TOOL)/test-%: tests/%.c tests/round_trip.h $(OBJECTS) $(ARCHIVE)
+$(TOOL)/test-%: tests/%.c $(wildcard tests/*.h) $(OBJECTS) $(ARCHIVE)
 	$(COMPILE) $(filter-out %.h,$^) $(LDLIBS) -o $@
 
 # Help and manual page have one source, the tool itself.

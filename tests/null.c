@@ -1,9 +1,8 @@
 /* Holds the header's word on pointers: each slice may be NULL where its length is 0, and the answer
  * is then that of any other empty slice. */
-#include <stdbool.h>
-#include <stdio.h>
 #include <string.h>
 
+#include "cases.h"
 #include "moonbleat.h"
 
 /* What a function may fill. */
@@ -193,15 +192,12 @@ static bool holds(size_t i)
     return memcmp(&with_null, &with_another, sizeof with_null) == 0 && with_null.returned == cases[i].refusal;
 }
 
+static const char *name_of(size_t i)
+{
+    return cases[i].name;
+}
+
 int main(void)
 {
-    int failed = 0;
-    for (size_t i = 0; i < CASES; i++) {
-        if (!holds(i)) {
-            printf("FAILED: %s\n", cases[i].name);
-            failed++;
-        }
-    }
-    printf("slices of length 0: %d passed, %d failed\n", CASES - failed, failed);
-    return failed != 0;
+    return try_cases("slices of length 0", CASES, holds, name_of);
 }

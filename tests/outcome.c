@@ -1,20 +1,12 @@
 /* Holds the header's word on outcomes: what an accepted question gets, and that a refused one gets zeros
  * beside its number and place. */
-#include <stdbool.h>
-#include <stdio.h>
 #include <string.h>
 
+#include "cases.h"
 #include "moonbleat.h"
+#include "padded_sheet.h"
 
-/* A layout with Constant 9, size 4 from offset -2 on; register 1 is loaded through it and stored to 16. */
-static const uint8_t sheet[] = {
-    0x01, 1,  0, 1,                                                    /* edition 1 */
-    0x10, 16, 0, 1, 1, 9, 0, 0, 0, 1, 0, 4, 0, 1, 0, 0xFE, 0xFF, 8, 0, /* layout 0 */
-    0x20, 8,  0, 0, 1, 8, 0, 0, 0, 0, 0,                               /* step 0: fill, 1 by 8 of u8 */
-    0x21, 8,  0, 1, 0, 0, MOONBLEAT_NONE, 0, 0, 0, 0,                  /* step 1: load */
-    0x22, 7,  0, 1, 0, MOONBLEAT_NONE, 16, 0, 0, 0,                    /* step 2: store */
-};
-enum { MEMORY = 20, CUT_SHORT = sizeof sheet - 1, STORE_AT = 45 };
+enum { CUT_SHORT = sizeof sheet - 1, STORE_AT = 45 };
 
 static const struct {
     const char *name;
@@ -55,15 +47,12 @@ static bool holds(size_t i)
            memcmp(answer, cases[i].answer, sizeof answer) == 0;
 }
 
+static const char *name_of(size_t i)
+{
+    return cases[i].name;
+}
+
 int main(void)
 {
-    int failed = 0;
-    for (size_t i = 0; i < CASES; i++) {
-        if (!holds(i)) {
-            printf("FAILED: %s\n", cases[i].name);
-            failed++;
-        }
-    }
-    printf("outcomes: %d passed, %d failed\n", CASES - failed, failed);
-    return failed != 0;
+    return try_cases("outcomes", CASES, holds, name_of);
 }
