@@ -41,7 +41,8 @@ byte-inside tensors (Store register window) m e b h =
     access-inside (accessOf tensors false window (theType (m .registers .types) register) (length (m .memory))) e b h
 byte-inside tensors (Whole whole) m e b h = absurd h
 
-access-apart : (a : Access) → a .load ≡ false → accessRefusal a .number ≡ 0 → (i j b : ℕ) → HasByteOf a i b → HasByteOf a j b → i ≡ j
+-- Two elements of one accepted store never share a byte: elements that have the same byte are one.
+pub access-apart : (a : Access) → a .load ≡ false → accessRefusal a .number ≡ 0 → (i j b : ℕ) → HasByteOf a i b → HasByteOf a j b → i ≡ j
 access-apart a s ok i j b g h =
     let p = has-placed (a .size) b (outcomeOf a i) (g .1) in
     let q = has-placed (a .size) b (outcomeOf a j) (h .1) in
@@ -51,7 +52,7 @@ access-apart a s ok i j b g h =
     (⊎-elim (λ l. omega (arith, p .1 .1 .1, q .1 .1 .0)) (λ l. omega (arith, q .1 .1 .1, p .1 .1 .0))
     (placed-apart a ok s i j (g .0) (h .0) d (p .1 .0) (q .1 .0))))
 
--- Two elements of one accepted store never share a byte: elements that have the same byte are one.
+-- So it is of an accepted step on a machine.
 pub bytes-apart : (edition : ℕ) (tensors : Tensors) (step : Step) (m : Machine) → Accepted edition tensors step m → isStore step ≡ true
     → (i j b : ℕ) → HasByte tensors step m i b → HasByte tensors step m j b → i ≡ j
 unfolding checkedStep

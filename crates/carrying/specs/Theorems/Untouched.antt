@@ -32,7 +32,7 @@ step-memory tensors (Load register object window) m e =
 step-memory tensors (Store register window) m e = absurd (true≢false e)
 step-memory tensors (Whole whole) m e = refl
 
--- A byte that a step does not cover is as before.
+-- A byte that a step does not write is as before.
 pub step-untouched : (tensors : Tensors) (step : Step) (m : Machine) (b : ℕ) → (Writes tensors step m b → ⊥) → getD (performedStep tensors step m .memory) b 0 ≡ getD (m .memory) b 0
 unfolding performedStep storeDone
 step-untouched tensors Nothing m b h = refl
@@ -54,7 +54,7 @@ from-untouched (suc n) sh k m b h =
     (λ i l c. let e : k + suc i ≡ k + 1 + i = omega arith in h (suc i) (omega arith) (rw e c))
     ∙ step-untouched (sh .tensors) step m b first
 
--- A byte that no step of a sheet covers is as before.
+-- A byte that no step of a sheet writes is as before.
 pub sheet-untouched : (sh : Sheet) (m : Machine) (b : ℕ) → Unwritten sh m b → getD (performed sh m .memory) b 0 ≡ getD (m .memory) b 0
 unfolding performed
 sheet-untouched sh m b h = from-untouched (sh .steps) sh 0 m b (λ i l c. h i l (rw zero-add at c))
