@@ -1,5 +1,6 @@
 -- Orders of a store's placed elements, and what a card leaves that writes each store's elements in an order of its own.
 use Prim.Native.Nat.{ℕ, zero, suc, _+_, _<_}
+use mathlib.Core.Path.{_≡_}
 use mathlib.Core.List.{List, [], _∷_, foldl, Perm}
 use Rattle.numbers.specs.Lists.{each}
 use Rattle.outcomes.specs.declared.Outcome.{Outcome}
@@ -11,11 +12,16 @@ use Rattle.sheet.specs.declared.Step.the-variants.{Nothing, Load, Store, Whole}
 use Rattle.sheet_ranges.specs.Steps.{theStep}
 use Rattle.addressing.specs.Rules.{elementsOf}
 use Rattle.addressing.specs.declared.Access.{Access}
+use Rattle.accesses.specs.Refusals.{placedOne}
 use Rattle.transfers.specs.Acts.{State, stored}
 use Rattle.transfers.specs.Transfers.{outcomeOf}
 use Rattle.carrying.specs.Steps.{Machine, stateOf, machineOf, performedStep}
 use Rattle.carrying.specs.Carrying.{performedFrom}
 use Rattle.carrying.specs.Bytes.{storeOn}
+
+-- element k of a load or a store has a byte
+abbrev pub IsPlaced : Access → ℕ → Type 0
+IsPlaced a k = (k < elementsOf a) × (placedOne (outcomeOf a k) ≡ 1)
 
 -- element k, if its outcome has a byte
 abbrev pub ifPlaced : Outcome → ℕ → List ℕ
@@ -31,7 +37,7 @@ placedOf outcome n = each n (λ (k : ℕ). ifPlaced (outcome k) k)
 abbrev pub placedElements : Access → List ℕ
 placedElements a = placedOf (outcomeOf a) (elementsOf a)
 
--- an order of the placed elements is a permutation of them, as the library has it
+-- an order of them is a permutation, as the library has it: theorem `each-once` says that each of them stands in it once, and nothing else
 abbrev pub Order : Access → List ℕ → Type 0
 Order a order = Perm order (placedElements a)
 

@@ -20,7 +20,7 @@ use Rattle.sheet_reader.specs.Reading.{readSheet}
 use Rattle.registers.specs.Types.{theType}
 use Rattle.addressing.specs.Rules.{elementsOf}
 use Rattle.addressing.specs.declared.Access.{Access}
-use Rattle.accesses.specs.Refusals.{accessRefusal, placedOne}
+use Rattle.accesses.specs.Refusals.{accessRefusal}
 use Rattle.transfers.specs.Acts.{State, stored}
 use Rattle.transfers.specs.Transfers.{outcomeOf, storedElements}
 use Rattle.checking.specs.Steps.{checkedStep}
@@ -33,17 +33,17 @@ use Rattle.carrying.specs.Bytes.{storeOn}
 use Rattle.carrying.specs.Machines.{Accepted, stepOn}
 use Rattle.carrying.specs.Laws.Types.{checkFrom, first-accepted, rest-checked}
 use Rattle.carrying.specs.Theorems.Stores.{access-apart}
-use Rattle.orders.specs.Orders.{placedElements, Order, storedInOrder, performedInOrder, performedInOrdersFrom, performedInOrders, OrderOn, OrdersOn}
+use Rattle.orders.specs.Orders.{IsPlaced, placedElements, Order, storedInOrder, performedInOrder, performedInOrdersFrom, performedInOrders, OrderOn, OrdersOn}
 use Rattle.orders.specs.Laws.Permuted.{permuted}
 use Rattle.orders.specs.Laws.Placed.{placed-only, placed-all, placed-once}
 use Rattle.orders.specs.Laws.Elements.{state-set, row-order, stored-apart}
 
 -- The orders of a store are the lists in which each placed element stands exactly once, and nothing else stands.
 module _ (a : Access) where
-  placed-exactly : (k : ℕ) → List·Mem k (placedElements a) ↔ ((k < elementsOf a) × (placedOne (outcomeOf a k) ≡ 1))
+  placed-exactly : (k : ℕ) → List·Mem k (placedElements a) ↔ IsPlaced a k
   placed-exactly k = (placed-only (outcomeOf a) (elementsOf a) k, λ h. placed-all (outcomeOf a) (elementsOf a) k (h .0) (h .1))
 
-  pub each-once : (order : List ℕ) → Order a order ↔ (List·Nodup order × ((k : ℕ) → List·Mem k order ↔ ((k < elementsOf a) × (placedOne (outcomeOf a k) ≡ 1))))
+  pub each-once : (order : List ℕ) → Order a order ↔ (List·Nodup order × ((k : ℕ) → List·Mem k order ↔ IsPlaced a k))
   each-once order = (
     λ p. (Perm·nodup (Perm·symm p) (placed-once (outcomeOf a) (elementsOf a)), λ k. Iff·trans (Perm·mem-iff p) (placed-exactly k)),
     λ h. perm-ext-iff-of-nodup (h .0) (placed-once (outcomeOf a) (elementsOf a)) .1 (λ k. Iff·trans (h .1 k) (Iff·symm (placed-exactly k))),
