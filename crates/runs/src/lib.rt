@@ -256,7 +256,7 @@ pub fn write_run(tape: &mut [i32], at: usize, load: bool, register: u8, r: Run) 
             down,
         } => {
             let record = records::moved(load, register, first, count, byte, up, down);
-            records::put_record(tape, at * records::NUMBERS, record);
+            record_writer::put_record(tape, at * records::NUMBERS, record);
             at + 1
         }
         Run::Fills {
@@ -270,7 +270,7 @@ pub fn write_run(tape: &mut [i32], at: usize, load: bool, register: u8, r: Run) 
                 count,
                 value,
             };
-            records::put_record(tape, at * records::NUMBERS, record);
+            record_writer::put_record(tape, at * records::NUMBERS, record);
             at + 1
         }
     }

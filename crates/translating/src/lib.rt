@@ -50,7 +50,7 @@ fn write_copy(tape: &mut [i32], at: usize, register: u8, object: Object) -> usiz
     match object {
         Object::Kept => at,
         Object::Register(r) => {
-            records::put_record(
+            record_writer::put_record(
                 tape,
                 at * records::NUMBERS,
                 Record::Copy {
@@ -99,7 +99,7 @@ fn write_whole(tape: &mut [i32], at: usize, step: usize) -> usize
     requires { ⌜ (step < stepPlaces) × Room (now tape) at (Record.Whole step ∷ []) ⌝ }
     ensures { λ r. ⌜ Wrote (now (tape .entry)) (now (tape .exit)) at (Record.Whole step ∷ []) r ⌝ }
 {
-    records::put_record(tape, at * records::NUMBERS, Record::Whole { step });
+    record_writer::put_record(tape, at * records::NUMBERS, Record::Whole { step });
     at + 1
 }
 

@@ -1,8 +1,8 @@
 use lib.IntN.{pos}
-use Rattle.records.proofs.Laws.{four}
+use Rattle.record_writer.proofs.Laws.{four}
 use borrow.Author.Needs.{needs}
-use Rattle.records.proofs.put_four.Statement.{statement}
-use Rattle.records.proofs.put_four.Tie as tie
+use Rattle.record_writer.proofs.put_four.Statement.{statement}
+use Rattle.record_writer.proofs.put_four.Tie as tie
 
 put-natural-requires : tie.Need-put-natural-requires
 put-natural-requires c κs = search needs

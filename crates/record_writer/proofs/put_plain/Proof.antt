@@ -1,8 +1,8 @@
 use lib.IntN.{pos}
-use Rattle.records.proofs.Laws.{six}
+use Rattle.record_writer.proofs.Laws.{six}
 use borrow.Author.Needs.{needs}
-use Rattle.records.proofs.put_plain.Statement.{statement}
-use Rattle.records.proofs.put_plain.Tie as tie
+use Rattle.record_writer.proofs.put_plain.Statement.{statement}
+use Rattle.record_writer.proofs.put_plain.Tie as tie
 
 put-four-requires : tie.Need-put-four-requires
 put-four-requires c κs = search needs

@@ -1,9 +1,9 @@
 use mathlib.Core.Path.{subst}
 use Rattle.records.specs.Ranges.{InRange}
 use native.Mathlib.Omega.{arith}
 use borrow.Author.Needs.{needs}
-use Rattle.records.proofs.put_record.Statement.{statement}
-use Rattle.records.proofs.put_record.Tie as tie
+use Rattle.record_writer.proofs.put_record.Statement.{statement}
+use Rattle.record_writer.proofs.put_record.Tie as tie
 
 enum-known-r : tie.Need-enum-known-r
 enum-known-r c = search needs
