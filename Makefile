@@ -11,8 +11,8 @@
 #   make test       these, those of the header's promises, and those of an installed library
 #   make text-test  try the text form and the diagnoses, with sanitizers: on all sheets of the
 #                   comparison, and on TEXTS damaged texts
-#   make compare    hold the archive to the second implementation on SHEETS sheets of each edition;
-#                   SHEETS=n SEED=n for other sheets
+#   make compare    hold the archive to the second implementation on SHEETS sheets of each edition,
+#                   with stores in other orders and exchanged too; SHEETS=n SEED=n for other sheets
 #   make bench      time the archive beside it
 #   make night-speed  time a night of NIGHT sheets with eight cards
 #   make lint       cppcheck, warnings as errors, and the header as C++

@@ -6,12 +6,16 @@ use crate::coverage::Coverage;
 use crate::damage::{damage, noise};
 use crate::generate::{generate, many_records, partly_outside, Generated};
 use crate::jobs::{Answer, Jobs, Reference, State, VerdictRow, AGREES};
+use crate::neighbours::neighbouring_stores;
+use crate::order_sights::Exchange;
+use crate::orders::perform;
 use crate::outcomes::{first_access, no_elements, random_place, Place, Told};
 use crate::random::Random;
 use crate::reference::{
-    check, entries, read_sheet, read_trace, translate, Edition, Entry, ACCESS_LENGTH, MEMORY_MAX,
-    RECORDS_MAX, RECORD_NUMBERS,
+    check, entries, read_sheet, read_trace, sheet_bytes, translate, Checked, Edition, Entry,
+    ACCESS_LENGTH, MEMORY_MAX, RECORDS_MAX, RECORD_NUMBERS,
 };
+use crate::stores::{exchangeable, Faultless, Stores, Written};
 use crate::tapes::{damage_tape, random_tape, Tape};
 use crate::traces::{accesses, traces};
 
@@ -25,6 +29,8 @@ pub const GARBAGE_WORD: u32 = 0xA5A5_A5A5;
 const CASES_AN_EDITION: u64 = 1 << 48;
 /// From this one on they are partly outside.
 pub const FIRST_PARTLY_OUTSIDE: u64 = CASES_AN_EDITION / 2;
+/// From this one on they have neighbouring stores.
+pub const FIRST_NEIGHBOURING: u64 = CASES_AN_EDITION / 4 * 3;
 
 /// The inputs of every job.
 #[derive(Clone)]
@@ -41,10 +47,12 @@ pub struct Case {
     pub trace_room: usize,
     pub tapes: Vec<Tape>,
     pub traces: Vec<Vec<u8>>,
-    /// Which outcomes are asked for.
+    /// Which outcomes are asked for, and which neighbouring stores are exchanged.
     pub asked: Asked,
     /// A place whose outcome is asked for too, whether there is an element or not.
     pub place: Place,
+    /// The seed of the orders in which stores are performed.
+    pub orders: u64,
 }
 
 /// Some of many: one, and each so many places after the last.
@@ -67,10 +75,10 @@ impl Case {
     /// another one.
     pub fn of_seed(edition: Edition, seed: u64, number: u64) -> Case {
         let random = &mut Random::of_case(seed, first_case(edition) + number);
-        let Generated { sheet, memory_len } = if number < FIRST_PARTLY_OUTSIDE {
-            any_sheet(random, edition)
-        } else {
-            partly_outside(random, edition)
+        let Generated { sheet, memory_len } = match number {
+            ..FIRST_PARTLY_OUTSIDE => any_sheet(random, edition),
+            FIRST_PARTLY_OUTSIDE..FIRST_NEIGHBOURING => partly_outside(random, edition),
+            FIRST_NEIGHBOURING.. => neighbouring_stores(random, edition),
         };
         Case::of_sheet(random, edition, sheet, memory_len)
     }
@@ -101,6 +109,7 @@ impl Case {
             traces: traces(of_traces, &own, told_len, edition),
             asked: Asked::ALL,
             place: random_place(of_traces),
+            orders: of_traces.bits(),
             sheet,
             memory,
             told_len,
@@ -241,16 +250,16 @@ fn read_exit(jobs: &dyn Jobs, case: &Case) -> Exit {
     exit
 }
 
-fn check_exit(jobs: &dyn Jobs, case: &Case) -> Exit {
+fn check_exit(jobs: &dyn Jobs, sheet: &[u8], memory_len: usize) -> Exit {
     let mut exit = Exit::lent(&[], 0);
-    exit.returned = jobs.check(&case.sheet, case.told_len, &mut exit.answer);
+    exit.returned = jobs.check(sheet, memory_len, &mut exit.answer);
     exit
 }
 
-fn carry_out_exit(jobs: &dyn Jobs, case: &Case) -> Exit {
-    let mut exit = Exit::lent(&case.memory, 0);
-    let memory = &mut exit.bytes[GUARD..GUARD + case.memory.len()];
-    exit.returned = jobs.carry_out(&case.sheet, memory, &mut exit.state, &mut exit.answer);
+fn carry_out_exit(jobs: &dyn Jobs, sheet: &[u8], memory: &[u8]) -> Exit {
+    let mut exit = Exit::lent(memory, 0);
+    let memory = &mut exit.bytes[GUARD..GUARD + memory.len()];
+    exit.returned = jobs.carry_out(sheet, memory, &mut exit.state, &mut exit.answer);
     exit
 }
 
@@ -301,17 +310,27 @@ fn divisions_exit(jobs: &dyn Jobs, case: &Case) -> Exit {
 pub struct Comparison<'a> {
     pub archive: &'a dyn Jobs,
     pub reference: &'a Reference,
+    pub stores: &'a dyn Stores,
     pub coverage: Coverage,
 }
 
-impl Comparison<'_> {
+impl<'a> Comparison<'a> {
+    /// A comparison of sheets of an edition, which has met nothing yet.
+    pub fn new(
+        archive: &'a dyn Jobs,
+        reference: &'a Reference,
+        edition: Edition,
+    ) -> Comparison<'a> {
+        Comparison { archive, reference, stores: &Faultless, coverage: Coverage::new(edition) }
+    }
+
     /// Compares every job on a case, then the promises that tie the jobs together.
     pub fn compare(&mut self, case: &Case) -> Result<(), String> {
         let inputs = (case.sheet.clone(), case.tapes.clone(), case.traces.clone());
         let Case { sheet, told_len, .. } = case;
         self.same(Job::Read, |jobs| read_exit(jobs, case))?;
         self.same(Job::Rewrite, |jobs| rewrite_exit(jobs, sheet, case.sheet_room))?;
-        self.same(Job::Check, |jobs| check_exit(jobs, case))?;
+        self.same(Job::Check, |jobs| check_exit(jobs, sheet, *told_len))?;
         self.same(Job::Translate, |jobs| translate_exit(jobs, sheet, *told_len, case.tape_room))?;
         for tape in &case.tapes {
             self.same(Job::Run, |jobs| run_exit(jobs, case, tape))?;
@@ -319,12 +338,14 @@ impl Comparison<'_> {
         for trace in &case.traces {
             self.same(Job::Replay, |jobs| replay_exit(jobs, case, trace))?;
         }
-        let carried = self.same(Job::CarryOut, |jobs| carry_out_exit(jobs, case))?;
+        let carried = self.same(Job::CarryOut, |jobs| carry_out_exit(jobs, sheet, &case.memory))?;
         self.round_trip(case)?;
         self.tape_agrees(case, &carried)?;
         let accesses = self.trace_agrees(case)?;
         self.divisions_agree(case)?;
         self.outcomes_agree(case, &accesses)?;
+        self.orders_agree(case, &carried)?;
+        self.exchanges_agree(case, &carried)?;
         // The compiler may think that what is lent to be read stays as it is; look again.
         let Case { sheet, tapes, traces, .. } = black_box(case);
         if (sheet, tapes, traces) != (&inputs.0, &inputs.1, &inputs.2) {
@@ -443,6 +464,90 @@ impl Comparison<'_> {
         self.coverage.outcome(&archive.outcome);
         self.coverage.answer(Job::Outcome, &archive.answer, self.reference.cause());
         Ok(archive)
+    }
+
+    /// Each card that performs the stores of an accepted sheet in orders of its own leaves the
+    /// memory, the registers and the count that carrying out leaves.
+    fn orders_agree(&mut self, case: &Case, carried: &Exit) -> Result<(), String> {
+        let Case { sheet, memory, orders, .. } = case;
+        let Ok(checked) = self.stores.check(sheet, memory.len()) else { return Ok(()) };
+        let cards = perform(self.stores, &checked, memory, *orders)?;
+        for card in &cards {
+            let left = Exit {
+                returned: 0,
+                answer: [0, 0, 0, card.byte_elements],
+                state: State::of(&card.registers),
+                ..Exit::lent(&card.memory, 0)
+            };
+            if let Some(difference) = left.difference(carried) {
+                let order = card.order;
+                return Err(format!("{order:?} order differs from carrying out in {difference}"));
+            }
+        }
+        self.coverage.orders(&checked, &cards);
+        Ok(())
+    }
+
+    /// Neighbouring stores are exchanged, two at a time.
+    fn exchanges_agree(&mut self, case: &Case, carried: &Exit) -> Result<(), String> {
+        let Ok(sheet) = read_sheet(&case.sheet) else { return Ok(()) };
+        let firsts: Vec<usize> = case.asked.of(exchangeable(&sheet.steps)).collect();
+        if firsts.is_empty() {
+            return Ok(());
+        }
+        let length = case.memory.len();
+        let before = self.same(Job::Check, |jobs| check_exit(jobs, &case.sheet, length))?.answer;
+        let checked = check(&case.sheet, length);
+        for first in firsts {
+            let exchanged = sheet_bytes(&self.stores.exchanged(&sheet, first));
+            self.exchange_is_judged_alike(&before, first, &exchanged, length)?;
+            if let Ok(checked) = &checked {
+                self.exchange_leaves_the_same(case, carried, checked, first, &exchanged)?;
+            }
+        }
+        Ok(())
+    }
+
+    /// A sheet with two stores exchanged is accepted with the same count, or refused as well.
+    fn exchange_is_judged_alike(
+        &mut self,
+        before: &Answer,
+        first: usize,
+        exchanged: &[u8],
+        memory_len: usize,
+    ) -> Result<(), String> {
+        let after = self.same(Job::Check, |jobs| check_exit(jobs, exchanged, memory_len))?.answer;
+        let is_alike = if before[0] == 0 { after == *before } else { after[0] != 0 };
+        if !is_alike {
+            return Err(format!("exchange of step {first}: {before:?} becomes {after:?}"));
+        }
+        if before[0] != 0 {
+            self.coverage.refused_exchange(first, before, &after);
+        }
+        Ok(())
+    }
+
+    /// An accepted sheet with two stores exchanged that share no byte leaves the memory, the
+    /// registers and the count that the sheet leaves.
+    fn exchange_leaves_the_same(
+        &mut self,
+        case: &Case,
+        carried: &Exit,
+        checked: &Checked,
+        first: usize,
+        exchanged: &[u8],
+    ) -> Result<(), String> {
+        let left =
+            self.same(Job::CarryOut, |jobs| carry_out_exit(jobs, exchanged, &case.memory))?;
+        let written = [first, first + 1].map(|step| Written::by(checked, step));
+        if !self.stores.share(&written) {
+            if let Some(difference) = left.difference(carried) {
+                return Err(format!("exchange of step {first}: the two differ in {difference}"));
+            }
+        }
+        let leaves_another_memory = left.bytes() != carried.bytes();
+        self.coverage.exchange(&Exchange { checked, first, written, leaves_another_memory });
+        Ok(())
     }
 }
 

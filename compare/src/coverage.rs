@@ -5,12 +5,14 @@ use std::collections::{BTreeMap, BTreeSet};
 
 use crate::case::Job;
 use crate::jobs::{names_a_dimension, Answer, OutcomeRow};
+use crate::order_sights::Exchange;
+use crate::orders::{Card, Order};
 use crate::reference::{
     check, do_step, read_sheet, Cause, Checked, Edition, Entry, Outcome, Refusal, Registers, Sheet,
     Step, RECORD_NUMBERS, WHOLE_STEP,
 };
 use crate::tapes::Tape;
-use crate::{side_sights, span_sights, trace_sights, vector_sights};
+use crate::{order_sights, side_sights, span_sights, trace_sights, vector_sights};
 
 /// How many different places a refusal is to be met at, where it has more than one.
 const PLACES: usize = 3;
@@ -267,6 +269,27 @@ impl Coverage {
         self.outcomes_with_a_dimension += u64::from(names_a_dimension(row));
     }
 
+    /// Notes the orders in which cards performed the stores of an accepted sheet.
+    pub fn orders(&mut self, checked: &Checked, cards: &[Card]) {
+        for sight in cards.iter().flat_map(|card| order_sights::of_card(checked, card)) {
+            self.sight(sight);
+        }
+    }
+
+    /// Notes an exchange of two neighbouring stores of an accepted sheet.
+    pub fn exchange(&mut self, exchange: &Exchange) {
+        for sight in order_sights::of_exchange(exchange) {
+            self.sight(sight);
+        }
+    }
+
+    /// Notes one in a refused sheet, by the answers before and after it.
+    pub fn refused_exchange(&mut self, first: usize, before: &Answer, after: &Answer) {
+        for sight in order_sights::of_refused(first, before, after) {
+            self.sight(sight);
+        }
+    }
+
     fn sight(&mut self, sight: String) {
         *self.sights.entry(sight).or_default() += 1;
     }
@@ -310,6 +333,7 @@ impl Coverage {
         }
         table += &self.replays();
         table += &self.outcomes();
+        table += &self.stores();
         table += &format!("{:<8}", "number");
         for job in JOBS {
             table += &format!("{:>20}", format!("{job:?} (places)"));
@@ -335,10 +359,15 @@ impl Coverage {
         (self.answers.get(&(job, 0)).map_or(0, |answers| answers.count), all)
     }
 
+    /// How often something was seen.
+    fn seen(&self, sight: &str) -> u64 {
+        self.sights.get(sight).copied().unwrap_or(0)
+    }
+
     /// What became of the replays.
     fn replays(&self) -> String {
         let (accepted, all) = self.accepted_of(Job::Replay);
-        let agree = self.sights.get(trace_sights::AGREES).copied().unwrap_or(0);
+        let agree = self.seen(trace_sights::AGREES);
         let (differ, refused) = (accepted - agree, all - accepted);
         format!("{all} replays: {agree} agree, {differ} differ, {refused} are refused\n")
     }
@@ -349,6 +378,21 @@ impl Coverage {
         let (named, refused) = (self.outcomes_with_a_dimension, all - accepted);
         format!("{all} outcomes asked: {named} name a dimension, {refused} are refused\n")
     }
+
+    /// In how many orders stores were performed, and what became of exchanges.
+    fn stores(&self) -> String {
+        // Each store of several elements is reversed once.
+        let stores = self.seen(&order_sights::of_several(Order::Reversed));
+        let orders = stores + self.seen(&order_sights::of_several(Order::Shuffled));
+        let refused = self.seen(order_sights::REFUSED);
+        let (apart, sharing) = (self.seen(order_sights::APART), self.seen(order_sights::SHARING));
+        let (all, other) = (refused + apart + sharing, self.seen(order_sights::OTHER_MEMORY));
+        format!(
+            "{stores} stores of several elements performed in {orders} other orders\n\
+             {all} pairs of stores exchanged: {apart} are apart, {sharing} share a byte ({other} leave \
+             another memory), {refused} are refused\n"
+        )
+    }
 }
 
 /// Everything that sheets of an edition are to be seen doing.
@@ -356,6 +400,7 @@ fn sights(edition: Edition) -> Vec<String> {
     let mut sights = trace_sights::every();
     sights.extend(span_sights::every());
     sights.extend(side_sights::every());
+    sights.extend(order_sights::every());
     if edition.has_vectors() {
         sights.extend(vector_sights::every());
     }

@@ -13,6 +13,7 @@ use crate::reference::{
 };
 use crate::side_sights::unclipped_index;
 use crate::span_sights::is_outside;
+use crate::store_faults::{is_told, STORE_FAULTS};
 use crate::traces::{mended, BYTE, SORT};
 
 /// So many cases find each fault out.
@@ -593,8 +594,7 @@ fn perform_saturating(vector: &VectorStep, input: &Matrix, memory: &[u8]) -> Mat
 /// Whether some of an edition's first cases tell an implementation from the reference.
 fn found_out(jobs: &dyn Jobs, edition: Edition) -> bool {
     let reference = Reference::default();
-    let coverage = Coverage::new(edition);
-    let mut comparison = Comparison { archive: jobs, reference: &reference, coverage };
+    let mut comparison = Comparison::new(jobs, &reference, edition);
     (0..CASES).any(|number| comparison.compare(&Case::of_seed(edition, 1, number)).is_err())
 }
 
@@ -612,6 +612,11 @@ fn each_fault_is_found_out() {
             assert!(found_out(&faulty(fault), edition), "{fault:?}");
         }
     }
+    for (fault, words) in STORE_FAULTS {
+        for edition in Edition::ALL {
+            assert!(is_told(fault, words, edition), "{fault:?}");
+        }
+    }
     for edition in Edition::ALL {
         assert!(!found_out(&faulty(Fault::Nothing), edition));
     }
@@ -627,8 +632,7 @@ fn no_cases_meet_nothing() {
 /// What some of an edition's cases met, with the reference on both sides.
 fn met(edition: Edition, numbers: impl Iterator<Item = u64>) -> Coverage {
     let reference = Reference::default();
-    let coverage = Coverage::new(edition);
-    let mut comparison = Comparison { archive: &reference, reference: &reference, coverage };
+    let mut comparison = Comparison::new(&reference, &reference, edition);
     for number in numbers {
         comparison.compare(&Case::of_seed(edition, 1, number)).expect("it is the same");
     }

@@ -82,7 +82,7 @@ fn wanted_refusal(random: &mut Random, edition: Edition) -> Option<u32> {
 }
 
 /// A layout or a view that a refusal of steps needs and that is rare otherwise.
-fn prepare(random: &mut Random, sheet: &mut Sheet, number: u32) {
+pub fn prepare(random: &mut Random, sheet: &mut Sheet, number: u32) {
     match number {
         10 => {
             let count = random.between(1, 5);
@@ -226,7 +226,7 @@ fn end(vector: &VectorStep) -> usize {
     vector.places().map(|place| place.end as usize).max().expect("a matrix has elements")
 }
 
-fn layout(random: &mut Random) -> Layout {
+pub fn layout(random: &mut Random) -> Layout {
     let count = random.pick(&[1, 1, 1, 2, 2, 2, 3, 3, 4, 5]);
     let clamp_mode = random.pick(&[
         ClampMode::Undefined,
@@ -312,7 +312,7 @@ fn extreme_dimension(random: &mut Random) -> Dimension {
     }
 }
 
-fn view(random: &mut Random, layouts: &[Layout]) -> View {
+pub fn view(random: &mut Random, layouts: &[Layout]) -> View {
     let has_dimensions = random.percent(50);
     let count = if has_dimensions || layouts.is_empty() || random.percent(10) {
         random.between(1, 5)
@@ -329,9 +329,7 @@ fn view(random: &mut Random, layouts: &[Layout]) -> View {
 fn permutation(random: &mut Random, count: usize) -> Vec<usize> {
     let mut entries: Vec<usize> = (0..count).collect();
     if random.percent(70) {
-        for last in (1..count).rev() {
-            entries.swap(last, random.below(last + 1));
-        }
+        random.shuffle(&mut entries);
     }
     entries
 }
@@ -363,16 +361,16 @@ fn clip(random: &mut Random) -> Clip {
 }
 
 /// Makes steps, knowing the types that the steps so far leave.
-struct StepMaker<'a> {
-    random: &'a mut Random,
-    types: Types,
-    memory_len: usize,
+pub struct StepMaker<'a> {
+    pub random: &'a mut Random,
+    pub types: Types,
+    pub memory_len: usize,
 }
 
 impl StepMaker<'_> {
     /// Adds accepted steps until there are enough of them; where a refusal is wanted, somewhere
     /// among them the first proposed step that gets it.
-    fn add_steps(&mut self, sheet: &mut Sheet, count: usize, wanted: Option<u32>) {
+    pub fn add_steps(&mut self, sheet: &mut Sheet, count: usize, wanted: Option<u32>) {
         let accepted = if wanted.is_some() { self.random.below(count + 1) } else { count };
         self.add_until(sheet, accepted, None);
         if wanted.is_some() {
@@ -389,15 +387,21 @@ impl StepMaker<'_> {
                 if sheet.steps.len() >= count.min(STEPS_MAX) {
                     return;
                 }
-                let mut types = self.types;
-                let checked = check_step(sheet, &step, &mut types, self.memory_len);
-                let number = checked.err().map(|(cause, _)| cause.number());
-                if number == wanted {
-                    self.types = types;
-                    sheet.steps.push(step);
-                }
+                self.add(sheet, step, wanted);
             }
         }
+    }
+
+    /// Adds a step if it has some number, or if it is accepted; says whether it did.
+    pub fn add(&mut self, sheet: &mut Sheet, step: Step, wanted: Option<u32>) -> bool {
+        let mut types = self.types;
+        let checked = check_step(sheet, &step, &mut types, self.memory_len);
+        let number = checked.err().map(|(cause, _)| cause.number());
+        if number == wanted {
+            self.types = types;
+            sheet.steps.push(step);
+        }
+        number == wanted
     }
 
     /// How many proposals in a hundred are vector steps. A wanted refusal that they can get is
@@ -429,7 +433,7 @@ impl StepMaker<'_> {
     }
 
     /// A register, most often one that is not empty.
-    fn register(&mut self) -> usize {
+    pub fn register(&mut self) -> usize {
         let held: Vec<usize> = (0..REGISTERS).filter(|&r| self.types[r].is_some()).collect();
         if held.is_empty() || self.random.percent(3) {
             self.random.below(REGISTERS)
@@ -438,11 +442,11 @@ impl StepMaker<'_> {
         }
     }
 
-    fn any_register(&mut self) -> usize {
+    pub fn any_register(&mut self) -> usize {
         self.random.below(REGISTERS)
     }
 
-    fn side(&mut self) -> usize {
+    pub fn side(&mut self) -> usize {
         match self.random.below(10) {
             0..=5 => self.random.between(1, 4),
             6..=8 => self.random.between(1, SIDE_MAX),
@@ -460,7 +464,7 @@ impl StepMaker<'_> {
         self.fill_of(register, type_)
     }
 
-    fn fill_of(&mut self, register: usize, type_: Type) -> Step {
+    pub fn fill_of(&mut self, register: usize, type_: Type) -> Step {
         let Type { kind, rows, columns } = type_;
         let value = match self.random.below(4) {
             0 => 0,
@@ -481,7 +485,7 @@ impl StepMaker<'_> {
         base as u32
     }
 
-    fn view(&mut self, sheet: &Sheet) -> Option<usize> {
+    pub fn view(&mut self, sheet: &Sheet) -> Option<usize> {
         if sheet.views.is_empty() || self.random.percent(35) {
             return None;
         }
@@ -503,7 +507,7 @@ impl StepMaker<'_> {
         Step::Load { register, object, layout, view: self.view(sheet), base: self.base() }
     }
 
-    fn store(&mut self, sheet: &Sheet) -> Step {
+    pub fn store(&mut self, sheet: &Sheet) -> Step {
         let register = self.register();
         let layout = self.random.below(sheet.layouts.len());
         Step::Store { register, layout, view: self.view(sheet), base: self.base() }

@@ -8,12 +8,18 @@ pub mod damage;
 mod faults;
 pub mod generate;
 pub mod jobs;
+mod neighbours;
+mod order_sights;
+mod orders;
 mod outcomes;
 pub mod random;
 pub mod reference;
 pub mod shrink;
 mod side_sights;
 mod span_sights;
+#[cfg(test)]
+mod store_faults;
+mod stores;
 pub mod strips;
 pub mod tapes;
 mod trace_sights;

@@ -10,7 +10,7 @@ use std::time::Instant;
 
 use archive::Archive;
 use compare::bench::{bench, bench_sides, timed_sheets};
-use compare::case::{Asked, Case, Comparison, FIRST_PARTLY_OUTSIDE};
+use compare::case::{Asked, Case, Comparison, FIRST_NEIGHBOURING, FIRST_PARTLY_OUTSIDE};
 use compare::coverage::Coverage;
 use compare::jobs::Reference;
 use compare::random::Random;
@@ -21,9 +21,10 @@ use compare::strips::check_strips;
 const HELP: &str = "\
 compare [--sheets N] [--seed S] [--edition E] [--case K] [--trace]
     Compare every public job of the archive with the reference on the sheets of the timings and,
-    of each edition, on N random sheets (20000) and on N/20 more that are partly outside. The same
-    seed gives the same sheets. --edition E takes only the random sheets of edition E, --case K
-    only sheet K of them, --trace prints the number of each before it is tried.
+    of each edition, on N random sheets (20000), on N/20 more that are partly outside and on N/20
+    with neighbouring stores. Perform the stores of each in other orders, and exchange neighbouring
+    ones. The same seed gives the same sheets. --edition E takes only the random sheets of edition
+    E, --case K only sheet K of them, --trace prints the number of each before it is tried.
 compare bench [--sides] [--samples N]
     Time both sides on named sheets, N samples each (51). --sides prints only the last table, of
     what lies outside.
@@ -33,13 +34,14 @@ compare dump FOLDER [--sheets N] [--seed S] [--edition E]
 
 /// From this many sheets of an edition on, every refusal and every outcome must have been met.
 const SHEETS_FOR_COVERAGE: u64 = 20_000;
-/// For so many sheets there is one more that is partly outside.
-const SHEETS_A_PARTLY_OUTSIDE: u64 = 20;
+/// For so many sheets there is one more that is partly outside, and one with neighbouring stores.
+const SHEETS_A_SPECIAL: u64 = 20;
 const SEED: u64 = 1;
 /// Each sheet of the timings is compared so often, with other traces each time.
 const TIMES_TIMED: u64 = 10;
 /// So far apart are the outcomes of such a sheet that are asked for, others each time: there are up
-/// to 7,936, and each question checks all. It divides no matrix.
+/// to 7,936, and each question checks all. It divides no matrix. Of the stores that may be exchanged
+/// another two are each time.
 const TIMED_APART: usize = 251;
 
 struct Options {
@@ -159,8 +161,7 @@ fn compare_all(options: &Options) -> Result<(), String> {
 fn compare_timed(seed: u64) -> Result<(), String> {
     let edition = Edition::Two;
     let reference = Reference::default();
-    let coverage = Coverage::new(edition);
-    let mut comparison = Comparison { archive: &Archive, reference: &reference, coverage };
+    let mut comparison = Comparison::new(&Archive, &reference, edition);
     let sheets = timed_sheets();
     for (name, sheet) in &sheets {
         for number in 0..TIMES_TIMED {
@@ -240,8 +241,7 @@ fn compare_share(
     apart: usize,
 ) -> Result<Coverage, Failure> {
     let reference = Reference::default();
-    let coverage = Coverage::new(edition);
-    let mut comparison = Comparison { archive: &Archive, reference: &reference, coverage };
+    let mut comparison = Comparison::new(&Archive, &reference, edition);
     for &number in numbers.iter().skip(first).step_by(apart) {
         if options.trace {
             println!("sheet {number}");
@@ -257,9 +257,9 @@ fn numbers(options: &Options) -> Vec<u64> {
     if let Some(case) = options.case {
         return vec![case];
     }
-    let outside =
-        FIRST_PARTLY_OUTSIDE..FIRST_PARTLY_OUTSIDE + options.sheets / SHEETS_A_PARTLY_OUTSIDE;
-    (0..options.sheets).chain(outside).collect()
+    let special = |first| first..first + options.sheets / SHEETS_A_SPECIAL;
+    let (outside, neighbours) = (special(FIRST_PARTLY_OUTSIDE), special(FIRST_NEIGHBOURING));
+    (0..options.sheets).chain(outside).chain(neighbours).collect()
 }
 
 /// Compares every job on a case. One that fails is shrunk, and all is said about it.

@@ -86,6 +86,9 @@ fn candidates(case: &Case) -> Vec<Case> {
     if case.place != [0, 0] {
         add(&|case| case.place = [0, 0]);
     }
+    if case.orders != 0 {
+        add(&|case| case.orders = 0);
+    }
     if case.asked != Asked::ALL {
         add(&|case| case.asked = Asked::ALL);
     }
@@ -225,7 +228,8 @@ impl fmt::Display for Case {
         writeln!(f, "room for a sheet: {} bytes", self.sheet_room)?;
         writeln!(f, "room for a trace: {} bytes", self.trace_room)?;
         writeln!(f, "room for a tape: {} numbers", self.tape_room)?;
-        write!(f, "outcome asked for: step {}, element {}", self.place[0], self.place[1])?;
+        writeln!(f, "outcome asked for: step {}, element {}", self.place[0], self.place[1])?;
+        write!(f, "orders of stores from seed {}", self.orders)?;
         for tape in &self.tapes {
             write!(f, "\ntape, {} records of {} numbers:", tape.records, tape.numbers.len())?;
             for record in tape.numbers.chunks(RECORD_NUMBERS) {

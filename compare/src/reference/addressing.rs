@@ -24,6 +24,16 @@ pub enum Outcome {
     Placed(usize),
 }
 
+impl Outcome {
+    /// The first byte of a placed element.
+    pub fn byte(self) -> Option<usize> {
+        match self {
+            Outcome::Placed(byte) => Some(byte),
+            Outcome::Skipped | Outcome::Filled(_) | Outcome::Discarded => None,
+        }
+    }
+}
+
 /// On which side of its dimension a coordinate lies that is not inside.
 #[derive(Clone, Copy, PartialEq, Eq, Debug)]
 pub enum Side {
