@@ -1,18 +1,17 @@
 -- Laws of an access's elements, as the loops go over them.
 use Prim.Native.Nat.{ℕ, zero, suc, _+_, _-_, _<_, _≤_, zero-le}
 use mathlib.Core.Path.{_≡_, refl, sym, ap, _∙_}
-use mathlib.Core.Bool.{Bool, true, false, true≢false, not}
+use mathlib.Core.Bool.{Bool, true, false}
 use mathlib.Core.List.{List}
-use native.Mathlib.Nat.{not-suc-le-zero, sub-zero, add-zero}
+use native.Mathlib.Nat.{not-suc-le-zero, sub-zero}
 use native.Mathlib.Numerals.{add-one}
 use native.Mathlib.Omega.{arith}
 use lib.Dec.{eqb}
 use lib.ListN.{length, getD, set, length-set}
 use lib.Seq.{getD-set-same, getD-set-other}
-use borrow.Author.Tests.{lt-ltb, le-ltb, eq-eqb, ne-eqb, eqb-true, eqb-false, not-true}
+use borrow.Author.Tests.{lt-ltb, le-ltb, eq-eqb, ne-eqb, eqb-true, eqb-false}
 use Rattle.numbers.specs.Choice.{pick, both}
-use Rattle.numbers.specs.Laws.All.{all-at, all-true}
-use Rattle.numbers.specs.Laws.Choice.{by-test, by-order}
+use Rattle.numbers.specs.Laws.Choice.{by-test}
 use Rattle.outcomes.specs.declared.Outcome.{Outcome}
 use Rattle.outcomes.specs.declared.Outcome.the-variants.{Skipped, Filled, Discarded, Placed}
 use Rattle.addressing.specs.declared.Access.{Access}
@@ -20,102 +19,18 @@ use Rattle.addressing.specs.declared.Located.{Located}
 use Rattle.addressing.specs.Rules.{elementsOf}
 use Rattle.refusals.specs.Refusals.{unalignedBase, ranksDiffer, blockedStore, byteTwice, stopAt}
 use Rattle.refusals.specs.declared.Stop.{Stop}
+use Rattle.clashes.specs.Clashes.{clashFrom}
+use Rattle.clashes.specs.Laws.Clashes.{clash-same}
+use Rattle.clashes.specs.Entries.{filledEntry, discardedEntry, hasByte, hits, sameEntry}
 use Rattle.accesses.specs.declared.Tally.{Tally}
-use Rattle.accesses.specs.Refusals.{elementOutcome, firstRefused, sameByte, sameAt, meets, clashFrom, apart, clashRefusal, elementsRefusal, placedOne, placedCount, checkedBy, checkedElements, misplaced, otherRank, storeBlocked, accessRefusal, checkedAccess}
-use Rattle.accesses.specs.Entries.{Near, filledEntry, discardedEntry, entryOf, hasByte, hits, sameEntry, Surveyed}
+use Rattle.accesses.specs.Refusals.{elementOutcome, firstRefused, sameByte, sameAt, clashRefusal, elementsRefusal, placedOne, placedCount, checkedBy, checkedElements, misplaced, otherRank, storeBlocked, accessRefusal, checkedAccess}
+use Rattle.accesses.specs.Entries.{Near, entryOf, Surveyed}
 use Rattle.sheet.specs.Sizes.{matrixPlaces, memoryLimit}
 use Rattle.accesses.specs.declared.Checked.{Checked}
 
 -- the number of a check's refusal
 abbrev pub number : Checked → ℕ
 number c = c .stop .number
-
--- The search of refusal 15
-module _ (same : ℕ → ℕ → Bool) where
-  pub meets-none : (i : ℕ) → meets same i 0 ≡ false
-  unfolding meets
-  meets-none i = refl
-
-  pub meets-miss : (i j : ℕ) → same j i ≡ false → meets same i j ≡ false → meets same i (j + 1) ≡ false
-  unfolding meets pick
-  meets-miss i j e g = rw (add-one, e) g
-
-  meets-hit : (i j n : ℕ) → j < n → same j i ≡ true → meets same i n ≡ true
-  unfolding meets pick
-  meets-hit i j zero h e = absurd (not-suc-le-zero h)
-  meets-hit i j (suc n) h e =
-      by-test (same n i) (λ t. rw t)
-      (λ g. let d : j ≡ n → ⊥ = λ q. let z : _≡_ {A = ℕ} 0 1 = cc in omega arith in rw g (meets-hit i j n (omega arith) e))
-
-  clash-here : (i m : ℕ) → 0 < m → meets same i i ≡ true → clashFrom same i m ≡ i
-  unfolding clashFrom pick
-  clash-here i zero h e = absurd (not-suc-le-zero h)
-  clash-here i (suc m) h e = rw e
-
-  clash-next : (i m : ℕ) → 0 < m → meets same i i ≡ false → clashFrom same (i + 1) (m - 1) ≡ clashFrom same i m
-  unfolding clashFrom pick
-  clash-next i zero h e = absurd (not-suc-le-zero h)
-  clash-next i (suc m) h e = let s : suc m - 1 ≡ m = omega arith in rw (add-one, s, e)
-
-  clash-end : (i m : ℕ) → m ≤ 0 → clashFrom same i m ≡ i
-  unfolding clashFrom
-  clash-end i zero h = refl
-  clash-end i (suc m) h = absurd (not-suc-le-zero h)
-
-  -- what the outer loop knows at i is known at i + 1 where no earlier element was met, and settles the answer where one was
-  module _ (m i : ℕ) (inv : clashFrom same i (m - i) ≡ clashFrom same 0 m) where
-    pub clash-on : (j : ℕ) → i < m → j ≤ i → i ≤ j → meets same i j ≡ false → clashFrom same (i + 1) (m - (i + 1)) ≡ clashFrom same 0 m
-    clash-on j h g k e =
-        let s : m - (i + 1) ≡ m - i - 1 = omega arith in
-        let q : i ≡ j = omega arith in
-        rw s (clash-next i (m - i) (omega arith) (ap (meets same i) q ∙ e) ∙ inv)
-
-    pub clash-found : (j : ℕ) → i < m → j < i → same j i ≡ true → i ≡ clashFrom same 0 m
-    clash-found j h l e = sym (clash-here i (m - i) (omega arith) (meets-hit i j i l e)) ∙ inv
-
-    pub clash-none : m ≤ i → i ≡ clashFrom same 0 m
-    clash-none h = sym (clash-end i (m - i) (omega arith)) ∙ inv
-
--- the search goes by nothing else than which two elements have the same byte
-module _ (same other : ℕ → ℕ → Bool) (m : ℕ) (agree : (i j : ℕ) → i < m → j < m → same i j ≡ other i j) where
-  meets-same : (i j : ℕ) → i < m → j ≤ m → meets same i j ≡ meets other i j
-  unfolding meets
-  meets-same i zero h l = refl
-  meets-same i (suc j) h l = rw (agree j i l h, meets-same i j h (omega arith))
-
-  pub clash-same : (i n : ℕ) → i + n ≤ m → clashFrom same i n ≡ clashFrom other i n
-  unfolding clashFrom
-  clash-same i zero h = refl
-  clash-same i (suc n) h = rw (meets-same i i (omega arith) (omega arith), clash-same (suc i) n (omega arith))
-
--- the search finds an element where not all are apart, and none where they are
-module _ (same : ℕ → ℕ → Bool) where
-  none-found : (i m : ℕ) → ((k : ℕ) → i ≤ k → k < i + m → meets same k k ≡ false) → clashFrom same i m ≡ i + m
-  unfolding clashFrom pick
-  none-found i zero h = sym (add-zero i)
-  none-found i (suc m) h =
-      rw (h i (omega arith) (omega arith))
-      (none-found (suc i) m (λ k l g. h k (omega arith) (omega arith)) ∙ omega arith)
-
-  pub apart-none : (m : ℕ) → apart same m ≡ true → m ≤ clashFrom same 0 m
-  unfolding apart
-  apart-none m e =
-      omega (arith, none-found 0 m (λ k l g. not-true _ (all-at m (λ (i : ℕ). not (meets same i i)) e k (omega arith))))
-
-  found-before : (i m k : ℕ) → i ≤ k → k < i + m → meets same k k ≡ true → clashFrom same i m ≤ k
-  unfolding clashFrom pick
-  found-before i zero k l g e = absurd (omega arith)
-  found-before i (suc m) k l g e =
-      by-test (meets same i i) (λ t. rw t l)
-      (λ t. let d : k ≡ i → ⊥ = λ q. true≢false (sym e ∙ ap (λ (j : ℕ). meets same j j) q ∙ t) in rw t (found-before (suc i) m k (omega arith) (omega arith) e))
-
-  -- where the search finds none, all are apart
-  pub apart-found : (m : ℕ) → apart same m ≡ false → clashFrom same 0 m < m
-  unfolding apart
-  apart-found m e =
-      by-order (clashFrom same 0 m) m (λ l. l)
-      (λ l. absurd (true≢false (sym (all-true m (λ (i : ℕ). not (meets same i i))
-      (λ k h. by-test (meets same k k) (λ t. let b : clashFrom same 0 m ≤ k = found-before 0 m k (omega arith) (omega arith) t in absurd (omega arith)) (λ t. rw t))) ∙ e)))
 
 -- two entries tell whether their elements have the same byte
 entries-miss : (y b : ℕ) → b < memoryLimit → (y ≡ b + 1 → ⊥) → hits y (b + 1) ≡ false

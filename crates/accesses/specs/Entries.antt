@@ -1,17 +1,18 @@
 -- The table of the elements' outcomes, one number each: by it the code looks for refusal 15, and moves the elements.
 use Prim.Native.Nat.{ℕ, _+_, _-_, _<_}
 use mathlib.Core.Path.{_≡_}
-use mathlib.Core.Bool.{Bool, not}
 use mathlib.Core.List.{List}
 use lib.Dec.{eqb, ltb}
 use lib.ListN.{length, getD}
-use Rattle.numbers.specs.Choice.{pick, both}
+use Rattle.numbers.specs.Choice.{pick}
 use Rattle.outcomes.specs.declared.Outcome.{Outcome}
 use Rattle.outcomes.specs.declared.Outcome.the-variants.{Skipped, Filled, Discarded, Placed}
 use Rattle.addressing.specs.Rules.{elementsOf, lowBits}
 use Rattle.addressing.specs.declared.Access.{Access}
 use Rattle.addressing.specs.declared.Located.{Located}
 use Rattle.sheet.specs.Sizes.{matrixPlaces, memoryLimit}
+use Rattle.clashes.specs.Entries.{filledEntry, discardedEntry}
+use Rattle.clashes.specs.Marks.{noMarks}
 use Rattle.accesses.specs.declared.Tally.{Tally}
 use Rattle.accesses.specs.Refusals.{elementOutcome, firstRefused, placedCount}
 
@@ -21,13 +22,6 @@ Near Skipped = Unit {0}
 Near (Filled b) = Unit {0}
 Near Discarded = Unit {0}
 Near (Placed b) = b < memoryLimit
-
--- the entries of a filled element and of a discarded one, past those of the bytes
-abbrev pub filledEntry : ℕ
-filledEntry = memoryLimit + 1
-
-abbrev pub discardedEntry : ℕ
-discardedEntry = memoryLimit + 2
 
 abbrev pub entryOf : Outcome → ℕ
 entryOf Skipped = 0
@@ -42,18 +36,6 @@ entryOutcome fill x =
     (pick (ltb x filledEntry) (Placed (x - 1))
     (pick (eqb x filledEntry) (Filled fill) Discarded))
 
--- an entry is that of an element with a byte
-unfoldable pub hasByte : ℕ → Bool
-hasByte x = both (not (eqb x 0)) (ltb x filledEntry)
-
--- an entry y is the byte of an entry x
-unfoldable pub hits : ℕ → ℕ → Bool
-hits y x = both (hasByte x) (eqb y x)
-
--- which two elements have the same byte, by their entries
-abbrev pub sameEntry : List ℕ → ℕ → ℕ → Bool
-sameEntry entries j i = hits (getD entries j 0) (getD entries i 0)
-
 -- the first refusal of m elements, and where there is none, how many have a byte and each one's entry; there is room for a matrix
 pub record Surveyed (f : ℕ → Located) (m : ℕ) (r : Tally) (entries : List ℕ) : Type 0 where
   pub room : length entries ≡ matrixPlaces
@@ -64,3 +46,8 @@ pub record Surveyed (f : ℕ → Located) (m : ℕ) (r : Tally) (entries : List 
 -- the entries stand for the outcomes of an access's elements
 abbrev pub Told : Access → List ℕ → Type 0
 Told a entries = (i : ℕ) → i < elementsOf a → entryOutcome (lowBits a) (getD entries i 0) ≡ elementOutcome a i .outcome
+
+-- the room that a check of an access is lent: places for the entries, and no marks
+pub record Scratch (entries marks : List ℕ) : Type 0 where
+  pub places : length entries ≡ matrixPlaces
+  pub none : marks ≡ noMarks

@@ -1,4 +1,3 @@
 pub mod Refusals
 pub mod Entries
-pub mod Marks
 pub mod Laws

@@ -1,6 +1,6 @@
 -- The elements of a load or a store in order, and refusals 9 to 15.
 use Prim.Native.Nat.{ℕ, zero, suc, _+_, _/_, _%_}
-use mathlib.Core.Bool.{Bool, true, false, not}
+use mathlib.Core.Bool.{Bool, false, not}
 use lib.Dec.{eqb, ltb, leb}
 use Rattle.numbers.specs.Choice.{pick, both}
 use Rattle.numbers.specs.All.{all}
@@ -13,6 +13,7 @@ use Rattle.addressing.specs.declared.Located.{Located}
 use Rattle.addressing.specs.Rules.{elementsOf, located}
 use Rattle.refusals.specs.Refusals.{unalignedBase, ranksDiffer, blockedStore, byteTwice, stopAt}
 use Rattle.refusals.specs.declared.Stop.{Stop}
+use Rattle.clashes.specs.Clashes.{clashFrom}
 use Rattle.accesses.specs.declared.Checked.{Checked}
 
 -- what becomes of element number k: of N columns its row is k / N, its column k mod N
@@ -49,20 +50,6 @@ sameByte (Placed x) Discarded = false
 sameByte Skipped o = false
 sameByte (Filled b) o = false
 sameByte Discarded o = false
-
--- one of the first j elements has the byte of element i; `same` says which two have the same byte
-unfoldable pub meets : (ℕ → ℕ → Bool) → ℕ → ℕ → Bool
-meets same i zero = false
-meets same i (suc j) = pick (same j i) true (meets same i j)
-
--- the first element from i on, of m, that has an earlier one's byte; i + m where none has
-unfoldable pub clashFrom : (ℕ → ℕ → Bool) → ℕ → ℕ → ℕ
-clashFrom same i zero = i
-clashFrom same i (suc m) = pick (meets same i i) i (clashFrom same (suc i) m)
-
--- none of m elements has an earlier one's byte
-unfoldable pub apart : (ℕ → ℕ → Bool) → ℕ → Bool
-apart same m = all m (λ (k : ℕ). not (meets same k k))
 
 -- which two elements have the same byte
 abbrev pub sameAt : (ℕ → Located) → ℕ → ℕ → Bool

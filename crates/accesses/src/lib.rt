@@ -9,13 +9,11 @@ ghost use Rattle.addressing.specs.Rules.{elementsOf};
 ghost use Rattle.addressing.specs.Valid.{SizedAccess, Planned};
 ghost use Rattle.sheet.specs.Sizes.{rankPlaces, matrixPlaces};
 ghost use Rattle.accesses.specs.Refusals.{elementOutcome, otherRank, blocksOne, storeBlocked, elementsRefusal, placedOne, checkedBy, checkedElements, checkedAccess};
-ghost use Rattle.accesses.specs.Entries.{Near, entryOf, entryOutcome, Surveyed, Told};
-ghost use Rattle.accesses.specs.Marks.{Scratch};
-
-pub mod clashes;
-
+ghost use Rattle.accesses.specs.Entries.{Near, entryOf, entryOutcome, Surveyed, Told, Scratch};
 use addressing::Access;
 use addressing::Plan;
+use clashes::DISCARDED;
+use clashes::FILLED;
 use clashes::MARKS;
 use outcomes::Outcome;
 use refusals::BLOCKED_STORE;
@@ -24,13 +22,7 @@ use refusals::RANKS_DIFFER;
 use refusals::Stop;
 use refusals::UNALIGNED_BASE;
 use sheet::Layout;
-use sheet::sizes::MEMORY_LIMIT;
 use sheet::sizes::PLACES;
-
-// The entries of a filled element and of a discarded one, past those of the 65,536 bytes.
-const FILLED: u32 = MEMORY_LIMIT as u32 + 1;
-
-const DISCARDED: u32 = MEMORY_LIMIT as u32 + 2;
 
 // An access's refusal, and where it is not refused the number of elements with a byte.
 pub struct Checked {

@@ -10,7 +10,6 @@ ghost use Rattle.expected.specs.Listed.{listedEvents};
 ghost use Rattle.replaying.specs.Verdicts.{verdictAt};
 ghost use Rattle.replaying.specs.Replaying.{replayRefused, replayed};
 ghost use Rattle.replaying.specs.Matching.{matched, goesOn, matchOne, matchAll};
-use accesses::clashes;
 use checking::checks;
 use refusals::Refusal;
 use sheet::Sheet;

@@ -42,6 +42,7 @@ use Rattle.spans.specs.Spans
 use Rattle.clamps.specs.Clamps
 use Rattle.addressing.specs.Rules
 use Rattle.view_indices.specs.Indices
+use Rattle.clashes.specs.Clashes as clashes
 use Rattle.accesses.specs.Refusals as accesses
 use Rattle.transfers.specs.Transfers.{transferred}
 use Rattle.checking.specs.Steps as checks
@@ -250,5 +251,5 @@ strips =
 
 -- each strip gives what is wanted
 pub strips-right : map found strips ≡ map (λ (s : Strip). s .wanted) strips
-unfolding strips word long field editionOf edition layout dimension view fill load store vector network Undefined Constant ClampToEdge Repeat MirrorRepeat countingFrom counting loadStrip storeStrip edged edgeStrip plain pick both between all line Little.u16At Little.u32At width bytesOf fits elementAt withElement Editions.tagKnown Editions.limits Editions.fillLength Sizes.offsetOk Codes.clampMode Codes.reduceMode Codes.combineOf Codes.memoryLayout Codes.objectOf Codes.viewingOf Layouts.noLayout Layouts.dimensionOk Layouts.dimensionUnused Layouts.dimensionAtOk Layouts.layoutOk Layouts.layoutUnused Views.noView Views.fresh Views.entryOk Views.viewDimensionUnused Views.viewDimensionAtOk Views.sizedRank Views.viewOk Views.clipUnused Views.viewUnused model.fillOk model.windowOk model.loadOk model.storeOk model.reduceOk model.transposeOk model.multiplyOk model.biasOk model.vectorOk interpretationOk Sheets.noTensors Sheets.emptySheet Fields.fieldAt Contents.dimensionAt Contents.dimensionsAt Contents.layoutAt Contents.layoutLengthOk Contents.layoutHeadOk Contents.permutationAt Contents.viewDimensionAt Contents.viewDimensionsAt Contents.clipAt Contents.viewOf Contents.viewAt Contents.viewLengthOk Contents.viewHeadOk stepContents.fillAt stepContents.windowAt stepContents.loadAt stepContents.storeAt stepContents.reduceAt stepContents.transposeAt stepContents.multiplyAt stepContents.vectorNumbers stepContents.vectorAt stepContents.stepAt stepContents.stepLength Reading.layoutMayCome Reading.viewMayCome Reading.stepMayCome Reading.editionRefusal Reading.layoutRefusal Reading.viewRefusal Reading.stepRefusal Reading.fieldRefusal Reading.withField Reading.refusedRead Reading.acceptedRead Reading.endRead Reading.turnField Reading.turn Reading.afterTurn Reading.readFrom Reading.readSheet emptyRegisters Combining.folded Rules.outsideClip Rules.outsideView Rules.indexed Indices.rowMajor Indices.viewSizes Indices.viewStrides Indices.coordinates Indices.viewCoordinates Indices.weighted Indices.viewIndex Spans.spanCoordinates value taken negative Clamps.turnedBack Clamps.mirrored Clamps.outside Clamps.clamped Rules.part Rules.tensorIndex Rules.addressed Rules.reached Rules.located accesses.elementOutcome accesses.otherRank accesses.blocksOne accesses.storeBlocked accesses.firstRefused accesses.meets accesses.clashFrom accesses.clashRefusal accesses.elementsRefusal accesses.accessRefusal accesses.placedCount accesses.checkedElements Grids.blank Grids.block Reducing.reduced shapes.reduceRefusal firstFrom sumZ Places.rowStep Places.columnStep Places.elementsOf Places.endOf vectors.inputAgrees vectors.memoryRefusal vectors.vectorRefusal Saturation.below Saturation.above Saturation.saturated Components.packedKind Components.componentAt Results.biasAt Results.resultAt transferred checks.accessCheck checks.checkedStep steps.withObject steps.loadDone steps.storeDone steps.performedStep checkedFrom checked checkedSheet performedFrom performed carried carriedMemory
+unfolding strips word long field editionOf edition layout dimension view fill load store vector network Undefined Constant ClampToEdge Repeat MirrorRepeat countingFrom counting loadStrip storeStrip edged edgeStrip plain pick both between all line Little.u16At Little.u32At width bytesOf fits elementAt withElement Editions.tagKnown Editions.limits Editions.fillLength Sizes.offsetOk Codes.clampMode Codes.reduceMode Codes.combineOf Codes.memoryLayout Codes.objectOf Codes.viewingOf Layouts.noLayout Layouts.dimensionOk Layouts.dimensionUnused Layouts.dimensionAtOk Layouts.layoutOk Layouts.layoutUnused Views.noView Views.fresh Views.entryOk Views.viewDimensionUnused Views.viewDimensionAtOk Views.sizedRank Views.viewOk Views.clipUnused Views.viewUnused model.fillOk model.windowOk model.loadOk model.storeOk model.reduceOk model.transposeOk model.multiplyOk model.biasOk model.vectorOk interpretationOk Sheets.noTensors Sheets.emptySheet Fields.fieldAt Contents.dimensionAt Contents.dimensionsAt Contents.layoutAt Contents.layoutLengthOk Contents.layoutHeadOk Contents.permutationAt Contents.viewDimensionAt Contents.viewDimensionsAt Contents.clipAt Contents.viewOf Contents.viewAt Contents.viewLengthOk Contents.viewHeadOk stepContents.fillAt stepContents.windowAt stepContents.loadAt stepContents.storeAt stepContents.reduceAt stepContents.transposeAt stepContents.multiplyAt stepContents.vectorNumbers stepContents.vectorAt stepContents.stepAt stepContents.stepLength Reading.layoutMayCome Reading.viewMayCome Reading.stepMayCome Reading.editionRefusal Reading.layoutRefusal Reading.viewRefusal Reading.stepRefusal Reading.fieldRefusal Reading.withField Reading.refusedRead Reading.acceptedRead Reading.endRead Reading.turnField Reading.turn Reading.afterTurn Reading.readFrom Reading.readSheet emptyRegisters Combining.folded Rules.outsideClip Rules.outsideView Rules.indexed Indices.rowMajor Indices.viewSizes Indices.viewStrides Indices.coordinates Indices.viewCoordinates Indices.weighted Indices.viewIndex Spans.spanCoordinates value taken negative Clamps.turnedBack Clamps.mirrored Clamps.outside Clamps.clamped Rules.part Rules.tensorIndex Rules.addressed Rules.reached Rules.located accesses.elementOutcome accesses.otherRank accesses.blocksOne accesses.storeBlocked accesses.firstRefused clashes.meets clashes.clashFrom accesses.clashRefusal accesses.elementsRefusal accesses.accessRefusal accesses.placedCount accesses.checkedElements Grids.blank Grids.block Reducing.reduced shapes.reduceRefusal firstFrom sumZ Places.rowStep Places.columnStep Places.elementsOf Places.endOf vectors.inputAgrees vectors.memoryRefusal vectors.vectorRefusal Saturation.below Saturation.above Saturation.saturated Components.packedKind Components.componentAt Results.biasAt Results.resultAt transferred checks.accessCheck checks.checkedStep steps.withObject steps.loadDone steps.storeDone steps.performedStep checkedFrom checked checkedSheet performedFrom performed carried carriedMemory
 strips-right = refl

@@ -2,8 +2,9 @@ use mathlib.Core.Path.{sym, ap, _∙_}
 use native.Mathlib.Omega.{arith}
 use Rattle.numbers.specs.Laws.Choice.{went}
 use Rattle.addressing.specs.Laws.Plans.{plan-count}
+use Rattle.clashes.specs.Laws.Clashes.{apart-none, apart-found}
 use Rattle.accesses.specs.Laws.Surveys.{element-near, surveyed-told}
-use Rattle.accesses.proofs.Laws.{number, clash-surveyed, apart-none, apart-found, checked-refused, checked-load, checked-clash, checked-apart}
+use Rattle.accesses.proofs.Laws.{number, clash-surveyed, checked-refused, checked-load, checked-clash, checked-apart}
 use borrow.Author.Needs.{needs}
 use Rattle.accesses.proofs.check_elements.Statement.{statement}
 use Rattle.accesses.proofs.check_elements.Tie as tie

@@ -3,7 +3,7 @@ use Prim.Native.Nat.{ℕ, zero, suc, _+_, _*_, _/_, _%_, _^_, _<_, _≤_, zero-l
 use mathlib.Core.Path.{_≡_, refl, sym, ap, _∙_}
 use mathlib.Core.Bool.{Bool, true, false, true≢false}
 use mathlib.Core.Logic.{_⊎_, inl, inr}
-use native.Mathlib.Nat.{le-refl, not-suc-le-zero, mul-le-mul-right}
+use native.Mathlib.Nat.{le-refl, mul-le-mul-right}
 use native.Mathlib.Omega.{arith}
 use lib.Dec.{eqb, ltb}
 use borrow.Author.Tests.{eqb-true, eqb-false, ltb-true, ltb-false, not-false}
@@ -19,7 +19,9 @@ use Rattle.addressing.specs.Sound.{Sound}
 use Rattle.addressing.specs.Laws.Sound.{located-sound, low-bits-fit}
 use Rattle.refusals.specs.Refusals.{unalignedBase, ranksDiffer, blockedStore, byteTwice, stopAt}
 use Rattle.refusals.specs.declared.Stop.{Stop}
-use Rattle.accesses.specs.Refusals.{elementOutcome, misplaced, otherRank, storeBlocked, firstRefused, sameAt, meets, clashFrom, clashRefusal, elementsRefusal, accessRefusal, placedOne, placedCount}
+use Rattle.clashes.specs.Clashes.{clashFrom}
+use Rattle.clashes.specs.Laws.Clashes.{meets-none-of, none-clash}
+use Rattle.accesses.specs.Refusals.{elementOutcome, misplaced, otherRank, storeBlocked, firstRefused, sameAt, clashRefusal, elementsRefusal, accessRefusal, placedOne, placedCount}
 
 pub element-sound : (a : Access) (k : ℕ) → Sound a (elementOutcome a k .outcome)
 unfolding elementOutcome
@@ -70,27 +72,6 @@ none-refused f i (suc m) e k h l =
     (λ t. by-test (eqb k i) (λ q. rw (eqb-true k i q) (eqb-true _ _ t))
     (λ q. let d : k ≡ i → ⊥ = eqb-false k i q in none-refused f (suc i) m (rw t at e) k (omega arith) (omega arith)))
     (λ t. absurd (eqb-false (f i .refusal) 0 t (rw t at e)))
-
--- an element that meets none of the first n has another byte than each
-meets-none-of : (same : ℕ → ℕ → Bool) (i n : ℕ) → meets same i n ≡ false → (j : ℕ) → j < n → same j i ≡ false
-unfolding meets pick
-meets-none-of same i zero e j h = absurd (not-suc-le-zero h)
-meets-none-of same i (suc n) e j h =
-    by-test (same n i) (λ t. absurd (true≢false (rw t at e)))
-    (λ t. by-test (eqb j n) (λ q. rw (eqb-true j n q) t)
-    (λ q. let d : j ≡ n → ⊥ = eqb-false j n q in meets-none-of same i n (rw t at e) j (omega arith)))
-
--- no element meets an earlier one where the search ends past the last
-none-clash : (same : ℕ → ℕ → Bool) (i m : ℕ) → i + m ≤ clashFrom same i m → (k : ℕ) → i ≤ k → k < i + m → meets same k k ≡ false
-unfolding clashFrom pick
-none-clash same i zero e k h l = absurd (omega arith)
-none-clash same i (suc m) e k h l =
-    by-test (meets same i i) (λ t. let z : i + suc m ≤ i = rw t at e in absurd (omega arith))
-    (λ t. by-test (eqb k i) (λ q. rw (eqb-true k i q) t)
-    (λ q.
-    let d : k ≡ i → ⊥ = eqb-false k i q in
-    let s : suc i + m ≡ i + suc m = omega arith in
-    none-clash same (suc i) m (rw s (rw t at e)) k (omega arith) (omega arith)))
 
 -- a multiple of the size below another one is a whole element below it
 below : (base size : ℕ) {t u x y : ℕ} → t < u → x ≡ base + t * size → y ≡ base + u * size → x + size ≤ y

@@ -19,9 +19,10 @@ use Rattle.addressing.specs.Valid.{SizedAccess, Planned}
 use Rattle.addressing.specs.Laws.Plans.{plan-fill}
 use Rattle.addressing.specs.Sound.{Sound}
 use Rattle.refusals.specs.declared.Stop.{Stop}
+use Rattle.clashes.specs.Entries.{filledEntry}
 use Rattle.accesses.specs.declared.Tally.{Tally}
 use Rattle.accesses.specs.Refusals.{elementOutcome, firstRefused, accessRefusal}
-use Rattle.accesses.specs.Entries.{Near, filledEntry, entryOf, entryOutcome, Surveyed, Told}
+use Rattle.accesses.specs.Entries.{Near, entryOf, entryOutcome, Surveyed, Told}
 use Rattle.accesses.specs.Laws.Accepted.{element-sound, element-accepted}
 
 -- what an entry stands for: nothing, a byte of a memory, a fill or a discarded element

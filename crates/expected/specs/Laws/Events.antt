@@ -21,7 +21,8 @@ use Rattle.registers.specs.declared.MatrixType.{MatrixType}
 use Rattle.addressing.specs.Rules.{elementsOf, lowBits}
 use Rattle.addressing.specs.declared.Access.{Access}
 use Rattle.accesses.specs.Laws.Surveys.{entry-cases}
-use Rattle.accesses.specs.Entries.{Near, filledEntry, entryOutcome, Told}
+use Rattle.clashes.specs.Entries.{filledEntry}
+use Rattle.accesses.specs.Entries.{Near, entryOutcome, Told}
 use Rattle.transfers.specs.Transfers.{outcomeOf}
 use Rattle.checking.specs.Steps.{accessOf, objectRegister}
 use Rattle.checking.specs.Told.{StepTold}

@@ -6,7 +6,7 @@ use Rattle.sheet.specs.Sizes.{matrixPlaces}
 use Rattle.sheet_ranges.specs.Steps.{theStep}
 use Rattle.sheet_ranges.specs.Laws.Within.{within-places}
 use Rattle.registers.specs.Laws.Sized.{sized-empty}
-use Rattle.accesses.specs.Marks.{Scratch}
+use Rattle.accesses.specs.Entries.{Scratch}
 use Rattle.checking.specs.Laws.Steps.{check-sized}
 use Rattle.checking.specs.Laws.Turns.{within-step, empty-types, checked-start, checked-go, checked-stop, checked-end}
 use Rattle.checking.specs.declared.CheckAnswer.{CheckAnswer}

@@ -36,8 +36,9 @@ use Rattle.registers.specs.declared.MatrixType.{MatrixType}
 use Rattle.addressing.specs.Rules.{elementsOf}
 use Rattle.addressing.specs.declared.Access.{Access}
 use Rattle.addressing.specs.declared.Located.{Located}
+use Rattle.clashes.specs.Clashes.{clashFrom}
 use Rattle.accesses.specs.Refusals as accesses
-use Rattle.accesses.specs.Refusals.{elementOutcome, misplaced, otherRank, storeBlocked, firstRefused, sameAt, clashFrom, clashRefusal, elementsRefusal, accessRefusal}
+use Rattle.accesses.specs.Refusals.{elementOutcome, misplaced, otherRank, storeBlocked, firstRefused, sameAt, clashRefusal, elementsRefusal, accessRefusal}
 use Rattle.refusals.specs.declared.Stop.{Stop}
 use Rattle.whole_steps.specs.Laws.Within.{whole-ok, refusal-element}
 use Rattle.checking.specs.Steps.{accessOf, objectRegister, accessCheck, checkedStep}

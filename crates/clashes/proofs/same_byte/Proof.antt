@@ -1,9 +1,9 @@
 use mathlib.Core.Path.{refl}
 use Rattle.numbers.specs.Laws.Choice.{stop, pass, tests}
-use Rattle.accesses.specs.Entries.{hits}
+use Rattle.clashes.specs.Entries.{hits}
 use borrow.Author.Needs.{needs}
-use Rattle.accesses.proofs.clashes.same_byte.Statement.{statement}
-use Rattle.accesses.proofs.clashes.same_byte.Tie as tie
+use Rattle.clashes.proofs.same_byte.Statement.{statement}
+use Rattle.clashes.proofs.same_byte.Tie as tie
 
 has-byte-requires : tie.Need-has-byte-requires
 has-byte-requires c κs = search needs

@@ -1,10 +1,10 @@
 use Prim.Native.Nat.{_-_, zero-le}
 use mathlib.Core.Path.{sym}
 use Rattle.numbers.specs.Laws.Choice.{went-not, went-past}
-use Rattle.accesses.proofs.Marks.{Marking, clear-mark, marking-start, marking-more, marking-stop, marking-end}
+use Rattle.clashes.proofs.Marks.{Marking, clear-mark, marking-start, marking-more, marking-stop, marking-end}
 use borrow.Author.Needs.{needs}
-use Rattle.accesses.proofs.clashes.mark_all.Statement.{statement}
-use Rattle.accesses.proofs.clashes.mark_all.Tie as tie
+use Rattle.clashes.proofs.mark_all.Statement.{statement}
+use Rattle.clashes.proofs.mark_all.Tie as tie
 
 abbrev Inv-loop : tie.InvT-loop
 Inv-loop marks₀ entries count k₀ marks k = Marking entries count k marks

@@ -7,8 +7,7 @@ use lib.Bits.{bitOr}
 use lib.Dec.{eqb}
 use lib.ListN.{length, getD, set, replicate}
 use Rattle.numbers.specs.Choice.{pick}
-use Rattle.sheet.specs.Sizes.{matrixPlaces}
-use Rattle.accesses.specs.Entries.{hasByte}
+use Rattle.clashes.specs.Entries.{hasByte}
 
 -- the words
 abbrev pub markWords : ℕ
@@ -16,11 +15,6 @@ markWords = 2048
 
 unfoldable pub noMarks : List ℕ
 noMarks = replicate markWords 0
-
--- the room that a check of an access is lent: places for the entries, and no marks
-pub record Scratch (entries marks : List ℕ) : Type 0 where
-  pub places : length entries ≡ matrixPlaces
-  pub none : marks ≡ noMarks
 
 -- the word and the bit of an entry's byte
 abbrev pub wordOf : ℕ → ℕ

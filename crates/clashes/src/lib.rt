@@ -2,11 +2,16 @@
 ghost use mathlib.Core.Path.{_≡_};
 ghost use Prim.Native.Nat.{_≤_};
 ghost use Rattle.sheet.specs.Sizes.{matrixPlaces};
-ghost use Rattle.accesses.specs.Refusals.{clashFrom, apart};
-ghost use Rattle.accesses.specs.Entries.{hasByte, hits, sameEntry};
-ghost use Rattle.accesses.specs.Marks.{noMarks, unmarked, withMark, withoutMarks, ClearFrom};
-use super::FILLED;
+ghost use Rattle.clashes.specs.Clashes.{clashFrom, apart};
+ghost use Rattle.clashes.specs.Entries.{hasByte, hits, sameEntry};
+ghost use Rattle.clashes.specs.Marks.{noMarks, unmarked, withMark, withoutMarks, ClearFrom};
+use sheet::sizes::MEMORY_LIMIT;
 use sheet::sizes::PLACES;
+
+// The entries of a filled element and of a discarded one, past those of the 65,536 bytes.
+pub const FILLED: u32 = MEMORY_LIMIT as u32 + 1;
+
+pub const DISCARDED: u32 = MEMORY_LIMIT as u32 + 2;
 
 // A mark for each of the 65,536 bytes of a memory, so many in a word.
 const WORD: u32 = 32;

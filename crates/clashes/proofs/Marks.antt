@@ -17,9 +17,9 @@ use Rattle.numbers.specs.Laws.Choice.{both-right, by-test, by-place, by-order}
 use Rattle.numbers.specs.All.{all}
 use Rattle.numbers.specs.Laws.All.{all-none, all-more, all-false}
 use Rattle.numbers.specs.Laws.Places.{none-all}
-use Rattle.accesses.specs.Refusals.{meets, apart}
-use Rattle.accesses.specs.Entries.{filledEntry, hasByte, hits, sameEntry}
-use Rattle.accesses.specs.Marks.{markWords, noMarks, wordOf, bitOf, bitAt, unmarked, withMark, withoutMarks, ClearFrom}
+use Rattle.clashes.specs.Clashes.{meets, apart}
+use Rattle.clashes.specs.Entries.{filledEntry, hasByte, hits, sameEntry}
+use Rattle.clashes.specs.Marks.{markWords, noMarks, wordOf, bitOf, bitAt, unmarked, withMark, withoutMarks, ClearFrom}
 
 -- a bit that is set, and the others
 or-one : (x : ℕ) → x < 2 → bitOr x 1 ≡ 1

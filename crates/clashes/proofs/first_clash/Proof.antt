@@ -4,11 +4,11 @@ use mathlib.Core.Bool.{false}
 use native.Mathlib.Nat.{sub-zero}
 use native.Mathlib.Omega.{arith}
 use borrow.Author.Needs.{needs}
-use Rattle.accesses.specs.Entries.{sameEntry}
-use Rattle.accesses.specs.Refusals.{meets, clashFrom}
-use Rattle.accesses.proofs.Laws.{meets-none, meets-miss, clash-on, clash-found, clash-none}
-use Rattle.accesses.proofs.clashes.first_clash.Statement.{statement}
-use Rattle.accesses.proofs.clashes.first_clash.Tie as tie
+use Rattle.clashes.specs.Entries.{sameEntry}
+use Rattle.clashes.specs.Clashes.{meets, clashFrom}
+use Rattle.clashes.proofs.Laws.{meets-none, meets-miss, clash-on, clash-found, clash-none}
+use Rattle.clashes.proofs.first_clash.Statement.{statement}
+use Rattle.clashes.proofs.first_clash.Tie as tie
 
 abbrev Inv-loop : tie.InvT-loop
 Inv-loop entries count i x j₀ j = (j ≤ i) × (meets (sameEntry entries) i j ≡ false)

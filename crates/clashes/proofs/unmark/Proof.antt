@@ -1,11 +1,11 @@
 use mathlib.Core.Path.{refl}
 use native.Mathlib.Omega.{arith}
 use Rattle.numbers.specs.Laws.Choice.{taken, left, went-not, went-past}
-use Rattle.accesses.specs.Marks.{withoutMarks}
-use Rattle.accesses.proofs.Marks.{byte-some, word-inside}
+use Rattle.clashes.specs.Marks.{withoutMarks}
+use Rattle.clashes.proofs.Marks.{byte-some, word-inside}
 use borrow.Author.Needs.{needs}
-use Rattle.accesses.proofs.clashes.unmark.Statement.{statement}
-use Rattle.accesses.proofs.clashes.unmark.Tie as tie
+use Rattle.clashes.proofs.unmark.Statement.{statement}
+use Rattle.clashes.proofs.unmark.Tie as tie
 
 has-byte-requires : tie.Need-has-byte-requires
 has-byte-requires c κs = search needs

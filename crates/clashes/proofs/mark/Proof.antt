@@ -5,11 +5,11 @@ use lib.Bits.{bitOr}
 use lib.ListN.{getD, set}
 use native.Mathlib.Omega.{arith}
 use Rattle.numbers.specs.Laws.Choice.{taken, left, went-not, went-past}
-use Rattle.accesses.specs.Marks.{wordOf, bitOf, unmarked, withMark}
-use Rattle.accesses.proofs.Marks.{byte-some, word-inside, one-shifted}
+use Rattle.clashes.specs.Marks.{wordOf, bitOf, unmarked, withMark}
+use Rattle.clashes.proofs.Marks.{byte-some, word-inside, one-shifted}
 use borrow.Author.Needs.{needs}
-use Rattle.accesses.proofs.clashes.mark.Statement.{statement}
-use Rattle.accesses.proofs.clashes.mark.Tie as tie
+use Rattle.clashes.proofs.mark.Statement.{statement}
+use Rattle.clashes.proofs.mark.Tie as tie
 
 has-byte-requires : tie.Need-has-byte-requires
 has-byte-requires c κs = search needs

@@ -1,9 +1,9 @@
 use Prim.Native.Nat.{_-_, _≤_, zero-le}
-use Rattle.accesses.specs.Marks.{ClearFrom}
-use Rattle.accesses.proofs.Marks.{clear-unmark, clear-end}
+use Rattle.clashes.specs.Marks.{ClearFrom}
+use Rattle.clashes.proofs.Marks.{clear-unmark, clear-end}
 use borrow.Author.Needs.{needs}
-use Rattle.accesses.proofs.clashes.unmark_all.Statement.{statement}
-use Rattle.accesses.proofs.clashes.unmark_all.Tie as tie
+use Rattle.clashes.proofs.unmark_all.Statement.{statement}
+use Rattle.clashes.proofs.unmark_all.Tie as tie
 
 abbrev Inv-loop : tie.InvT-loop
 Inv-loop marks₀ entries count k₀ marks k = (k ≤ count) × ClearFrom entries k count marks

@@ -1,0 +1,4 @@
+pub mod Clashes
+pub mod Entries
+pub mod Marks
+pub mod Laws
