@@ -1,5 +1,5 @@
 -- Two stores next to each other may be exchanged, if no byte that one writes is written by the other.
-use Prim.Native.Nat.{ℕ, _+_, _-_}
+use Prim.Native.Nat.{ℕ, _+_, _-_, _<_}
 use mathlib.Core.Path.{_≡_, refl, ap, _∙_}
 use mathlib.Core.List.{List, _++_}
 use mathlib.Core.Logic.{_↔_}
@@ -62,15 +62,14 @@ module _ (sh : Sheet) (k : ℕ) (t : TwoStores sh k) where
     λ h. rw (from-checks k (exchanged k sh) (sh .step) (swap-back swap) k (sh .steps) 0 len _ 0 (omega arith) (t .given) h) h,
   )
 
-  -- and the steps leave the same
-  model-performed : (m : Machine) → Apart sh k m → performed (exchanged k sh) m ≡ performed sh m
-  unfolding performed
-  model-performed m apart =
+  -- and the steps leave the same, however many of them are performed after the two
+  model-performed : (m : Machine) → Apart sh k m → (n : ℕ) → k + 1 < n → performedFrom n (exchanged k sh) 0 m ≡ performedFrom n sh 0 m
+  model-performed m apart n l =
       let after : performedFrom (k + 1) sh 0 m ≡ performedStep (sh .tensors) (theStep (sh .step) k) (performedFrom k sh 0 m) =
       from-last k sh 0 m ∙ rw (zero-add k) refl in
       let on : ApartOn (sh .tensors) (theStep (sh .step) k) (theStep (sh .step) (k + 1)) (performedFrom k sh 0 m) =
       λ b x y. apart b x (rw after y) in
-      from-performs k sh (exchangedSteps k (sh .step)) swap k (sh .steps) 0 m (omega arith) (t .given) on
+      from-performs k sh (exchangedSteps k (sh .step)) swap k n 0 m (omega arith) l on
 
 -- In a sheet as bytes:
 module _ (s : List ℕ) (b : AreBytes s) (k : ℕ) (t : TwoStores (readSheet s .sheet) k) where
@@ -113,10 +112,16 @@ module _ (s : List ℕ) (b : AreBytes s) (k : ℕ) (t : TwoStores (readSheet s .
 
   -- If no byte that one of the two writes is written by the other:
   module _ (memory : List ℕ) (apart : Apart (readSheet s .sheet) k (started memory)) where
-    performs-exchanged : performed (readSheet (exchangedSheet k s) .sheet) (started memory) ≡ performed sh (started memory)
+    -- after n steps, the two among them, the machine is the same: every later step starts from it;
+    pub exchanged-machine : (n : ℕ) → k + 1 < n → performedFrom n (readSheet (exchangedSheet k s) .sheet) 0 (started memory) ≡ performedFrom n sh 0 (started memory)
     unfolding acceptedRead
+    exchanged-machine n l =
+        ap (λ (r : ReadAnswer). performedFrom n (r .sheet) 0 (started memory)) exchanged-reads ∙ model-performed sh k t (started memory) apart n l
+
+    performs-exchanged : performed (readSheet (exchangedSheet k s) .sheet) (started memory) ≡ performed sh (started memory)
+    unfolding performed acceptedRead
     performs-exchanged =
-        ap (λ (r : ReadAnswer). performed (r .sheet) (started memory)) exchanged-reads ∙ model-performed sh k t (started memory) apart
+        rw exchanged-reads (model-performed sh k t (started memory) apart (sh .steps) (t .given))
 
     -- an accepted sheet leaves the same registers and the same count,
     pub exchanged-carried : checkedSheet s (length memory) .refusal .number ≡ 0 → carried (exchangedSheet k s) memory ≡ carried s memory
