@@ -102,10 +102,11 @@
 extern "C" {
 #endif
 
-/* The version of this interface: a major one may break callers, a minor one adds to it. */
+/* The version of this interface: a major one may break callers, a minor one adds to it, a patch
+ * changes nothing that a caller sees. */
 #define MOONBLEAT_VERSION_MAJOR 1
 #define MOONBLEAT_VERSION_MINOR 5
-#define MOONBLEAT_VERSION_PATCH 0
+#define MOONBLEAT_VERSION_PATCH 1
 
 /* The newest edition of sheets that is taken, from 1 on. */
 #define MOONBLEAT_EDITION_MAX 2
