@@ -65,7 +65,7 @@ module _ (same : ℕ → ℕ → Bool) where
       by-test (meets same i i) (λ t. rw t l)
       (λ t. let d : k ≡ i → ⊥ = λ q. true≢false (sym e ∙ ap (λ (j : ℕ). meets same j j) q ∙ t) in rw t (found-before (suc i) m k (omega arith) (omega arith) e))
 
-  -- where the search finds none, all are apart
+  -- and where not all are apart, it finds one
   pub apart-found : (m : ℕ) → apart same m ≡ false → clashFrom same 0 m < m
   unfolding apart
   apart-found m e =
