@@ -5,7 +5,7 @@ use mathlib.Core.Bool.{Bool, true, false}
 use lib.Dec.{eqb}
 use Rattle.numbers.specs.Choice.{pick}
 use Rattle.sheet.specs.declared.Object.{Object}
-use Rattle.sheet.specs.declared.Object.the-variants.{Kept, Register}
+use Rattle.sheet.specs.declared.Object.the-variants.{Kept, Zeros, Register}
 use Rattle.sheet.specs.declared.Viewing.{Viewing}
 use Rattle.sheet.specs.declared.Viewing.the-variants.{Plain, Through}
 use Rattle.sheet.specs.declared.ClampMode.{ClampMode}
@@ -120,10 +120,12 @@ none = 255
 
 abbrev pub objectCode : Object → ℕ
 objectCode Kept = none
+objectCode Zeros = none
 objectCode (Register register) = register
 
-unfoldable pub objectOf : ℕ → Object
-objectOf code = pick (eqb code none) Kept (Register code)
+-- `absent` is what no object means in the sheet's edition
+unfoldable pub objectOf : Object → ℕ → Object
+objectOf absent code = pick (eqb code none) absent (Register code)
 
 abbrev pub viewingCode : Viewing → ℕ
 viewingCode Plain = none

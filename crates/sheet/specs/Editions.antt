@@ -4,11 +4,13 @@ use mathlib.Core.Bool.{Bool, true}
 use lib.Dec.{leb, eqb}
 use Rattle.numbers.specs.Choice.{pick, between}
 use Rattle.sheet.specs.Codes.{vectorTag}
+use Rattle.sheet.specs.declared.Object.{Object}
+use Rattle.sheet.specs.declared.Object.the-variants.{Kept, Zeros}
 use Rattle.sheet.specs.declared.editions.SizeLimits.{SizeLimits}
 
 -- editions are 1 to the newest
 abbrev pub newestEdition : ℕ
-newestEdition = 2
+newestEdition = 3
 
 abbrev pub editionOk : ℕ → Bool
 editionOk edition = between 1 newestEdition edition
@@ -19,6 +21,17 @@ vectorEdition = 2
 
 abbrev pub hasVectors : ℕ → Bool
 hasVectors edition = leb vectorEdition edition
+
+-- the edition from which on a load without an object starts from zeros
+abbrev pub zerosEdition : ℕ
+zerosEdition = 3
+
+abbrev pub objectIsZeros : ℕ → Bool
+objectIsZeros edition = leb zerosEdition edition
+
+-- what no object means: zeros of the register's own type, or in an older edition the register as it stands
+unfoldable pub noObject : ℕ → Object
+noObject edition = pick (objectIsZeros edition) Zeros Kept
 
 -- a step's tag of a later edition is not known in an older one; before any edition each is, so that the order decides
 unfoldable pub tagKnown : ℕ → ℕ → Bool

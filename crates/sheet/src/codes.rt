@@ -149,15 +149,17 @@ pub fn object_code(object: Object) -> u8
 {
     match object {
         Object::Kept => NONE,
+        Object::Zeros => NONE,
         Object::Register(register) => register,
     }
 }
 
-pub fn object_of(code: u8) -> Object
-    ensures { λ r. ⌜ r ≡ objectOf code ⌝ }
+// `absent` is what no object means in the sheet's edition.
+pub fn object_of(absent: Object, code: u8) -> Object
+    ensures { λ r. ⌜ r ≡ objectOf absent code ⌝ }
 {
     if code == NONE {
-        return Object::Kept;
+        return absent;
     }
     Object::Register(code)
 }

@@ -130,9 +130,10 @@ pub enum WholeStep {
     Vector(VectorStep),
 }
 
-// What a load starts from: its register as it stands, or a register that is copied to it.
+// What a load starts from: its register as it stands, zeros of its register's type, or a register that is copied to it.
 pub enum Object {
     Kept,
+    Zeros,
     Register(u8),
 }
 

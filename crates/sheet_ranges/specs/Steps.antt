@@ -2,15 +2,15 @@
 use Prim.Native.Nat.{ℕ}
 use mathlib.Core.List.{List}
 use lib.ListN.{getD}
-use mathlib.Core.Bool.{Bool, true, false}
+use mathlib.Core.Bool.{Bool, true, false, not}
 use lib.Dec.{ltb, eqb}
 use Rattle.numbers.specs.Choice.{pick, both}
 use Rattle.kinds.specs.Widths.{kindOk, wordKind, fits}
 use Rattle.kinds.specs.Interpretations.{interpretationOk}
 use Rattle.sheet.specs.Sizes.{registerOk}
-use Rattle.sheet.specs.Editions.{hasVectors, sideOk}
+use Rattle.sheet.specs.Editions.{hasVectors, objectIsZeros, sideOk}
 use Rattle.sheet.specs.declared.Object.{Object}
-use Rattle.sheet.specs.declared.Object.the-variants.{Kept, Register}
+use Rattle.sheet.specs.declared.Object.the-variants.{Kept, Zeros, Register}
 use Rattle.sheet.specs.declared.Viewing.{Viewing}
 use Rattle.sheet.specs.declared.Viewing.the-variants.{Plain, Through}
 use Rattle.sheet.specs.declared.Window.{Window}
@@ -37,9 +37,11 @@ fillOk edition register rows columns kind value =
     (both (kindOk kind)
     (fits kind value))))
 
-abbrev pub objectOk : Object → Bool
-objectOk Kept = true
-objectOk (Register register) = registerOk register
+-- a register, or what no object means in the edition
+abbrev pub objectOk : ℕ → Object → Bool
+objectOk edition Kept = not (objectIsZeros edition)
+objectOk edition Zeros = objectIsZeros edition
+objectOk edition (Register register) = registerOk register
 
 abbrev pub viewingOk : ℕ → Viewing → Bool
 viewingOk views Plain = true
@@ -49,9 +51,9 @@ viewingOk views (Through view) = ltb view views
 unfoldable pub windowOk : ℕ → ℕ → Window → Bool
 windowOk layouts views w = both (ltb (w .layout) layouts) (viewingOk views (w .view))
 
-unfoldable pub loadOk : ℕ → ℕ → ℕ → Object → Window → Bool
-loadOk layouts views register object window =
-    both (registerOk register) (both (objectOk object) (windowOk layouts views window))
+unfoldable pub loadOk : ℕ → ℕ → ℕ → ℕ → Object → Window → Bool
+loadOk edition layouts views register object window =
+    both (registerOk register) (both (objectOk edition object) (windowOk layouts views window))
 
 unfoldable pub storeOk : ℕ → ℕ → ℕ → Window → Bool
 storeOk layouts views register window = both (registerOk register) (windowOk layouts views window)
@@ -91,7 +93,7 @@ wholeOk edition (Vector v) = vectorOk edition v
 
 abbrev pub stepOk : ℕ → ℕ → ℕ → Step → Bool
 stepOk edition layouts views Nothing = false
-stepOk edition layouts views (Load register object window) = loadOk layouts views register object window
+stepOk edition layouts views (Load register object window) = loadOk edition layouts views register object window
 stepOk edition layouts views (Store register window) = storeOk layouts views register window
 stepOk edition layouts views (Whole whole) = wholeOk edition whole
 

@@ -38,11 +38,13 @@ pub fn fill_ok(edition: u8, register: u8, rows: u8, columns: u8, kind: u8, value
     kinds::fits(kind, value)
 }
 
-fn object_ok(object: Object) -> bool
-    ensures { λ r. ⌜ r ≡ objectOk object ⌝ }
+// A register, or what no object means in the edition.
+fn object_ok(edition: u8, object: Object) -> bool
+    ensures { λ r. ⌜ r ≡ objectOk edition object ⌝ }
 {
     match object {
-        Object::Kept => true,
+        Object::Kept => !editions::object_is_zeros(edition),
+        Object::Zeros => editions::object_is_zeros(edition),
         Object::Register(register) => sizes::register_ok(register),
     }
 }
@@ -67,13 +69,20 @@ fn window_ok(layouts: usize, views: usize, window: Window) -> bool
     viewing_ok(views, view)
 }
 
-pub fn load_ok(layouts: usize, views: usize, register: u8, object: Object, window: Window) -> bool
-    ensures { λ r. ⌜ r ≡ loadOk layouts views register object window ⌝ }
+pub fn load_ok(
+    edition: u8,
+    layouts: usize,
+    views: usize,
+    register: u8,
+    object: Object,
+    window: Window,
+) -> bool
+    ensures { λ r. ⌜ r ≡ loadOk edition layouts views register object window ⌝ }
 {
     if !sizes::register_ok(register) {
         return false;
     }
-    if !object_ok(object) {
+    if !object_ok(edition, object) {
         return false;
     }
     window_ok(layouts, views, window)
@@ -201,7 +210,7 @@ pub fn step_ok(edition: u8, layouts: usize, views: usize, step: Step) -> bool
             register,
             object,
             window,
-        } => load_ok(layouts, views, register, object, window),
+        } => load_ok(edition, layouts, views, register, object, window),
         Step::Store { register, window } => store_ok(layouts, views, register, window),
         Step::Whole(whole) => whole_ok(edition, whole),
     }

@@ -73,7 +73,7 @@ stepRefusal s tag p len g =
     pick (tagKnown (g .edition) tag)
     (pick (stepMayCome g)
     (pick (eqb len (stepLength (g .edition) tag))
-    (pick (stepOk (g .edition) (g .layouts) (g .views) (stepAt s tag p)) 0 beyondSizes)
+    (pick (stepOk (g .edition) (g .layouts) (g .views) (stepAt (g .edition) s tag p)) 0 beyondSizes)
     wrongLength)
     outOfOrder)
     unknownTag
@@ -111,7 +111,7 @@ withField s tag p sh =
     pick (eqb tag editionTag) (withEdition sh (getD s p 0))
     (pick (eqb tag layoutTag) (withTensors sh (moreLayout (sh .tensors) (layoutAt s p)))
     (pick (eqb tag viewTag) (withTensors sh (moreView (sh .tensors) (viewAt s p)))
-    (withStep sh (stepAt s tag p))))
+    (withStep sh (stepAt (sh .edition) s tag p))))
 
 -- refused: an empty sheet beside the number and the place, which is a byte
 unfoldable pub refusedRead : ℕ → ℕ → ReadAnswer

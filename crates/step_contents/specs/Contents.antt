@@ -5,7 +5,7 @@ use lib.ListN.{getD}
 use lib.Dec.{leb, eqb}
 use Rattle.numbers.specs.Choice.{pick, between}
 use Rattle.numbers.specs.Little.{u16At, u32At}
-use Rattle.sheet.specs.Editions.{fillLength}
+use Rattle.sheet.specs.Editions.{noObject, fillLength}
 use Rattle.sheet.specs.Codes.{fillTag, loadTag, storeTag, reduceTag, transposeTag, multiplyTag, reduceMode, combineOf, memoryLayout, objectOf, viewingOf}
 use Rattle.sheet.specs.declared.Window.{Window}
 use Rattle.sheet.specs.declared.Step.{Step}
@@ -21,8 +21,9 @@ fillAt s p = Whole (Fill (getD s p 0) (getD s (p + 1) 0) (getD s (p + 2) 0) (get
 unfoldable pub windowAt : List ℕ → ℕ → Window
 windowAt s p = record { layout = getD s p 0; view = viewingOf (getD s (p + 1) 0); base = u32At s (p + 2) }
 
-unfoldable pub loadAt : List ℕ → ℕ → Step
-loadAt s p = Load (getD s p 0) (objectOf (getD s (p + 1) 0)) (windowAt s (p + 2))
+-- register, object or 255, and where in memory
+unfoldable pub loadAt : ℕ → List ℕ → ℕ → Step
+loadAt edition s p = Load (getD s p 0) (objectOf (noObject edition) (getD s (p + 1) 0)) (windowAt s (p + 2))
 
 unfoldable pub storeAt : List ℕ → ℕ → Step
 storeAt s p = Store (getD s p 0) (windowAt s (p + 1))
@@ -69,10 +70,10 @@ vectorAt s p =
     Nothing)
     Nothing
 
-unfoldable pub stepAt : List ℕ → ℕ → ℕ → Step
-stepAt s tag p =
+unfoldable pub stepAt : ℕ → List ℕ → ℕ → ℕ → Step
+stepAt edition s tag p =
     pick (eqb tag fillTag) (fillAt s p)
-    (pick (eqb tag loadTag) (loadAt s p)
+    (pick (eqb tag loadTag) (loadAt edition s p)
     (pick (eqb tag storeTag) (storeAt s p)
     (pick (eqb tag reduceTag) (reduceAt s p)
     (pick (eqb tag transposeTag) (transposeAt s p)

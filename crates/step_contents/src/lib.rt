@@ -53,14 +53,15 @@ fn window_at(s: &[u8], p: usize) -> Window
     }
 }
 
-fn load_at(s: &[u8], p: usize, layouts: usize, views: usize) -> Step
+fn load_at(s: &[u8], edition: u8, p: usize, layouts: usize, views: usize) -> Step
     requires { ⌜ p + 8 ≤ length (now s) ⌝ }
-    ensures { λ r. ⌜ ((edition : ℕ) → r ≡ judged edition layouts views (loadAt (now (s .entry)) p)) ⌝ }
+    ensures { λ r. ⌜ r ≡ judged edition layouts views (loadAt edition (now (s .entry)) p) ⌝ }
 {
     let register = s[p];
-    let object = codes::object_of(s[p + 1]);
+    let absent = editions::no_object(edition);
+    let object = codes::object_of(absent, s[p + 1]);
     let window = window_at(s, p + 2);
-    if !steps::load_ok(layouts, views, register, object, window) {
+    if !steps::load_ok(edition, layouts, views, register, object, window) {
         return Step::Nothing;
     }
     Step::Load {
@@ -197,10 +198,10 @@ pub fn is_access(tag: u8) -> bool
 // The load or the store whose content starts at p and has its tag's length, in a sheet of so many layouts and views.
 pub fn access_at(s: &[u8], edition: u8, tag: u8, p: usize, layouts: usize, views: usize) -> Step
     requires { ⌜ (p + stepLength edition tag ≤ length (now s)) × (between loadTag storeTag tag ≡ true) ⌝ }
-    ensures { λ r. ⌜ r ≡ judged edition layouts views (stepAt (now (s .entry)) tag p) ⌝ }
+    ensures { λ r. ⌜ r ≡ judged edition layouts views (stepAt edition (now (s .entry)) tag p) ⌝ }
 {
     if tag == codes::LOAD_TAG {
-        return load_at(s, p, layouts, views);
+        return load_at(s, edition, p, layouts, views);
     }
     store_at(s, p, layouts, views)
 }
@@ -208,7 +209,7 @@ pub fn access_at(s: &[u8], edition: u8, tag: u8, p: usize, layouts: usize, views
 // The whole step whose content starts at p and has its tag's length.
 pub fn whole_at(s: &[u8], edition: u8, tag: u8, p: usize) -> Step
     requires { ⌜ (p + stepLength edition tag ≤ length (now s)) × (between loadTag storeTag tag ≡ false) ⌝ }
-    ensures { λ r. ⌜ ((layouts views : ℕ) → r ≡ judged edition layouts views (stepAt (now (s .entry)) tag p)) ⌝ }
+    ensures { λ r. ⌜ ((layouts views : ℕ) → r ≡ judged edition layouts views (stepAt edition (now (s .entry)) tag p)) ⌝ }
 {
     match tag {
         codes::FILL_TAG => fill_at(s, edition, p),

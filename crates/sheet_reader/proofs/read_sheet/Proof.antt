@@ -233,11 +233,11 @@ module _ (c : tie.Else5 Inv-loop μ-loop) where
   step-room : c .before .before .before .before .before .before .before .before .before .before .before .loop .count < stepPlaces
   step-room = step-place _ (its-head .may)
 
-  decided : refusal field ≡ pick (stepOk (sofar field .edition) (sofar field .tensors .layouts) (sofar field .tensors .views) (stepAt (s field) (tag field) (start field))) 0 beyondSizes
+  decided : refusal field ≡ pick (stepOk (sofar field .edition) (sofar field .tensors .layouts) (sofar field .tensors .views) (stepAt (sofar field .edition) (s field) (tag field) (start field))) 0 beyondSizes
   decided = content-decides _ _ _ _ _ its-head
 
   abbrev its-step : Step
-  its-step = stepAt (s field) (tag field) (start field)
+  its-step = stepAt (sofar field .edition) (s field) (tag field) (start field)
 
   -- it is found as it is judged, and ends the reading where it is nothing
   module _ {found : Step} {unused : Bool} (e : found ≡ judged (sofar field .edition) (sofar field .tensors .layouts) (sofar field .tensors .views) its-step) (u : unused ≡ stepUnused found) where

@@ -155,7 +155,7 @@ module _ (sh : Sheet) (g : Grown sh) where
   field-grown s tag at len (layout e t) = rw (with-layout s tag at sh e refl refl) at (layout-grown (layoutAt s at) (t .may) (t .ok))
   field-grown s tag at len (view e t) = rw (with-view s tag at sh e refl refl) at (view-grown (viewAt s at) (t .may) (t .ok))
   field-grown s tag at len (step e f t) =
-      rw (with-step s tag at sh (λ z. omega arith) (λ z. omega arith) (λ z. omega arith) refl) at (step-grown (stepAt s tag at) (t .may) (t .ok))
+      rw (with-step s tag at sh (λ z. omega arith) (λ z. omega arith) (λ z. omega arith) refl) at (step-grown (stepAt (sh .edition) s tag at) (t .may) (t .ok))
 
 -- nothing has been read, or the sheet has grown so far
 abbrev SoFar : ℕ → Sheet → Type 0

@@ -75,10 +75,10 @@ module _ (s : List ℕ) (tag p len : ℕ) (g : Given) where
       (λ e h a b c. step-head (between-low fillTag lastStepTag tag e) (between-high fillTag lastStepTag tag e) h)
       (λ e h. took-head (took s p len g tag h))
 
-  judged : StepHead → stepRefusal s tag p len g ≡ pick (stepOk (g .edition) (g .layouts) (g .views) (stepAt s tag p)) 0 beyondSizes
+  judged : StepHead → stepRefusal s tag p len g ≡ pick (stepOk (g .edition) (g .layouts) (g .views) (stepAt (g .edition) s tag p)) 0 beyondSizes
   unfolding stepRefusal pick
   judged h = rw (h .known, h .may, eq-eqb len (stepLength (g .edition) tag) (h .long))
 
   -- its content alone decides
-  pub content-decides : StepHead → fieldRefusal s tag p len g ≡ pick (stepOk (g .edition) (g .layouts) (g .views) (stepAt s tag p)) 0 beyondSizes
+  pub content-decides : StepHead → fieldRefusal s tag p len g ≡ pick (stepOk (g .edition) (g .layouts) (g .views) (stepAt (g .edition) s tag p)) 0 beyondSizes
   content-decides h = step-field (h .low) (h .high) ∙ judged h

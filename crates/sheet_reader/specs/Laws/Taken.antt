@@ -54,7 +54,7 @@ module _ (s : List ℕ) (p len : ℕ) (g : Given) where
     pub known : tagKnown (g .edition) tag ≡ true
     pub may : stepMayCome g ≡ true
     pub long : len ≡ stepLength (g .edition) tag
-    pub ok : stepOk (g .edition) (g .layouts) (g .views) (stepAt s tag p) ≡ true
+    pub ok : stepOk (g .edition) (g .layouts) (g .views) (stepAt (g .edition) s tag p) ≡ true
 
   edition-taken : editionRefusal s p len g ≡ 0 → EditionTaken
   unfolding editionRefusal

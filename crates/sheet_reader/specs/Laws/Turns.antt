@@ -71,6 +71,6 @@ module _ (s : List ℕ) (tag p : ℕ) (sh : Sheet) where
   unfolding withField pick
   with-view e f g = rw (e, g, f)
 
-  pub with-step : {st : Step} → (tag ≡ editionTag → ⊥) → (tag ≡ layoutTag → ⊥) → (tag ≡ viewTag → ⊥) → st ≡ stepAt s tag p → withStep sh st ≡ withField s tag p sh
+  pub with-step : {st : Step} → (tag ≡ editionTag → ⊥) → (tag ≡ layoutTag → ⊥) → (tag ≡ viewTag → ⊥) → st ≡ stepAt (sh .edition) s tag p → withStep sh st ≡ withField s tag p sh
   unfolding withField pick
   with-step a b c e = rw (ne-eqb tag editionTag a, ne-eqb tag layoutTag b, ne-eqb tag viewTag c, e)

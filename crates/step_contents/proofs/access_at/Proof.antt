@@ -19,7 +19,7 @@ load-at-requires c κs = rw (c .if1 .taken) at (c .before .before .pre .0)
 
 returns : tie.Need-returns
 unfolding stepAt pick
-returns c = rw (c .before .if1 .taken) (c .load-at .ensures _)
+returns c = rw (c .before .if1 .taken) (c .load-at .ensures)
 
 store-at-requires : tie.Need-store-at-requires
 unfolding stepLength pick

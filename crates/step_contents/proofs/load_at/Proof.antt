@@ -9,6 +9,9 @@ use Rattle.step_contents.proofs.load_at.Tie as tie
 shared-slice-read-register : tie.Need-shared-slice-read-register
 shared-slice-read-register c = search needs
 
+no-object-requires : tie.Need-no-object-requires
+no-object-requires c κs = search needs
+
 add-object-of : tie.Need-add-object-of
 add-object-of c = search needs
 
@@ -29,17 +32,18 @@ load-ok-requires c κs = search needs
 
 returns : tie.Need-returns
 unfolding loadAt
-returns c edition = rw (← c .before .before .before .object-of .ensures, ← c .before .before .window-at .ensures) (judged-none _ _ _ refl (went-not (c .before .load-ok .ensures) (c .if1 .taken)))
+returns c = rw (← c .before .before .before .before .before .no-object .ensures, ← c .before .before .before .object-of .ensures, ← c .before .before .window-at .ensures) (judged-none _ _ _ refl (went-not (c .before .load-ok .ensures) (c .if1 .taken)))
 
 returns-2 : tie.Need-returns-2
 unfolding loadAt
-returns-2 c edition = rw (← c .before .before .before .object-of .ensures, ← c .before .before .window-at .ensures) (judged-some _ _ _ refl (went-past (c .before .load-ok .ensures) (c .if1 .left)))
+returns-2 c = rw (← c .before .before .before .before .before .no-object .ensures, ← c .before .before .before .object-of .ensures, ← c .before .before .window-at .ensures) (judged-some _ _ _ refl (went-past (c .before .load-ok .ensures) (c .if1 .left)))
 
 pub load-at-spec : {M : Type 1} → statement M
 load-at-spec =
     tie.close
     (tie.spec
     shared-slice-read-register
+    no-object-requires
     add-object-of
     shared-slice-read-object-of
     object-of-requires
