@@ -9,7 +9,7 @@ use Rattle.tensor_ranges.specs.Layouts.{theLayout}
 use Rattle.tensor_ranges.specs.Views.{theView, noView}
 use Rattle.sheet.specs.declared.View.{View}
 use Rattle.sheet.specs.declared.Object.{Object}
-use Rattle.sheet.specs.declared.Object.the-variants.{Kept, Register}
+use Rattle.sheet.specs.declared.Object.the-variants.{Kept, Zeros, Register}
 use Rattle.sheet.specs.declared.Viewing.{Viewing}
 use Rattle.sheet.specs.declared.Viewing.the-variants.{Plain, Through}
 use Rattle.sheet.specs.declared.Window.{Window}
@@ -49,9 +49,10 @@ accessOf tensors load window t len =
       columns = t .columns;
     }
 
--- the register that a load's object is in; without an object the register is its own
+-- the register that a load's object is in, or whose type it has; without an object that is the load's own
 abbrev pub objectRegister : ℕ → Object → ℕ
 objectRegister register Kept = register
+objectRegister register Zeros = register
 objectRegister register (Register object) = object
 
 abbrev pub stepCheck : ℕ → List MatrixType → ℕ → StepCheck

@@ -93,12 +93,13 @@ fn check_whole(
     }
 }
 
-// The register that a load's object is in.
+// The register that a load's object is in, or whose type it has.
 pub fn object_register(register: u8, object: Object) -> u8
     ensures { λ r. ⌜ r ≡ objectRegister register object ⌝ }
 {
     match object {
         Object::Kept => register,
+        Object::Zeros => register,
         Object::Register(r) => r,
     }
 }

@@ -1,4 +1,4 @@
--- The registers' elements, and what copying does.
+-- The registers' elements, and what copying and filling do.
 use mathlib.Core.List.{List}
 use Prim.Native.Nat.{ℕ, _+_, _*_}
 use lib.ListN.{getD, set, replicate}
@@ -29,7 +29,17 @@ withBlock es r block = line es (placeOf r 0) (λ (e : ℕ). getD block e 0) matr
 abbrev pub copiedElements : List ℕ → ℕ → ℕ → List ℕ
 copiedElements es r s = line es (placeOf r 0) (elementOf es s) matrixPlaces
 
+-- n of register r's elements, from element f on, made x
+abbrev pub filledElements : List ℕ → ℕ → ℕ → ℕ → ℕ → List ℕ
+filledElements es r f n x = line es (placeOf r f) (λ (i : ℕ). x) n
+
 -- register r made equal to register s
 abbrev pub copied : Registers → ℕ → ℕ → Registers
 copied g r s =
     record { types = withType (g .types) r (theType (g .types) s); elements = copiedElements (g .elements) r s }
+
+-- register r made zeros of its own type
+abbrev pub zeroed : Registers → ℕ → Registers
+zeroed g r =
+    let t = theType (g .types) r in
+    record { types = g .types; elements = filledElements (g .elements) r 0 (t .rows * t .columns) 0 }

@@ -2,10 +2,11 @@
 pub mod blocks;
 
 ghost use mathlib.Core.Path.{_≡_};
-ghost use Prim.Native.Nat.{_<_};
+ghost use Prim.Native.Nat.{_+_, _*_, _<_, _≤_};
 ghost use Rattle.sheet.specs.Sizes.{registerCount, matrixPlaces};
 ghost use Rattle.registers.specs.Types.{noType, theType, isEmpty, withType};
-ghost use Rattle.registers.specs.Registers.{placeOf, elementOf, withElementOf, withBlock, copiedElements, emptyRegisters};
+ghost use Rattle.registers.specs.Registers.{placeOf, elementOf, withElementOf, withBlock, copiedElements, filledElements, emptyRegisters};
+ghost use Rattle.registers.specs.Sized.{SizedType};
 use sheet::sizes::ELEMENTS;
 use sheet::sizes::PLACES;
 use sheet::sizes::REGISTERS;
@@ -71,6 +72,14 @@ pub fn with_type(
     out
 }
 
+// How many elements a matrix has.
+pub fn element_count(t: MatrixType) -> usize
+    requires { ⌜ SizedType t ⌝ }
+    ensures { λ r. ⌜ (r ≡ t .rows * t .columns) × (r ≤ matrixPlaces) ⌝ }
+{
+    (t.rows as usize) * (t.columns as usize)
+}
+
 // Where an element of a register stands.
 pub fn place_of(register: u8, element: usize) -> usize
     requires { ⌜ (register < registerCount) × (element < matrixPlaces) ⌝ }
@@ -117,5 +126,23 @@ pub fn copy_elements(elements: &mut [u32; ELEMENTS], register: u8, source: u8)
     while e < PLACES {
         elements[to + e] = elements[from + e];
         e += 1;
+    }
+}
+
+// Elements of a register, from the first on, given a value.
+pub fn fill_elements(
+    elements: &mut [u32; ELEMENTS],
+    register: u8,
+    first: usize,
+    count: usize,
+    value: u32,
+)
+    requires { ⌜ (register < registerCount) × (first + count ≤ matrixPlaces) ⌝ }
+    ensures { λ _. ⌜ now (elements .exit) ≡ filledElements (now (elements .entry)) register first count value ⌝ }
+{
+    let mut i = 0;
+    while i < count {
+        put_element_of(elements, register, first + i, value);
+        i += 1;
     }
 }

@@ -21,7 +21,7 @@ module _ {tensors : Tensors} {ts : List MatrixType} {len register : ℕ} {window
       record {
         within = s .within;
         memory = s .memory;
-        ok = load-window _ _ _ _ _ (s .ok);
+        ok = load-window _ _ _ _ _ _ (s .ok);
         sized = s .sized .each (objectRegister register object);
         clear = access-clear ts (withType ts register t) t (accessOf tensors true window t len) (s .clear);
       }

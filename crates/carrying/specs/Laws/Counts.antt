@@ -33,7 +33,7 @@ step-count edition tensors (Load register object window) m edition′ layouts vi
     let t = theType ts (objectRegister register object) in
     let x = accessOf tensors true window t (length (m .memory)) in
     let e = access-moved ts (withType ts register t) t x (access-clear ts (withType ts register t) t x a .filled) in
-    let r : register < length ts = omega (arith, load-register _ _ _ _ _ ok, f .registers) in
+    let r : register < length ts = omega (arith, load-register _ _ _ _ _ _ ok, f .registers) in
     rw (object-type register object m r, e)
     (ap (λ (c : Counts). c .placed) (transferred-counts _ (loaded-counts (x .size) register) (elementOutcome x) (elementsOf x) _)
     ∙ ap (λ (n : ℕ). m .counts .placed + n) (sym (access-placed x (rw e at a))))

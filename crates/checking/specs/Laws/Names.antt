@@ -7,7 +7,7 @@ use Rattle.numbers.specs.Laws.Choice.{both-left, both-right}
 use Rattle.sheet.specs.Sizes.{registerCount}
 use Rattle.sheet_ranges.specs.Steps.{objectOk, viewingOk, windowOk, loadOk, storeOk}
 use Rattle.sheet.specs.declared.Object.{Object}
-use Rattle.sheet.specs.declared.Object.the-variants.{Kept, Register}
+use Rattle.sheet.specs.declared.Object.the-variants.{Kept, Zeros, Register}
 use Rattle.sheet.specs.declared.Window.{Window}
 use Rattle.checking.specs.Steps.{objectRegister}
 
@@ -28,23 +28,24 @@ module _ (layouts views register : ℕ) (window : Window) where
   unfolding storeOk
   store-window e = both-right _ _ e
 
-object-small : (register : ℕ) (object : Object) → register < registerCount → objectOk object ≡ true → objectRegister register object < registerCount
-object-small register Kept h e = h
-object-small register (Register object) h e = ltb-true object registerCount e
+object-small : (edition register : ℕ) (object : Object) → register < registerCount → objectOk edition object ≡ true → objectRegister register object < registerCount
+object-small edition register Kept h e = h
+object-small edition register Zeros h e = h
+object-small edition register (Register object) h e = ltb-true object registerCount e
 
-module _ (layouts views register : ℕ) (object : Object) (window : Window) where
-  pub load-register : loadOk layouts views register object window ≡ true → register < registerCount
+module _ (edition layouts views register : ℕ) (object : Object) (window : Window) where
+  pub load-register : loadOk edition layouts views register object window ≡ true → register < registerCount
   unfolding loadOk
   load-register e = ltb-true register registerCount (both-left _ _ e)
 
-  pub load-window : loadOk layouts views register object window ≡ true → windowOk layouts views window ≡ true
+  pub load-window : loadOk edition layouts views register object window ≡ true → windowOk layouts views window ≡ true
   unfolding loadOk
   load-window e = both-right _ _ (both-right _ _ e)
 
-  pub load-object-ok : loadOk layouts views register object window ≡ true → objectOk object ≡ true
+  load-object-ok : loadOk edition layouts views register object window ≡ true → objectOk edition object ≡ true
   unfolding loadOk
   load-object-ok e = both-left _ _ (both-right _ _ e)
 
   -- the object is in a register: its own, or another
-  pub load-object : loadOk layouts views register object window ≡ true → objectRegister register object < registerCount
-  load-object e = object-small register object (load-register e) (load-object-ok e)
+  pub load-object : loadOk edition layouts views register object window ≡ true → objectRegister register object < registerCount
+  load-object e = object-small edition register object (load-register e) (load-object-ok e)

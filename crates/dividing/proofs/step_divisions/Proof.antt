@@ -20,7 +20,7 @@ object-register-requires : tie.Need-object-register-requires
 object-register-requires c κs = search needs
 
 the-type-requires : tie.Need-the-type-requires
-the-type-requires c κs = rw (c .object-register .ensures) (load-object _ _ _ _ _ (rw (c .before .before .step .given .1) at (c .before .before .before .before .pre .ok)))
+the-type-requires c κs = rw (c .object-register .ensures) (load-object _ _ _ _ _ _ (rw (c .before .before .step .given .1) at (c .before .before .before .before .pre .ok)))
 
 plan-window-requires : tie.Need-plan-window-requires
 plan-window-requires c κs =

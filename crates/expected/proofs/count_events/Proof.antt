@@ -18,7 +18,7 @@ object-register-requires : tie.Need-object-register-requires
 object-register-requires c κs = search needs
 
 the-type-requires : tie.Need-the-type-requires
-the-type-requires c κs = rw (c .object-register .ensures) (load-object _ _ _ _ _ (rw (c .before .before .step .given .1) at (c .before .before .before .before .pre .1 .3)))
+the-type-requires c κs = rw (c .object-register .ensures) (load-object _ _ _ _ _ _ (rw (c .before .before .step .given .1) at (c .before .before .before .before .pre .1 .3)))
 
 elements-of-requires : tie.Need-elements-of-requires
 elements-of-requires c κs = rw (c .the-type .ensures) (c .before .before .before .before .before .pre .0 .each _)

@@ -17,7 +17,7 @@ object-register-requires : tie.Need-object-register-requires
 object-register-requires c κs = search needs
 
 the-type-requires : tie.Need-the-type-requires
-the-type-requires c κs = rw (c .object-register .ensures) (load-object _ _ _ _ _ (rw (c .before .before .step .given .1) at (c .before .before .before .before .pre .0 .ok)))
+the-type-requires c κs = rw (c .object-register .ensures) (load-object _ _ _ _ _ _ (rw (c .before .before .step .given .1) at (c .before .before .before .before .pre .0 .ok)))
 
 survey-window-requires : tie.Need-survey-window-requires
 survey-window-requires c κs =

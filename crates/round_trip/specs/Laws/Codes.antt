@@ -4,11 +4,12 @@ use Prim.Native.Nat.{ℕ, zero, suc, _+_, _<_, _≤_}
 use mathlib.Core.Path.{_≡_, refl}
 use mathlib.Core.Bool.{Bool, true, false}
 use native.Mathlib.Omega.{arith}
-use borrow.Author.Tests.{ltb-true, ne-eqb}
+use borrow.Author.Tests.{ltb-true, ne-eqb, not-true}
 use lib.Dec.{eqb}
 use Rattle.numbers.specs.Choice.{pick}
-use Rattle.numbers.specs.Laws.Choice.{by-place}
+use Rattle.numbers.specs.Laws.Choice.{by-place, pick-case}
 use Rattle.sheet.specs.Sizes.{viewPlaces}
+use Rattle.sheet.specs.Editions.{objectIsZeros, noObject}
 use Rattle.sheet.specs.Codes.{clampCode, clampMode, reduceCode, reduceMode, combineCode, combineOf, memoryLayoutCode, memoryLayout, flagCode, none, objectCode, objectOf, viewingCode, viewingOf}
 use Rattle.sheet_ranges.specs.Steps.{objectOk, viewingOk}
 use Rattle.sheet.specs.declared.ClampMode.{ClampMode}
@@ -20,7 +21,7 @@ use Rattle.sheet.specs.declared.Combine.the-variants.{Add, Min, Max, And, Or, X
 use Rattle.sheet.specs.declared.MemoryLayout.{MemoryLayout}
 use Rattle.sheet.specs.declared.MemoryLayout.the-variants.{RowMajor, ColumnMajor}
 use Rattle.sheet.specs.declared.Object.{Object}
-use Rattle.sheet.specs.declared.Object.the-variants.{Kept, Register}
+use Rattle.sheet.specs.declared.Object.the-variants.{Kept, Zeros, Register}
 use Rattle.sheet.specs.declared.Viewing.{Viewing}
 use Rattle.sheet.specs.declared.Viewing.the-variants.{Plain, Through}
 
@@ -123,18 +124,26 @@ unfolding flagCode pick
 flag-code-of x h = one-of (λ (x : ℕ). flagCode (eqb x 1) ≡ x) 0 2 (refl, (refl, tt)) x (omega arith) (omega arith)
 
 -- no register and no view has the number that stands for none
-pub object-of : (o : Object) → objectOk o ≡ true → objectOf (objectCode o) ≡ o
-unfolding objectOf pick
-object-of Kept e = refl
-object-of (Register register) e = rw (ne-eqb register none (λ q. omega (arith, ltb-true register 4 e)))
+module _ (edition : ℕ) where
+  pub object-of : (o : Object) → objectOk edition o ≡ true → objectOf (noObject edition) (objectCode o) ≡ o
+  unfolding objectOf noObject pick
+  object-of Kept e = rw (not-true (objectIsZeros edition) e)
+  object-of Zeros e = rw e
+  object-of (Register register) e = rw (ne-eqb register none (λ q. omega (arith, ltb-true register 4 e)))
 
-pub object-code-small : (o : Object) → objectOk o ≡ true → objectCode o < 256
-object-code-small Kept e = omega arith
-object-code-small (Register register) e = omega (arith, ltb-true register 4 e)
+  pub object-code-small : (o : Object) → objectOk edition o ≡ true → objectCode o < 256
+  object-code-small Kept e = omega arith
+  object-code-small Zeros e = omega arith
+  object-code-small (Register register) e = omega (arith, ltb-true register 4 e)
 
-pub object-code-of : (x : ℕ) → objectCode (objectOf x) ≡ x
-unfolding objectOf pick
-object-code-of x = by-place x none (λ q. rw q) (λ q. rw (ne-eqb x none q))
+  -- what no object means is written as none
+  no-object-code : objectCode (noObject edition) ≡ none
+  unfolding noObject
+  no-object-code = pick-case (λ (o : Object). objectCode o ≡ none) (objectIsZeros edition) Zeros Kept (λ q. refl) (λ q. refl)
+
+  pub object-code-of : (x : ℕ) → objectCode (objectOf (noObject edition) x) ≡ x
+  unfolding objectOf pick
+  object-code-of x = by-place x none (λ q. rw q no-object-code) (λ q. rw (ne-eqb x none q))
 
 module _ (views : ℕ) (few : views ≤ viewPlaces) where
   pub viewing-of : (v : Viewing) → viewingOk views v ≡ true → viewingOf (viewingCode v) ≡ v

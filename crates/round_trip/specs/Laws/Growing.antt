@@ -154,9 +154,9 @@ module _ (s : List ℕ) (at : ℕ) (sh : Sheet) (g : GrownFrom s at sh) (inside 
         stands = stands-more s at sh sh′ viewTag (viewBytes v) g more long t (has-view s (at + 3) len (taken .head));
       }
 
-  step-from : (taken : StepTaken s (at + 3) (lengthAt s at) (givenOf sh) (tagAt s at)) → fillTag ≤ tagAt s at → tagAt s at ≤ lastStepTag → GrownFrom s (nextAt s at) (withStep sh (stepAt s (tagAt s at) (at + 3)))
+  step-from : (taken : StepTaken s (at + 3) (lengthAt s at) (givenOf sh) (tagAt s at)) → fillTag ≤ tagAt s at → tagAt s at ≤ lastStepTag → GrownFrom s (nextAt s at) (withStep sh (stepAt (sh .edition) s (tagAt s at) (at + 3)))
   step-from taken low high =
-      let st = stepAt s (tagAt s at) (at + 3) in
+      let st = stepAt (sh .edition) s (tagAt s at) (at + 3) in
       let sh′ = withStep sh st in
       let may = taken .may in
       let c : Cell = record { step = st } in

@@ -77,9 +77,9 @@ module _ (s t : List ℕ) (bs : AreBytes s) (bt : AreBytes t) (same : (i : ℕ) 
     unfolding windowAt
     window-same q h = rw (same q (omega arith), same (q + 1) (omega arith), u32-same (q + 2) (omega arith))
 
-    step-at-same : (tag : ℕ) → stepAt s tag p ≡ stepAt t tag p
+    step-at-same : (edition tag : ℕ) → stepAt edition s tag p ≡ stepAt edition t tag p
     unfolding stepAt fillAt loadAt storeAt reduceAt transposeAt multiplyAt vectorAt vectorNumbers
-    step-at-same tag =
+    step-at-same n tag =
         rw (
           same p (omega arith),
           same (p + 1) (omega arith),
@@ -122,7 +122,7 @@ module _ (s t : List ℕ) (bs : AreBytes s) (bt : AreBytes t) (same : (i : ℕ) 
 
       step-same : (tag : ℕ) → stepRefusal s tag p len g ≡ stepRefusal t tag p len g
       unfolding stepRefusal
-      step-same tag = rw (step-at-same tag)
+      step-same tag = rw (step-at-same (g .edition) tag)
 
       judged-same : (tag : ℕ) → fieldRefusal s tag p len g ≡ fieldRefusal t tag p len g
       unfolding fieldRefusal
@@ -136,7 +136,7 @@ module _ (s t : List ℕ) (bs : AreBytes s) (bt : AreBytes t) (same : (i : ℕ) 
     part-same sh tag (view e k) = sym (with-view s tag p sh e refl refl) ∙ with-view t tag p sh e (view-at-same (k .head)) refl
     part-same sh tag (step e f k) =
         sym (with-step s tag p sh (λ z. omega arith) (λ z. omega arith) (λ z. omega arith) refl)
-        ∙ with-step t tag p sh (λ z. omega arith) (λ z. omega arith) (λ z. omega arith) (step-at-same tag)
+        ∙ with-step t tag p sh (λ z. omega arith) (λ z. omega arith) (λ z. omega arith) (step-at-same (sh .edition) tag)
 
     field-same : (at : ℕ) (sh : Sheet) (tag : ℕ) (next : Cursor) → turnField s at sh (Whole tag p len next) ≡ turnField t at sh (Whole tag p len next)
     unfolding turnField

@@ -13,7 +13,7 @@ use Rattle.numbers.specs.Laws.Choice.{pick-case, both-left, both-right, between
 use Rattle.numbers.specs.Bytes.{AreBytes}
 use Rattle.numbers.specs.Little.{u16Bytes, u32Bytes}
 use Rattle.sheet.specs.Sizes.{viewPlaces}
-use Rattle.sheet.specs.Editions.{hasVectors, tagKnown, fillLength}
+use Rattle.sheet.specs.Editions.{hasVectors, noObject, tagKnown, fillLength}
 use Rattle.sheet.specs.Codes.{editionTag, layoutTag, viewTag, fillTag, loadTag, storeTag, reduceTag, transposeTag, multiplyTag, vectorTag, lastStepTag, reduceMode, reduceCode, combineOf, combineCode, memoryLayout, memoryLayoutCode, flagCode, objectOf, viewingOf}
 use Rattle.sheet_ranges.specs.Steps.{windowOk, loadOk, storeOk, vectorOk, wholeOk, stepOk, stepUnused}
 use Rattle.sheet.specs.declared.Window.{Window}
@@ -80,7 +80,7 @@ module _ (s : List ℕ) (p : ℕ) where
       let b = flag-code-small (v .biased) in
       rw (m .0, m .1 .1 .1 .1 .1 .1 .1 .0, le-leb (memoryLayoutCode (v .layout)) 1 l, le-leb (flagCode (v .biased)) 1 b, numbers-of v h)
 
-  whole-of : (edition : ℕ) (w : WholeStep) → Has s p 0 (wholeBytes edition w) → stepAt s (wholeTag w) p ≡ Whole w
+  whole-of : (edition : ℕ) (w : WholeStep) → Has s p 0 (wholeBytes edition w) → stepAt edition s (wholeTag w) p ≡ Whole w
   unfolding stepAt fillAt transposeAt multiplyAt pick
   whole-of edition (Fill register rows columns kind value) h =
       let a : getD s p 0 ≡ register = rw add-zero at (h .0) in
@@ -103,12 +103,14 @@ module _ (s : List ℕ) (p : ℕ) where
   whole-of edition (Vector v) h = vector-of v h
 
 module _ (s : List ℕ) (p edition layouts views : ℕ) (few : views ≤ viewPlaces) where
-  pub step-of : (st : Step) → stepOk edition layouts views st ≡ true → Has s p 0 (stepBytes edition st) → stepAt s (stepTag st) p ≡ st
+  pub step-of : (st : Step) → stepOk edition layouts views st ≡ true → Has s p 0 (stepBytes edition st) → stepAt edition s (stepTag st) p ≡ st
   unfolding stepAt loadAt storeAt loadOk storeOk pick
   step-of Nothing e h = absurd (true≢false (sym e))
   step-of (Load register object window) e h =
       let a : getD s p 0 ≡ register = rw add-zero at (h .0) in
-      let o : objectOf (getD s (p + 1) 0) ≡ object = ap objectOf (h .1 .0) ∙ object-of object (both-left _ _ (both-right _ _ e)) in
+      let o : objectOf (noObject edition) (getD s (p + 1) 0) ≡ object =
+          ap (objectOf (noObject edition)) (h .1 .0) ∙ object-of edition object (both-left _ _ (both-right _ _ e))
+      in
       let w = window-of s (p + 2) layouts views few window (both-right _ _ (both-right _ _ e)) (has-shift s p 2 0 (windowBytes window) (h .1 .1)) in
       λ i. Load (a i) (o i) (w i)
   step-of (Store register window) e h =
@@ -223,7 +225,7 @@ vector-fits s p b = record { stride = u16-below s b (p + 8); offset = u32-below 
 
 module _ (s : List ℕ) (p edition layouts views : ℕ) where
   abbrev Reads : ℕ → Type 0
-  Reads tag = stepOk edition layouts views (stepAt s tag p) ≡ true → StepRead s p edition tag (stepAt s tag p)
+  Reads tag = stepOk edition layouts views (stepAt edition s tag p) ≡ true → StepRead s p edition tag (stepAt edition s tag p)
 
   fill-read : Reads fillTag
   unfolding stepAt fillAt stepLength fillLength pick
@@ -235,7 +237,7 @@ module _ (s : List ℕ) (p edition layouts views : ℕ) where
       record {
         tagged = refl;
         long = refl;
-        stands = λ b. (at-start s p, (sym (object-code-of (getD s (p + 1) 0)), has-back s p 2 0 (windowBytes (windowAt s (p + 2))) (has-window s (p + 2) b)));
+        stands = λ b. (at-start s p, (sym (object-code-of edition (getD s (p + 1) 0)), has-back s p 2 0 (windowBytes (windowAt s (p + 2))) (has-window s (p + 2) b)));
         fits = window-fits s (p + 2);
       }
 

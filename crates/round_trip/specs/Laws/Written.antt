@@ -202,7 +202,7 @@ module _ (edition layouts views : ℕ) (fl : layouts ≤ layoutPlaces) (fv : vie
   below-step Nothing e f = absurd (true≢false (sym e))
   below-step (Load register object window) e f =
       let e1 = both-right _ _ e in
-      (register-below register (both-left _ _ e), (object-code-small object (both-left _ _ e1), below-window window (both-right _ _ e1) f))
+      (register-below register (both-left _ _ e), (object-code-small edition object (both-left _ _ e1), below-window window (both-right _ _ e1) f))
   below-step (Store register window) e f = (register-below register (both-left _ _ e), below-window window (both-right _ _ e) f)
   below-step (Whole whole) e f = below-whole edition whole e f
 

@@ -20,7 +20,7 @@ object-register-requires c κs = search needs
 
 the-type-requires : tie.Need-the-type-requires
 the-type-requires c κs =
-    rw (c .object-register .ensures) (load-object _ _ _ _ _ (rw (c .before .before .step .given .1) at (c .before .before .before .before .pre .0 .ok)))
+    rw (c .object-register .ensures) (load-object _ _ _ _ _ _ (rw (c .before .before .step .given .1) at (c .before .before .before .before .pre .0 .ok)))
 
 count-copy-requires : tie.Need-count-copy-requires
 count-copy-requires c κs = search needs

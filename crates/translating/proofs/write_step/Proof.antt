@@ -21,7 +21,7 @@ object-register-requires c κs = search needs
 
 the-type-requires : tie.Need-the-type-requires
 the-type-requires c κs =
-    rw (c .object-register .ensures) (load-object _ _ _ _ _ (rw (c .before .before .step .given .1) at (c .before .before .before .before .pre .0 .0 .ok)))
+    rw (c .object-register .ensures) (load-object _ _ _ _ _ _ (rw (c .before .before .step .given .1) at (c .before .before .before .before .pre .0 .0 .ok)))
 
 write-copy-requires : tie.Need-write-copy-requires
 write-copy-requires c κs =
@@ -29,7 +29,7 @@ write-copy-requires c κs =
     let a = s .args in
     let g = c .before .before .before .before .step .given in
     let ok = rw (g .1) at (s .pre .0 .0 .ok) in
-    (load-register _ _ _ _ _ ok, load-object-ok _ _ _ _ _ ok, copy-room (a .tensors) (a .types) (a .memory) (a .k) (g .0 .0) (g .0 .1 .1 .0) (g .0 .1 .0) (now (a .tape)) (a .at) (rw (g .1) at (s .pre .1 .1)))
+    (load-register _ _ _ _ _ _ ok, load-object-ok _ _ _ _ _ ok, copy-room (a .tensors) (a .types) (a .memory) (a .k) (g .0 .0) (g .0 .1 .1 .0) (g .0 .1 .0) (now (a .tape)) (a .at) (rw (g .1) at (s .pre .1 .1)))
 
 write-window-requires : tie.Need-write-window-requires
 write-window-requires c κs =
@@ -41,7 +41,7 @@ write-window-requires c κs =
     rw (d .the-type .ensures, d .before .object-register .ensures) (
       (load-clear (rw (g .1) at (s .pre .0 .0)), s .pre .0 .1),
       (
-        load-register _ _ _ _ _ (rw (g .1) at (s .pre .0 .0 .ok)),
+        load-register _ _ _ _ _ _ (rw (g .1) at (s .pre .0 .0 .ok)),
         runs-room (a .tensors) (a .types) (a .memory) (a .k) (g .0 .0) (g .0 .1 .1 .0) (g .0 .1 .0) (now (a .tape)) (a .at) (rw (g .1) at (s .pre .1 .1)) (w .last .0) (w .kept .0) (w .ensures .next),
       ),
     )

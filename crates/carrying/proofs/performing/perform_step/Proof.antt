@@ -18,7 +18,7 @@ enum-known-step : tie.Need-enum-known-step
 enum-known-step c = search needs
 
 with-object-requires : tie.Need-with-object-requires
-with-object-requires c κs = let ok = rw (c .before .before .step .given .1) at (c .before .before .before .before .before .pre .1 .1) in (load-register _ _ _ _ _ ok, load-object-ok _ _ _ _ _ ok)
+with-object-requires c κs = let ok = rw (c .before .before .step .given .1) at (c .before .before .before .before .before .pre .1 .1) in (load-register _ _ _ _ _ _ ok, load-object-ok _ _ _ _ _ ok)
 
 perform-load-requires : tie.Need-perform-load-requires
 perform-load-requires c κs =
@@ -26,12 +26,12 @@ perform-load-requires c κs =
     let g = c .before .before .before .before .before .before .step .given in
     let q = s .pre .0 in
     let ok = rw (g .1) at (s .pre .1 .1) in
-    let n = load-register _ _ _ _ _ ok in
+    let n = load-register _ _ _ _ _ _ ok in
     let m = machineOf (s .args .types) (state (now (s .args .elements)) (now (s .args .memory)) (s .args .counts)) in
     let w = ap (λ (r : Registers). r .types) (c .before .before .before .with-object .ensures) in
     rw w (
       (q .0, given-sized (s .pre .1 .0) (s .args .tensors) m (g .0 .0) (g .0 .1 .1 .0) (q .4) (g .0 .1 .0), n, q .1, q .2),
-      (load-clear (s .pre .1 .0) (s .args .tensors) m (g .0 .0) (g .0 .1 .1 .0) (q .4) n (g .0 .1 .0) (rw (g .1) at (s .pre .1 .2)), (load-window _ _ _ _ _ ok, q .3)),
+      (load-clear (s .pre .1 .0) (s .args .tensors) m (g .0 .0) (g .0 .1 .1 .0) (q .4) n (g .0 .1 .0) (rw (g .1) at (s .pre .1 .2)), (load-window _ _ _ _ _ _ ok, q .3)),
     )
 
 enum-known-step-2 : tie.Need-enum-known-step-2

@@ -19,15 +19,15 @@ object-register-requires : tie.Need-object-register-requires
 object-register-requires c κs = search needs
 
 the-type-requires : tie.Need-the-type-requires
-the-type-requires c κs = rw (c .object-register .ensures) (load-object _ _ _ _ _ (rw (c .before .before .step .given .1) at (c .before .before .before .before .pre .3)))
+the-type-requires c κs = rw (c .object-register .ensures) (load-object _ _ _ _ _ _ (rw (c .before .before .step .given .1) at (c .before .before .before .before .pre .3)))
 
 with-type-requires : tie.Need-with-type-requires
-with-type-requires c κs = load-register _ _ _ _ _ (rw (c .before .before .before .step .given .1) at (c .before .before .before .before .before .pre .3))
+with-type-requires c κs = load-register _ _ _ _ _ _ (rw (c .before .before .before .step .given .1) at (c .before .before .before .before .before .pre .3))
 
 check-window-requires : tie.Need-check-window-requires
 check-window-requires c κs =
     let s = c .before .before .before .before .before .before .before .before in
-    ((s .pre .0, load-window _ _ _ _ _ (rw (c .before .before .before .before .before .before .step .given .1) at (s .pre .3)), s .pre .1), (rw (c .before .before .before .the-type .ensures) (s .pre .2 .each (c .before .before .before .before .object-register .result)), s .pre .4))
+    ((s .pre .0, load-window _ _ _ _ _ _ (rw (c .before .before .before .before .before .before .step .given .1) at (s .pre .3)), s .pre .1), (rw (c .before .before .before .the-type .ensures) (s .pre .2 .each (c .before .before .before .before .object-register .result)), s .pre .4))
 
 enum-known-step-2 : tie.Need-enum-known-step-2
 enum-known-step-2 c = search needs

@@ -15,10 +15,10 @@ object-register-requires : tie.Need-object-register-requires
 object-register-requires c κs = search needs
 
 the-type-requires : tie.Need-the-type-requires
-the-type-requires c κs = rw (c .object-register .ensures) (load-object _ _ _ _ _ (rw (c .before .before .step .given .1) at (c .before .before .before .before .pre .3)))
+the-type-requires c κs = rw (c .object-register .ensures) (load-object _ _ _ _ _ _ (rw (c .before .before .step .given .1) at (c .before .before .before .before .pre .3)))
 
 with-type-requires : tie.Need-with-type-requires
-with-type-requires c κs = load-register _ _ _ _ _ (rw (c .before .before .before .step .given .1) at (c .before .before .before .before .before .pre .3))
+with-type-requires c κs = load-register _ _ _ _ _ _ (rw (c .before .before .before .step .given .1) at (c .before .before .before .before .before .pre .3))
 
 enum-told-2 : tie.Need-enum-told-2
 enum-told-2 c = search needs
