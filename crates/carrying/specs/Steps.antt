@@ -4,14 +4,14 @@ use mathlib.Core.List.{List}
 use mathlib.Core.Bool.{true, false}
 use lib.ListN.{length}
 use Rattle.sheet.specs.declared.Object.{Object}
-use Rattle.sheet.specs.declared.Object.the-variants.{Kept, Register}
+use Rattle.sheet.specs.declared.Object.the-variants.{Kept, Zeros, Register}
 use Rattle.sheet.specs.declared.Window.{Window}
 use Rattle.sheet.specs.declared.Tensors.{Tensors}
 use Rattle.sheet.specs.declared.Step.{Step}
 use Rattle.sheet.specs.declared.Step.the-variants.{Nothing, Load, Store, Whole}
 use Rattle.sheet.specs.declared.WholeStep.{WholeStep}
 use Rattle.registers.specs.Types.{theType}
-use Rattle.registers.specs.Registers.{copied}
+use Rattle.registers.specs.Registers.{copied, zeroed}
 use Rattle.registers.specs.declared.MatrixType.{MatrixType}
 use Rattle.registers.specs.declared.Registers.{Registers}
 use Rattle.whole_steps.specs.Whole.{wholeDone}
@@ -39,9 +39,10 @@ registersOf types elements = record { types = types; elements = elements }
 abbrev pub machineOf : List MatrixType → State → Machine
 machineOf types s = machine (registersOf types (s .elements)) (s .memory) (s .counts)
 
--- a load first gives its register the object, type and elements
+-- a load first gives its register the object, type and elements; zeros have the register's own type
 unfoldable pub withObject : ℕ → Object → Registers → Registers
 withObject register Kept g = g
+withObject register Zeros g = zeroed g register
 withObject register (Register object) g = copied g register object
 
 abbrev pub objectDone : ℕ → Object → Machine → Machine

@@ -4,10 +4,12 @@ ghost use mathlib.Core.Bool.{true};
 ghost use Prim.Native.Nat.{ℕ, _≤_, _<_, _^_};
 ghost use lib.ListN.{length};
 ghost use Rattle.sheet.specs.Sizes.{registerCount, matrixPlaces, memoryLimit};
-ghost use Rattle.sheet_ranges.specs.Steps.{objectOk, stepOk};
+ghost use Rattle.sheet_ranges.specs.Steps.{stepOk};
 ghost use Rattle.sheet_ranges.specs.Laws.Within.{TensorsWithin, Within};
-ghost use Rattle.registers.specs.Registers.{copied};
+ghost use Rattle.registers.specs.Registers.{copied, zeroed};
+ghost use Rattle.registers.specs.Sized.{Sized};
 ghost use Rattle.transfers.specs.Acts.{state};
+ghost use Rattle.checking.specs.Steps.{objectRegister};
 ghost use Rattle.checking.specs.Checking.{checked};
 ghost use Rattle.carrying.specs.Steps.{machine, registersOf, machineOf, withObject, performedStep};
 ghost use Rattle.carrying.specs.Carrying.{started, performed};
@@ -41,6 +43,21 @@ fn copy_register(
     registers::with_type(types, register, t)
 }
 
+// A register made zeros of its own type. The answer is the types.
+fn zero_register(
+    types: [MatrixType; REGISTERS],
+    elements: &mut [u32; ELEMENTS],
+    register: u8,
+) -> [MatrixType; REGISTERS]
+    requires { ⌜ (register < registerCount) × Sized types ⌝ }
+    ensures { λ r. ⌜ registersOf r (now (elements .exit)) ≡ zeroed (registersOf types (now (elements .entry))) register ⌝ }
+{
+    let t = registers::the_type(types, register);
+    let count = registers::element_count(t);
+    registers::fill_elements(elements, register, 0, count, 0);
+    types
+}
+
 // A load first gives its register the object. The answer is the types.
 fn with_object(
     types: [MatrixType; REGISTERS],
@@ -48,11 +65,12 @@ fn with_object(
     register: u8,
     object: Object,
 ) -> [MatrixType; REGISTERS]
-    requires { ⌜ (register < registerCount) × (objectOk object ≡ true) ⌝ }
+    requires { ⌜ (register < registerCount) × (objectRegister register object < registerCount) × Sized types ⌝ }
     ensures { λ r. ⌜ registersOf r (now (elements .exit)) ≡ withObject register object (registersOf types (now (elements .entry))) ⌝ }
 {
     match object {
         Object::Kept => types,
+        Object::Zeros => zero_register(types, elements, register),
         Object::Register(r) => copy_register(types, elements, register, r),
     }
 }

@@ -2,7 +2,7 @@
 use mathlib.Core.Path.{_≡_, refl, _∙_}
 use mathlib.Core.Bool.{true, false}
 use mathlib.Core.List.{List}
-use Prim.Native.Nat.{ℕ, zero, suc, _+_, _<_, _≤_}
+use Prim.Native.Nat.{ℕ, zero, suc, _+_, _*_, _<_, _≤_}
 use native.Mathlib.Nat.{le-refl}
 use native.Mathlib.Omega.{arith}
 use lib.ListN.{length}
@@ -12,15 +12,15 @@ use Rattle.sheet.specs.Sizes.{registerCount, matrixPlaces}
 use Rattle.sheet_ranges.specs.Steps.{theStep, stepOk}
 use Rattle.sheet_ranges.specs.Laws.Within.{Within}
 use Rattle.sheet.specs.declared.Object.{Object}
-use Rattle.sheet.specs.declared.Object.the-variants.{Kept, Register}
+use Rattle.sheet.specs.declared.Object.the-variants.{Kept, Zeros, Register}
 use Rattle.sheet.specs.declared.Tensors.{Tensors}
 use Rattle.sheet.specs.declared.Sheet.{Sheet}
 use Rattle.sheet.specs.declared.Step.{Step}
 use Rattle.sheet.specs.declared.Step.the-variants.{Nothing, Load, Store, Whole}
 use Rattle.sheet.specs.declared.WholeStep.{WholeStep}
 use Rattle.registers.specs.Types.{theType}
-use Rattle.registers.specs.Registers.{placeOf, elementOf, copied}
-use Rattle.registers.specs.Laws.Fits.{fit-empty, fit-copied}
+use Rattle.registers.specs.Registers.{placeOf, elementOf, copied, zeroed}
+use Rattle.registers.specs.Laws.Fits.{fit-empty, fit-zeroed, fit-copied}
 use Rattle.whole_steps.specs.Refusals.{wholeRefusal}
 use Rattle.whole_steps.specs.Whole.{wholeResult}
 use Rattle.whole_steps.specs.Within.{WholeOk}
@@ -54,9 +54,20 @@ module _ (m : Machine) (w : Formed m) (f : FitMachine m) where
         bytes = f .bytes;
       }
 
+  -- a register made zeros
+  pub zeroed-fits : (register : ℕ) → register < registerCount → FitMachine (machine (zeroed (m .registers) register) (m .memory) (m .counts))
+  zeroed-fits register l =
+      let t = theType (m .registers .types) register in
+      record {
+        places = length-line (m .registers .elements) (placeOf register 0) (λ (e : ℕ). 0) (t .rows * t .columns) ∙ f .places;
+        fit = fit-zeroed (m .registers) register (w .sized) l (w .places) (f .fit);
+        bytes = f .bytes;
+      }
+
   object-fits : (register : ℕ) (object : Object) → objectRegister register object < registerCount → FitMachine (objectDone register object m)
   unfolding withObject
   object-fits register Kept l = f
+  object-fits register Zeros l = zeroed-fits register l
   object-fits register (Register object) l = copied-fits register object l
 
   -- a whole step

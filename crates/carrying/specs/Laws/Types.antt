@@ -2,7 +2,7 @@
 use mathlib.Core.Path.{_≡_, refl, sym, ap, _∙_}
 use mathlib.Core.Bool.{true}
 use mathlib.Core.List.{List}
-use Prim.Native.Nat.{ℕ, zero, suc, _+_, _<_, _≤_}
+use Prim.Native.Nat.{ℕ, zero, suc, _+_, _*_, _<_, _≤_}
 use native.Mathlib.Nat.{zero-add, add-zero, not-suc-le-zero}
 use native.Mathlib.Omega.{arith}
 use lib.ListN.{length, length-replicate}
@@ -11,7 +11,7 @@ use Rattle.numbers.specs.Laws.Lists.{length-line}
 use Rattle.sheet_ranges.specs.Steps.{theStep, stepOk}
 use Rattle.sheet.specs.Sizes.{registerCount, matrixPlaces, elementPlaces}
 use Rattle.sheet.specs.declared.Object.{Object}
-use Rattle.sheet.specs.declared.Object.the-variants.{Kept, Register}
+use Rattle.sheet.specs.declared.Object.the-variants.{Kept, Zeros, Register}
 use Rattle.sheet.specs.declared.Tensors.{Tensors}
 use Rattle.sheet.specs.declared.Sheet.{Sheet}
 use Rattle.sheet.specs.declared.Step.{Step}
@@ -39,11 +39,15 @@ module _ (register : ℕ) where
   with-types : (object : Object) (g : Registers) → withObject register object g .types ≡ withType (g .types) register (theType (g .types) (objectRegister register object))
   unfolding withObject
   with-types Kept g = sym (set-getD (g .types) register noType)
+  with-types Zeros g = sym (set-getD (g .types) register noType)
   with-types (Register object) g = refl
 
   with-places : (object : Object) (g : Registers) → length (withObject register object g .elements) ≡ length (g .elements)
   unfolding withObject
   with-places Kept g = refl
+  with-places Zeros g =
+      let t = theType (g .types) register in
+      length-line (g .elements) (placeOf register 0) (λ (e : ℕ). 0) (t .rows * t .columns)
   with-places (Register object) g = length-line (g .elements) (placeOf register 0) (elementOf (g .elements) object) matrixPlaces
 
 module _ (register : ℕ) (object : Object) (m : Machine) where

@@ -2,9 +2,10 @@
 use mathlib.Core.Path.{_≡_, refl, _∙_}
 use mathlib.Core.List.{List}
 use Prim.Native.Nat.{ℕ, zero, suc, _+_, _*_, _/_, _%_, _^_, _<_, _≤_}
-use native.Mathlib.Nat.{not-suc-le-zero}
+use native.Mathlib.Nat.{le-refl, not-suc-le-zero}
 use native.Mathlib.Omega.{arith}
 use lib.ListN.{length, getD, replicate}
+use lib.Pow.{pow-pos}
 use lib.Seq.{getD-set-same, getD-set-other}
 use Rattle.numbers.specs.Lists.{line}
 use Rattle.numbers.specs.Laws.Choice.{by-place}
@@ -13,7 +14,7 @@ use Rattle.numbers.specs.Laws.Places.{none-all}
 use Rattle.kinds.specs.Widths.{width}
 use Rattle.sheet.specs.Sizes.{registerCount, matrixPlaces, elementPlaces}
 use Rattle.registers.specs.Types.{noType, theType, withType}
-use Rattle.registers.specs.Registers.{placeOf, elementOf, withElementOf, withBlock, copiedElements, filledElements, emptyRegisters}
+use Rattle.registers.specs.Registers.{placeOf, elementOf, withElementOf, withBlock, copiedElements, filledElements, zeroed, emptyRegisters}
 use Rattle.registers.specs.Grids.{numbered, block}
 use Rattle.registers.specs.Sized.{SizedType, Sized}
 use Rattle.registers.specs.Fits.{FitMatrix, Fit}
@@ -21,6 +22,7 @@ use Rattle.registers.specs.Laws.Registers.{own-places, others-kept}
 use Rattle.registers.specs.Laws.Sized.{sized-places}
 use Rattle.registers.specs.Laws.Grids.{number-row, number-column, blank-given, blank-past}
 use Rattle.registers.specs.declared.MatrixType.{MatrixType}
+use Rattle.registers.specs.declared.Registers.{Registers}
 
 -- equal places fit alike
 fit-same : (t : MatrixType) (g h : ℕ → ℕ) → SizedType t → ((e : ℕ) → e < matrixPlaces → g e ≡ h e) → FitMatrix t h → FitMatrix t g
@@ -90,16 +92,23 @@ module _ (ts : List MatrixType) (es : List ℕ) (r e x : ℕ) (z : Sized ts) (at
   fit-put = record { each = λ k m. record { inside = put-inside k m; past = put-past k m } }
 
 -- elements of a register's matrix filled
-pub fit-filled : (ts : List MatrixType) (es : List ℕ) (r n x : ℕ) → Sized ts → r < registerCount → length es ≡ elementPlaces
+fit-filled : (ts : List MatrixType) (es : List ℕ) (r n x : ℕ) → Sized ts → r < registerCount → length es ≡ elementPlaces
     → n ≤ theType ts r .rows * theType ts r .columns → x < 2 ^ width (theType ts r .kind) → Fit ts es → Fit ts (filledElements es r 0 n x)
 unfolding line
 fit-filled ts es r zero x z m q l h w = w
 fit-filled ts es r (suc n) x z m q l h w =
     let at : placeOf r n < length (filledElements es r 0 n x) =
-        omega (arith, length-line es (placeOf r 0) (λ (i : ℕ). x) n, sized-places (theType ts r) (z .each r))
+    omega (arith, length-line es (placeOf r 0) (λ (i : ℕ). x) n, sized-places (theType ts r) (z .each r))
     in
     let e : placeOf r 0 + n ≡ placeOf r n = omega arith in
     rw e (fit-put ts (filledElements es r 0 n x) r n x z at (omega arith) h (fit-filled ts es r n x z m q (omega arith) h w))
+
+-- a register made zeros
+pub fit-zeroed : (g : Registers) (r : ℕ) → Sized (g .types) → r < registerCount → length (g .elements) ≡ elementPlaces
+    → Fit (g .types) (g .elements) → Fit (g .types) (zeroed g r .elements)
+fit-zeroed g r z m q w =
+    let t = theType (g .types) r in
+    fit-filled (g .types) (g .elements) r (t .rows * t .columns) 0 z m q (le-refl _) (pow-pos (width (t .kind))) w
 
 -- a register made equal to another
 pub fit-copied : (ts : List MatrixType) (es : List ℕ) (r s : ℕ) → length ts ≡ registerCount → length es ≡ elementPlaces → s < registerCount

@@ -109,7 +109,7 @@ module _ (s : List ℕ) (p edition layouts views : ℕ) (few : views ≤ viewPla
   step-of (Load register object window) e h =
       let a : getD s p 0 ≡ register = rw add-zero at (h .0) in
       let o : objectOf (noObject edition) (getD s (p + 1) 0) ≡ object =
-          ap (objectOf (noObject edition)) (h .1 .0) ∙ object-of edition object (both-left _ _ (both-right _ _ e))
+      ap (objectOf (noObject edition)) (h .1 .0) ∙ object-of edition object (both-left _ _ (both-right _ _ e))
       in
       let w = window-of s (p + 2) layouts views few window (both-right _ _ (both-right _ _ e)) (has-shift s p 2 0 (windowBytes window) (h .1 .1)) in
       λ i. Load (a i) (o i) (w i)

@@ -4,7 +4,7 @@ use Rattle.registers.specs.declared.Registers.{Registers}
 use Rattle.transfers.specs.Acts.{state}
 use Rattle.whole_steps.specs.Laws.Within.{whole-ok}
 use Rattle.checking.specs.Steps.{checkedStep}
-use Rattle.checking.specs.Laws.Names.{load-register, load-window, load-object-ok, store-register, store-window}
+use Rattle.checking.specs.Laws.Names.{load-register, load-window, load-object, store-register, store-window}
 use Rattle.carrying.specs.Steps.{machine, machineOf, registersOf, performedStep, loadDone}
 use Rattle.carrying.specs.Laws.Loops.{given-sized, load-clear, store-clear}
 use borrow.Author.Needs.{needs}
@@ -18,7 +18,10 @@ enum-known-step : tie.Need-enum-known-step
 enum-known-step c = search needs
 
 with-object-requires : tie.Need-with-object-requires
-with-object-requires c κs = let ok = rw (c .before .before .step .given .1) at (c .before .before .before .before .before .pre .1 .1) in (load-register _ _ _ _ _ _ ok, load-object-ok _ _ _ _ _ ok)
+with-object-requires c κs =
+    let s = c .before .before .before .before .before in
+    let ok = rw (c .before .before .step .given .1) at (s .pre .1 .1) in
+    (load-register _ _ _ _ _ _ ok, load-object _ _ _ _ _ _ ok, s .pre .0 .4 .sized)
 
 perform-load-requires : tie.Need-perform-load-requires
 perform-load-requires c κs =
