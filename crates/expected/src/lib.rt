@@ -1,12 +1,12 @@
 // The trace that a sheet makes: an event for each element of its loads and stores.
 ghost use mathlib.Core.Path.{_≡_};
 ghost use mathlib.Core.Bool.{true};
-ghost use Prim.Native.Nat.{ℕ, _*_, _≤_, _<_};
+ghost use Prim.Native.Nat.{ℕ, _≤_, _<_};
 ghost use lib.ListN.{length};
 ghost use Rattle.sheet.specs.Sizes.{stepPlaces, matrixPlaces};
 ghost use Rattle.sheet_ranges.specs.Steps.{stepOk};
 ghost use Rattle.sheet.specs.declared.Tensors.{Tensors};
-ghost use Rattle.registers.specs.Sized.{Sized, SizedType};
+ghost use Rattle.registers.specs.Sized.{Sized};
 ghost use Rattle.accesses.specs.Entries.{Near};
 ghost use Rattle.accepted.specs.Accepted.{ClearStep};
 ghost use Rattle.expected.specs.Expected.{sortOf, byteOf, eventOf, stepEvents};
@@ -99,13 +99,6 @@ pub fn survey_step(
     }
 }
 
-fn elements_of(t: MatrixType) -> usize
-    requires { ⌜ SizedType t ⌝ }
-    ensures { λ r. ⌜ (r ≡ t .rows * t .columns) × (r ≤ matrixPlaces) ⌝ }
-{
-    (t.rows as usize) * (t.columns as usize)
-}
-
 // How many events a step has, whatever the memory.
 pub fn count_events(types: [MatrixType; REGISTERS], step: Step) -> usize
     requires { ⌜ Sized types × ((edition layouts views : ℕ) × (stepOk edition layouts views step ≡ true)) ⌝ }
@@ -117,11 +110,11 @@ pub fn count_events(types: [MatrixType; REGISTERS], step: Step) -> usize
             register,
             object,
             window: _,
-        } => elements_of(registers::the_type(types, checks::object_register(register, object))),
+        } => registers::element_count(registers::the_type(types, checks::object_register(register, object))),
         Step::Store {
             register,
             window: _,
-        } => elements_of(registers::the_type(types, register)),
+        } => registers::element_count(registers::the_type(types, register)),
         Step::Whole(_) => 0,
     }
 }

@@ -75,23 +75,6 @@ fn put_elements(
     }
 }
 
-fn fill_elements(
-    elements: &mut [u32; ELEMENTS],
-    register: u8,
-    first: usize,
-    count: usize,
-    value: u32,
-)
-    requires { ⌜ (register < registerCount) × (first + count ≤ matrixPlaces) ⌝ }
-    ensures { λ _. ⌜ ((memory : List ℕ) (c : Counts) → state (now (elements .exit)) memory c ≡ inOrder (filling register first value) count (state (now (elements .entry)) memory c)) ⌝ }
-{
-    let mut i = 0;
-    while i < count {
-        registers::put_element_of(elements, register, first + i, value);
-        i += 1;
-    }
-}
-
 // A take, which changes elements alone.
 pub fn take(
     types: [MatrixType; REGISTERS],
@@ -165,5 +148,5 @@ pub fn fill(
     requires { ⌜ fillRecordOk (theType types register) first count value ≡ true ⌝ }
     ensures { λ _. ⌜ ((memory : List ℕ) (c : Counts) → machineOf types (state (now (elements .exit)) memory c) ≡ onElements register (λ (size : ℕ). filling register first value) count (machineOf types (state (now (elements .entry)) memory c))) ⌝ }
 {
-    fill_elements(elements, register, first, count, value);
+    registers::fill_elements(elements, register, first, count, value);
 }

@@ -12,7 +12,7 @@ use Rattle.numbers.specs.Choice.{pick}
 use Rattle.refusals.specs.Refusals.{tapeTooLong, refusalAt, notRefused}
 use Rattle.sheet.specs.Sizes.{matrixPlaces}
 use Rattle.sheet.specs.declared.Object.{Object}
-use Rattle.sheet.specs.declared.Object.the-variants.{Kept, Register}
+use Rattle.sheet.specs.declared.Object.the-variants.{Kept, Zeros, Register}
 use Rattle.sheet.specs.declared.Window.{Window}
 use Rattle.sheet.specs.declared.Tensors.{Tensors}
 use Rattle.sheet.specs.declared.Sheet.{Sheet}
@@ -37,16 +37,17 @@ use Rattle.runs.specs.Laws.Writing.{count-records}
 use Rattle.access_tapes.specs.Accesses.{accessRecords}
 use Rattle.access_tapes.specs.Writing.{Room}
 use Rattle.access_tapes.specs.Laws.Few.{access-few}
-use Rattle.translating.specs.Tapes.{copyRecords, stepRecords, tapeOf}
+use Rattle.translating.specs.Tapes.{objectRecords, stepRecords, tapeOf}
 use Rattle.translating.specs.Translating.{translateAnswer, fitsRoom, translated, translatedRoom}
 
 -- ---- the records of a step
 
-pub copy-few : (register : ℕ) (object : Object) → length (copyRecords register object) ≤ 1
-copy-few register Kept = omega arith
-copy-few register (Register object) = omega arith
+pub object-few : (register : ℕ) (object : Object) (t : MatrixType) → length (objectRecords register object t) ≤ 1
+object-few register Kept t = omega arith
+object-few register Zeros t = omega arith
+object-few register (Register object) t = omega arith
 
--- the most records of a step: a copy, and a run for each element
+-- the most records of a step: its object's, and a run for each element
 abbrev pub recordsMost : ℕ
 recordsMost = matrixPlaces + 2
 
@@ -56,8 +57,8 @@ step-few tensors ts len k Nothing s = omega arith
 step-few tensors ts len k (Load register object window) s =
     let t = theType ts (objectRegister register object) in
     let a = accessOf tensors true window t len in
-    rw (length-append (copyRecords register object) (accessRecords a register))
-    (omega (arith, copy-few register object, access-few a register, sized-places t (s .each (objectRegister register object))))
+    rw (length-append (objectRecords register object t) (accessRecords a register))
+    (omega (arith, object-few register object t, access-few a register, sized-places t (s .each (objectRegister register object))))
 step-few tensors ts len k (Store register window) s =
     let t = theType ts register in
     omega (arith, access-few (accessOf tensors false window t len) register, sized-places t (s .each register))
@@ -83,27 +84,30 @@ module _ (tensors : Tensors) (ts : List MatrixType) (len k register : ℕ) (wind
       e ∙ sym (count-records false register (outcomeOf a) (elementsOf a)) ∙ sym (ap length store-records)
 
   module _ (object : Object) where
-    abbrev loadAccess : Access
-    loadAccess = accessOf tensors true window (theType ts (objectRegister register object)) len
+    abbrev objectType : MatrixType
+    objectType = theType ts (objectRegister register object)
 
-    pub load-records : stepRecords tensors ts len k (Load register object window) ≡ copyRecords register object ++ accessRecords loadAccess register
+    abbrev loadAccess : Access
+    loadAccess = accessOf tensors true window objectType len
+
+    pub load-records : stepRecords tensors ts len k (Load register object window) ≡ objectRecords register object objectType ++ accessRecords loadAccess register
     unfolding stepRecords
     load-records = refl
 
-    load-length : length (stepRecords tensors ts len k (Load register object window)) ≡ length (copyRecords register object) + length (accessRecords loadAccess register)
-    load-length = ap length load-records ∙ length-append (copyRecords register object) (accessRecords loadAccess register)
+    load-length : length (stepRecords tensors ts len k (Load register object window)) ≡ length (objectRecords register object objectType) + length (accessRecords loadAccess register)
+    load-length = ap length load-records ∙ length-append (objectRecords register object objectType) (accessRecords loadAccess register)
 
-    pub load-count : {copies n : ℕ} → copies ≡ length (copyRecords register object) → n ≡ length (runs (outcomeOf loadAccess) (elementsOf loadAccess))
-        → copies + n ≡ length (stepRecords tensors ts len k (Load register object window))
+    pub load-count : {before n : ℕ} → before ≡ length (objectRecords register object objectType) → n ≡ length (runs (outcomeOf loadAccess) (elementsOf loadAccess))
+        → before + n ≡ length (stepRecords tensors ts len k (Load register object window))
     load-count e f = omega (arith, e, f, load-length, count-records true register (outcomeOf loadAccess) (elementsOf loadAccess))
 
-    -- the room for a load's records is room for its copy, and then for its runs
+    -- the room for a load's records is room for its object's, and then for its runs
     module _ (tape : List ℤ) (at : ℕ) (room : Room tape at (stepRecords tensors ts len k (Load register object window))) where
-      pub copy-room : Room tape at (copyRecords register object)
-      copy-room = omega (arith, room, load-length)
+      pub object-room : Room tape at (objectRecords register object objectType)
+      object-room = omega (arith, room, load-length)
 
-      pub runs-room : (tape₁ : List ℤ) {at₁ : ℕ} → length tape₁ ≡ length tape → at₁ ≡ at + length (copyRecords register object)
-          → Room tape₁ at₁ (accessRecords (accessOf tensors true window (theType ts (objectRegister register object)) len) register)
+      pub runs-room : (tape₁ : List ℤ) {at₁ : ℕ} → length tape₁ ≡ length tape → at₁ ≡ at + length (objectRecords register object objectType)
+          → Room tape₁ at₁ (accessRecords loadAccess register)
       runs-room tape₁ e f = omega (arith, room, load-length, e, f)
 
 -- ---- the answer

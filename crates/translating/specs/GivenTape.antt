@@ -20,7 +20,7 @@ use Rattle.records.specs.declared.Record.the-variants.{Whole}
 use Rattle.runs.specs.Even.{Stretch}
 use Rattle.runs.specs.RunRecords.{runNumbers}
 use Rattle.access_tapes.specs.Given.{AccessGiven}
-use Rattle.translating.specs.Tapes.{copyRecords}
+use Rattle.translating.specs.Tapes.{objectRecords}
 
 -- the runs of a load or a store, as numbers
 pub record AccessNumbers (a : Access) (register : ℕ) (xs : List ℤ) : Type 0 where
@@ -28,19 +28,20 @@ pub record AccessNumbers (a : Access) (register : ℕ) (xs : List ℤ) : Type 0 
   pub given : AccessGiven a runs
   pub same : xs ≡ runNumbers (a .load) register runs
 
--- a copy, none where the register is its own object, and then the runs
-pub record LoadNumbers (a : Access) (register : ℕ) (object : Object) (xs : List ℤ) : Type 0 where
+-- its object's record, none where the register stands as it is, and then the runs
+pub record LoadNumbers (a : Access) (register : ℕ) (object : Object) (t : MatrixType) (xs : List ℤ) : Type 0 where
   pub rest : List ℤ
   pub moves : AccessNumbers a register rest
-  pub same : xs ≡ tapeNumbers (copyRecords register object) ++ rest
+  pub same : xs ≡ tapeNumbers (objectRecords register object t) ++ rest
 
--- step k, at the types that the steps before left: a whole step becomes one op 4; a load becomes a copy
--- and its runs, a store its runs
+-- step k, at the types that the steps before left: a whole step becomes one op 4; a load becomes its object's
+-- record and its runs, a store its runs
 abbrev pub StepNumbers : Tensors → List MatrixType → ℕ → ℕ → Step → List ℤ → Type 0
 StepNumbers tensors ts len k step.Nothing xs = xs ≡ []
 StepNumbers tensors ts len k (step.Whole whole) xs = xs ≡ recordNumbers (Whole k)
 StepNumbers tensors ts len k (step.Load register object window) xs =
-    LoadNumbers (accessOf tensors true window (theType ts (objectRegister register object)) len) register object xs
+    let t = theType ts (objectRegister register object) in
+    LoadNumbers (accessOf tensors true window t len) register object t xs
 StepNumbers tensors ts len k (step.Store register window) xs = AccessNumbers (accessOf tensors false window (theType ts register) len) register xs
 
 -- n steps more, the next of which is number k

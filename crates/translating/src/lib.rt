@@ -1,18 +1,21 @@
 // Translating a sheet: the check, the number of records, then the records themselves.
 ghost use mathlib.Core.Path.{_≡_};
-ghost use mathlib.Core.Bool.{true};
+ghost use mathlib.Core.Bool.{false};
 ghost use mathlib.Core.List.{[], _∷_};
 ghost use Prim.Native.Nat.{ℕ, _*_, _<_, _≤_};
 ghost use lib.ListN.{length};
 ghost use lib.Seq.{sets};
 ghost use Rattle.sheet.specs.Sizes.{registerCount, stepPlaces, matrixPlaces, memoryLimit};
-ghost use Rattle.sheet_ranges.specs.Steps.{objectOk};
 ghost use Rattle.sheet_ranges.specs.Laws.Within.{Within};
+ghost use Rattle.registers.specs.Types.{isEmpty};
+ghost use Rattle.registers.specs.Sized.{SizedType};
+ghost use Rattle.checking.specs.Steps.{objectRegister};
 ghost use Rattle.checking.specs.Checking.{checked};
 ghost use Rattle.accepted.specs.Accepted.{ClearStep};
 ghost use Rattle.records.specs.Records.{recordLength, tapeNumbers};
+ghost use Rattle.records.specs.Ranges.{InRange};
 ghost use Rattle.access_tapes.specs.Writing.{Room, Wrote};
-ghost use Rattle.translating.specs.Tapes.{copyRecords, stepRecords, tapeOf};
+ghost use Rattle.translating.specs.Tapes.{objectRecords, stepRecords, tapeOf};
 ghost use Rattle.translating.specs.Translating.{translateAnswer, translated, translatedRoom};
 use checking::checks;
 use records::Record;
@@ -33,32 +36,55 @@ pub struct TranslateAnswer {
     pub records: usize,
 }
 
-// The copy of a load's object, none for its own register.
-fn count_copy(object: Object) -> usize
-    ensures { λ r. ⌜ ((register : ℕ) → r ≡ length (copyRecords register object)) ⌝ }
+// Writes record `at` of a tape: the next record's number.
+fn write_record(tape: &mut [i32], at: usize, r: Record) -> usize
+    requires { ⌜ InRange r × Room (now tape) at (r ∷ []) ⌝ }
+    ensures { λ next. ⌜ Wrote (now (tape .entry)) (now (tape .exit)) at (r ∷ []) next ⌝ }
+{
+    record_writer::put_record(tape, at * records::NUMBERS, r);
+    at + 1
+}
+
+// The record that gives a load's register its object: a copy, a fill of 0 over the whole matrix, or none.
+fn count_object(object: Object) -> usize
+    ensures { λ r. ⌜ ((register : ℕ) (t : MatrixType) → r ≡ length (objectRecords register object t)) ⌝ }
 {
     match object {
         Object::Kept => 0,
+        Object::Zeros => 1,
         Object::Register(_) => 1,
     }
 }
 
-fn write_copy(tape: &mut [i32], at: usize, register: u8, object: Object) -> usize
-    requires { ⌜ (register < registerCount) × (objectOk object ≡ true) × Room (now tape) at (copyRecords register object) ⌝ }
-    ensures { λ r. ⌜ Wrote (now (tape .entry)) (now (tape .exit)) at (copyRecords register object) r ⌝ }
+fn write_object(
+    tape: &mut [i32],
+    at: usize,
+    register: u8,
+    object: Object,
+    t: MatrixType,
+) -> usize
+    requires { ⌜ (register < registerCount) × (objectRegister register object < registerCount) × SizedType t × (isEmpty t ≡ false) ⌝ }
+    requires { ⌜ Room (now tape) at (objectRecords register object t) ⌝ }
+    ensures { λ r. ⌜ Wrote (now (tape .entry)) (now (tape .exit)) at (objectRecords register object t) r ⌝ }
 {
     match object {
         Object::Kept => at,
-        Object::Register(r) => {
-            record_writer::put_record(
-                tape,
-                at * records::NUMBERS,
-                Record::Copy {
-                    register,
-                    object: r,
-                },
-            );
-            at + 1
+        Object::Zeros => {
+            let count = registers::element_count(t);
+            let fill = Record::Fill {
+                register,
+                first: 0,
+                count,
+                value: 0,
+            };
+            write_record(tape, at, fill)
+        }
+        Object::Register(source) => {
+            let copy = Record::Copy {
+                register,
+                object: source,
+            };
+            write_record(tape, at, copy)
         }
     }
 }
@@ -83,8 +109,8 @@ fn count_step(
             window,
         } => {
             let t = registers::the_type(types, checks::object_register(register, object));
-            let copied = count_copy(object);
-            copied + access_tapes::count_window(entries, tensors, true, window, t, memory)
+            let before = count_object(object);
+            before + access_tapes::count_window(entries, tensors, true, window, t, memory)
         }
         Step::Store { register, window } => {
             let t = registers::the_type(types, register);
@@ -92,15 +118,6 @@ fn count_step(
         }
         Step::Whole(_) => 1,
     }
-}
-
-// A whole step's record as record `at` of a tape: the next record's number.
-fn write_whole(tape: &mut [i32], at: usize, step: usize) -> usize
-    requires { ⌜ (step < stepPlaces) × Room (now tape) at (Record.Whole step ∷ []) ⌝ }
-    ensures { λ r. ⌜ Wrote (now (tape .entry)) (now (tape .exit)) at (Record.Whole step ∷ []) r ⌝ }
-{
-    record_writer::put_record(tape, at * records::NUMBERS, Record::Whole { step });
-    at + 1
 }
 
 // Writes the records of step k from record `at` of a tape on: the next record's number.
@@ -127,7 +144,7 @@ fn write_step(
             window,
         } => {
             let t = registers::the_type(types, checks::object_register(register, object));
-            let next = write_copy(tape, at, register, object);
+            let next = write_object(tape, at, register, object, t);
             access_tapes::write_window(
                 tape,
                 entries,
@@ -154,7 +171,10 @@ fn write_step(
                 memory,
             )
         }
-        Step::Whole(_) => write_whole(tape, at, k),
+        Step::Whole(_) => {
+            let whole = Record::Whole { step: k };
+            write_record(tape, at, whole)
+        }
     }
 }
 

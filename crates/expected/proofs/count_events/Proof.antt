@@ -20,8 +20,8 @@ object-register-requires c κs = search needs
 the-type-requires : tie.Need-the-type-requires
 the-type-requires c κs = rw (c .object-register .ensures) (load-object _ _ _ _ _ _ (rw (c .before .before .step .given .1) at (c .before .before .before .before .pre .1 .3)))
 
-elements-of-requires : tie.Need-elements-of-requires
-elements-of-requires c κs = rw (c .the-type .ensures) (c .before .before .before .before .before .pre .0 .each _)
+element-count-requires : tie.Need-element-count-requires
+element-count-requires c κs = rw (c .the-type .ensures) (c .before .before .before .before .before .pre .0 .each _)
 
 enum-known-step-2 : tie.Need-enum-known-step-2
 enum-known-step-2 c = search needs
@@ -29,8 +29,8 @@ enum-known-step-2 c = search needs
 the-type-requires-2 : tie.Need-the-type-requires-2
 the-type-requires-2 c κs = store-register _ _ _ _ (rw (c .before .step2 .given .1) at (c .before .before .before .pre .1 .3))
 
-elements-of-requires-2 : tie.Need-elements-of-requires-2
-elements-of-requires-2 c κs = rw (c .the-type2 .ensures) (c .before .before .before .before .pre .0 .each _)
+element-count-requires-2 : tie.Need-element-count-requires-2
+element-count-requires-2 c κs = rw (c .the-type2 .ensures) (c .before .before .before .before .pre .0 .each _)
 
 enum-told-2 : tie.Need-enum-told-2
 enum-told-2 c = search needs
@@ -44,13 +44,13 @@ returns-2 c =
     let a = c .before .before .before .before .before .before .args in
     let g = c .before .before .before .before .step .given in
     let so = c .before .the-type .ensures ∙ ap (theType (a .types)) (c .before .before .object-register .ensures) in
-    (c .elements-of .ensures .1, λ tensors len k. rw (g .1) (load-count tensors (a .types) len k (g .0 .0) (g .0 .1 .1 .0) (g .0 .1 .0) so (c .elements-of .ensures .0)))
+    (c .element-count .ensures .1, λ tensors len k. rw (g .1) (load-count tensors (a .types) len k (g .0 .0) (g .0 .1 .1 .0) (g .0 .1 .0) so (c .element-count .ensures .0)))
 
 returns-3 : tie.Need-returns-3
 returns-3 c =
     let a = c .before .before .before .before .before .args in
     let g = c .before .before .before .step2 .given in
-    (c .elements-of2 .ensures .1, λ tensors len k. rw (g .1) (store-count tensors (a .types) len k (g .0 .0) (g .0 .1 .0) (c .before .the-type2 .ensures) (c .elements-of2 .ensures .0)))
+    (c .element-count2 .ensures .1, λ tensors len k. rw (g .1) (store-count tensors (a .types) len k (g .0 .0) (g .0 .1 .0) (c .before .the-type2 .ensures) (c .element-count2 .ensures .0)))
 
 returns-4 : tie.Need-returns-4
 unfolding ofStep
@@ -64,10 +64,10 @@ count-events-spec =
     enum-known-step
     object-register-requires
     the-type-requires
-    elements-of-requires
+    element-count-requires
     enum-known-step-2
     the-type-requires-2
-    elements-of-requires-2
+    element-count-requires-2
     enum-told-2
     returns
     returns-2

@@ -1,12 +1,13 @@
--- The turns over the elements of a take, a put and a fill.
+-- The elements of a take, a put and a fill, one after the other.
 use Prim.Native.Nat.{ℕ, zero, suc, _+_, _≤_}
 use mathlib.Core.Path.{_≡_, refl, sym, ap, _∙_}
 use mathlib.Core.List.{List}
 use native.Mathlib.Numerals.{add-one}
 use native.Mathlib.Omega.{arith}
+use Rattle.numbers.specs.Lists.{line}
 use Rattle.numbers.specs.Orders.{inOrder}
 use Rattle.memory.specs.Elements.{elementAt, withElement}
-use Rattle.registers.specs.Registers.{elementOf, withElementOf}
+use Rattle.registers.specs.Registers.{placeOf, elementOf, withElementOf, filledElements}
 use Rattle.counts.specs.Counts.{morePlaced}
 use Rattle.counts.specs.Laws.Counts.{placed-none}
 use Rattle.counts.specs.declared.Counts.{Counts}
@@ -16,10 +17,6 @@ use Rattle.judging.specs.Records.{byteAt}
 use Rattle.moves.specs.Elements.{taking, putting, filling}
 
 module _ (act : ℕ → State → State) where
-  pub order-none : (s : State) → inOrder act 0 s ≡ s
-  unfolding inOrder
-  order-none s = refl
-
   pub order-more : (n : ℕ) (s : State) → inOrder act (n + 1) s ≡ act n (inOrder act n s)
   unfolding inOrder
   order-more n s = rw add-one
@@ -41,7 +38,7 @@ module _ (act : ℕ → State → State) where
   unfolding inOrder
   order-start es m c = rw (placed-none c)
 
--- one turn of the loop over the elements of a take, a put and a fill
+-- one turn of the loop over the elements of a take and of a put
 module _ (register first i : ℕ) where
   module _ (size byte up down : ℕ) where
     abbrev TakenSo : List ℕ → List ℕ → List ℕ → ℕ → Type 0
@@ -60,6 +57,11 @@ module _ (register first i : ℕ) where
         order-turn (putting size register first byte up down) i (state es m₀ c) (inv c)
         (rw (← p) (put-counted size register (first + i) _ c i es m q r))
 
-  pub fill-turn : (value : ℕ) (es₀ : List ℕ) {es es′ : List ℕ} → ((m : List ℕ) (c : Counts) → state es m c ≡ inOrder (filling register first value) i (state es₀ m c)) → es′ ≡ withElementOf es register (first + i) value
-      → (m : List ℕ) (c : Counts) → state es′ m c ≡ inOrder (filling register first value) (i + 1) (state es₀ m c)
-  fill-turn value es₀ inv r m c = order-turn (filling register first value) i (state es₀ m c) (inv m c) (rw r refl)
+-- the elements of a fill, one after the other
+pub fill-order : (register first value : ℕ) (es m : List ℕ) (c : Counts) (n : ℕ)
+    → state (filledElements es register first n value) m c ≡ inOrder (filling register first value) n (state es m c)
+unfolding line inOrder
+fill-order register first value es m c zero = refl
+fill-order register first value es m c (suc n) =
+    let at : placeOf register first + n ≡ placeOf register (first + n) = omega arith in
+    rw at (ap (filling register first value n) (fill-order register first value es m c n))

@@ -1,12 +1,14 @@
 -- A sized type's elements have places, and every change of types keeps to Sizes.
-use mathlib.Core.Path.{refl}
+use mathlib.Core.Path.{_≡_, refl}
+use mathlib.Core.Bool.{false}
 use mathlib.Core.List.{List, [], _∷_}
 use Prim.Native.Nat.{ℕ, zero, suc, _*_, _≤_}
 use native.Mathlib.Nat.{mul-le-mul}
 use native.Mathlib.Omega.{arith}
+use borrow.Author.Tests.{eqb-false}
 use Rattle.numbers.specs.Laws.Places.{none-all}
 use Rattle.sheet.specs.Sizes.{registerCount, sidePlaces, matrixPlaces}
-use Rattle.registers.specs.Types.{noType, theType, withType}
+use Rattle.registers.specs.Types.{noType, theType, isEmpty, withType}
 use Rattle.registers.specs.Registers.{emptyRegisters}
 use Rattle.registers.specs.Sized.{SizedType, Sized}
 use Rattle.registers.specs.declared.MatrixType.{MatrixType}
@@ -17,6 +19,12 @@ sides a b p q = mul-le-mul {n₂ = sidePlaces} {m₂ = sidePlaces} p q
 -- the elements of a matrix have places
 pub sized-places : (t : MatrixType) → SizedType t → t .rows * t .columns ≤ matrixPlaces
 sized-places t s = sides (t .rows) (t .columns) (s .rows) (s .columns)
+
+-- a register that is not empty has one
+pub sized-some : (t : MatrixType) → SizedType t → isEmpty t ≡ false → 1 ≤ t .rows * t .columns
+sized-some t s e =
+    let rows : 1 ≤ t .rows = omega (arith, eqb-false (t .rows) 0 e) in
+    mul-le-mul {n₁ = 1} {m₁ = 1} rows (s .some rows)
 
 sized-none : SizedType noType
 sized-none = record { kind = refl; rows = omega arith; columns = omega arith; some = λ h. h; none = λ e. refl }

@@ -1,9 +1,10 @@
 use mathlib.Core.Path.{refl}
+use Rattle.registers.specs.Types.{noType}
 use Rattle.checking.specs.Laws.Names.{load-object, store-register}
 use Rattle.accepted.specs.Laws.Clear.{load-clear, store-clear}
 use Rattle.access_tapes.specs.Laws.Few.{window-few}
 use Rattle.translating.specs.Tapes.{stepRecords}
-use Rattle.translating.proofs.Laws.{copy-few, load-count, store-count}
+use Rattle.translating.proofs.Laws.{object-few, load-count, store-count}
 use native.Mathlib.Omega.{arith}
 use borrow.Author.Needs.{needs}
 use Rattle.translating.proofs.count_step.Statement.{statement}
@@ -22,8 +23,8 @@ the-type-requires : tie.Need-the-type-requires
 the-type-requires c κs =
     rw (c .object-register .ensures) (load-object _ _ _ _ _ _ (rw (c .before .before .step .given .1) at (c .before .before .before .before .pre .0 .ok)))
 
-count-copy-requires : tie.Need-count-copy-requires
-count-copy-requires c κs = search needs
+count-object-requires : tie.Need-count-object-requires
+count-object-requires c κs = search needs
 
 count-window-requires : tie.Need-count-window-requires
 count-window-requires c κs =
@@ -36,7 +37,7 @@ add-result c =
     let g = c .before .before .before .before .before .before .step .given in
     let w = rw (g .1) at (s .pre .0) in
     let n = rw (c .before .before .before .the-type .ensures, c .before .before .before .before .object-register .ensures) at (c .count-window .ensures .1) in
-    omega (arith, c .before .before .count-copy .ensures 0, copy-few 0 (g .0 .1 .0), n, window-few (load-clear w))
+    omega (arith, c .before .before .count-object .ensures 0 noType, object-few 0 (g .0 .1 .0) noType, n, window-few (load-clear w))
 
 enum-known-step-2 : tie.Need-enum-known-step-2
 enum-known-step-2 c = search needs
@@ -62,7 +63,7 @@ returns-2 c =
     let a = s .args in
     let g = c .before .before .before .before .before .before .step .given in
     let n = rw (c .before .before .before .the-type .ensures, c .before .before .before .before .object-register .ensures) at (c .count-window .ensures .1) in
-    (c .count-window .ensures .0, rw (g .1) (load-count (a .tensors) (a .types) (a .memory) 0 (g .0 .0) (g .0 .1 .1 .0) (g .0 .1 .0) (c .before .before .count-copy .ensures (g .0 .0)) n))
+    (c .count-window .ensures .0, rw (g .1) (load-count (a .tensors) (a .types) (a .memory) 0 (g .0 .0) (g .0 .1 .1 .0) (g .0 .1 .0) (c .before .before .count-object .ensures (g .0 .0) _) n))
 
 returns-3 : tie.Need-returns-3
 returns-3 c =
@@ -84,7 +85,7 @@ count-step-spec =
     enum-known-step
     object-register-requires
     the-type-requires
-    count-copy-requires
+    count-object-requires
     count-window-requires
     add-result
     enum-known-step-2

@@ -1,10 +1,10 @@
 use denote.Ref.{now}
 use mathlib.Core.Path.{refl}
-use Rattle.checking.specs.Laws.Names.{load-register, load-object-ok, load-object, store-register}
+use Rattle.checking.specs.Laws.Names.{load-register, load-object, store-register}
 use Rattle.accepted.specs.Laws.Clear.{load-clear, store-clear}
 use Rattle.access_tapes.specs.Laws.Writing.{wrote-both}
 use Rattle.translating.specs.Tapes.{stepRecords}
-use Rattle.translating.proofs.Laws.{load-records, store-records, copy-room, runs-room}
+use Rattle.translating.proofs.Laws.{load-records, store-records, object-room, runs-room}
 use native.Mathlib.Omega.{arith}
 use borrow.Author.Needs.{needs}
 use Rattle.translating.proofs.write_step.Statement.{statement}
@@ -23,13 +23,17 @@ the-type-requires : tie.Need-the-type-requires
 the-type-requires c κs =
     rw (c .object-register .ensures) (load-object _ _ _ _ _ _ (rw (c .before .before .step .given .1) at (c .before .before .before .before .pre .0 .0 .ok)))
 
-write-copy-requires : tie.Need-write-copy-requires
-write-copy-requires c κs =
+write-object-requires : tie.Need-write-object-requires
+write-object-requires c κs =
     let s = c .before .before .before .before .before .before in
     let a = s .args in
     let g = c .before .before .before .before .step .given in
     let ok = rw (g .1) at (s .pre .0 .0 .ok) in
-    (load-register _ _ _ _ _ _ ok, load-object-ok _ _ _ _ _ ok, copy-room (a .tensors) (a .types) (a .memory) (a .k) (g .0 .0) (g .0 .1 .1 .0) (g .0 .1 .0) (now (a .tape)) (a .at) (rw (g .1) at (s .pre .1 .1)))
+    let clear = load-clear (rw (g .1) at (s .pre .0 .0)) in
+    rw (c .before .the-type .ensures, c .before .before .object-register .ensures) (
+      (load-register _ _ _ _ _ _ ok, load-object _ _ _ _ _ _ ok, clear .sized, clear .clear .filled),
+      object-room (a .tensors) (a .types) (a .memory) (a .k) (g .0 .0) (g .0 .1 .1 .0) (g .0 .1 .0) (now (a .tape)) (a .at) (rw (g .1) at (s .pre .1 .1)),
+    )
 
 write-window-requires : tie.Need-write-window-requires
 write-window-requires c κs =
@@ -37,12 +41,12 @@ write-window-requires c κs =
     let a = s .args in
     let g = c .before .before .before .before .before .before .before .before .step .given in
     let d = c .before .before .before .before .before in
-    let w = c .before .before .before .write-copy in
+    let w = c .before .before .before .write-object in
     rw (d .the-type .ensures, d .before .object-register .ensures) (
       (load-clear (rw (g .1) at (s .pre .0 .0)), s .pre .0 .1),
       (
         load-register _ _ _ _ _ _ (rw (g .1) at (s .pre .0 .0 .ok)),
-        runs-room (a .tensors) (a .types) (a .memory) (a .k) (g .0 .0) (g .0 .1 .1 .0) (g .0 .1 .0) (now (a .tape)) (a .at) (rw (g .1) at (s .pre .1 .1)) (w .last .0) (w .kept .0) (w .ensures .next),
+        runs-room (a .tensors) (a .types) (a .memory) (a .k) (g .0 .0) (g .0 .1 .1 .0) (g .0 .1 .0) (now (a .tape)) (a .at) (rw (g .1) at (s .pre .1 .1)) (w .last .0) (w .kept .0) (rw (d .the-type .ensures, d .before .object-register .ensures) at (w .ensures .next)),
       ),
     )
 
@@ -68,9 +72,9 @@ write-window-requires-2 c κs =
 enum-told-2 : tie.Need-enum-told-2
 enum-told-2 c = search needs
 
-write-whole-requires : tie.Need-write-whole-requires
+write-record-requires : tie.Need-write-record-requires
 unfolding stepRecords
-write-whole-requires c κs = let s = c .before .before .before in (s .pre .1 .0, rw (c .before .enum-told2 .given .1) at (s .pre .1 .1))
+write-record-requires c κs = let s = c .before .before .before in (omega (arith, s .pre .1 .0), rw (c .before .enum-told2 .given .1) at (s .pre .1 .1))
 
 returns : tie.Need-returns
 unfolding stepRecords
@@ -88,7 +92,8 @@ returns-2 c =
     let w = c .before .write-window .ensures in (
       w .0,
       rw (g .1, load-records (a .tensors) (a .types) (a .memory) (a .k) (g .0 .0) (g .0 .1 .1 .0) (g .0 .1 .0))
-          (wrote-both (now (a .tape)) (a .at) _ _ (c .before .before .before .before .before .write-copy .ensures) (rw (d .the-type .ensures, d .before .object-register .ensures) at (w .1))),
+          (wrote-both (now (a .tape)) (a .at) _ _ (rw (d .the-type .ensures, d .before .object-register .ensures) at (c .before .before .before .before .before .write-object .ensures))
+          (rw (d .the-type .ensures, d .before .object-register .ensures) at (w .1))),
     )
 
 same-length-2 : tie.Need-same-length-2
@@ -107,7 +112,7 @@ same-length-3 c = search needs
 
 returns-4 : tie.Need-returns-4
 unfolding stepRecords
-returns-4 c = (c .before .before .before .before .before .pre .0 .1, rw (c .before .before .before .enum-told2 .given .1) (c .before .write-whole .ensures))
+returns-4 c = (c .before .before .before .before .before .pre .0 .1, rw (c .before .before .before .enum-told2 .given .1) (c .before .write-record .ensures))
 
 pub write-step-spec : {M : Type 1} → statement M
 write-step-spec =
@@ -117,13 +122,13 @@ write-step-spec =
     enum-known-step
     object-register-requires
     the-type-requires
-    write-copy-requires
+    write-object-requires
     write-window-requires
     enum-known-step-2
     the-type-requires-2
     write-window-requires-2
     enum-told-2
-    write-whole-requires
+    write-record-requires
     returns
     same-length
     returns-2

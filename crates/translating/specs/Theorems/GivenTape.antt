@@ -20,7 +20,7 @@ use Rattle.records.specs.Laws.Records.{tape-append}
 use Rattle.runs.specs.Theorems.Unique.{stretches}
 use Rattle.access_tapes.specs.Accesses.{accessRecords}
 use Rattle.access_tapes.specs.Theorems.{accessRuns, access-given, access-numbers}
-use Rattle.translating.specs.Tapes.{copyRecords, stepRecords, tapeFrom, tapeOf}
+use Rattle.translating.specs.Tapes.{objectRecords, stepRecords, tapeFrom, tapeOf}
 use Rattle.translating.specs.GivenTape.{AccessNumbers, StepNumbers, NumbersFrom, none, more, GivenTape}
 
 -- ---- there is one
@@ -40,11 +40,12 @@ module _ (tensors : Tensors) (ts : List MatrixType) (len k : ℕ) where
   step-one step.Nothing = refl
   step-one (step.Whole whole) = refl
   step-one (step.Load register object window) =
-      let a = accessOf tensors true window (theType ts (objectRegister register object)) len in
+      let t = theType ts (objectRegister register object) in
+      let a = accessOf tensors true window t len in
       record {
         rest = tapeNumbers (accessRecords a register);
         moves = access-one a register;
-        same = tape-append (copyRecords register object) (accessRecords a register);
+        same = tape-append (objectRecords register object t) (accessRecords a register);
       }
   step-one (step.Store register window) = access-one (accessOf tensors false window (theType ts register) len) register
 
@@ -53,10 +54,11 @@ module _ (tensors : Tensors) (ts : List MatrixType) (len k : ℕ) where
   step-only step.Nothing h = h
   step-only (step.Whole whole) h = h
   step-only (step.Load register object window) h =
-      let a = accessOf tensors true window (theType ts (objectRegister register object)) len in
+      let t = theType ts (objectRegister register object) in
+      let a = accessOf tensors true window t len in
       h .same
-      ∙ ap (λ (l : List ℤ). tapeNumbers (copyRecords register object) ++ l) (access-only a register (h .moves))
-      ∙ sym (tape-append (copyRecords register object) (accessRecords a register))
+      ∙ ap (λ (l : List ℤ). tapeNumbers (objectRecords register object t) ++ l) (access-only a register (h .moves))
+      ∙ sym (tape-append (objectRecords register object t) (accessRecords a register))
   step-only (step.Store register window) h = access-only (accessOf tensors false window (theType ts register) len) register h
 
 module _ (sh : Sheet) (len : ℕ) where
