@@ -110,7 +110,10 @@ pub fn count_events(types: [MatrixType; REGISTERS], step: Step) -> usize
             register,
             object,
             window: _,
-        } => registers::element_count(registers::the_type(types, checks::object_register(register, object))),
+        } => registers::element_count(registers::the_type(
+            types,
+            checks::object_register(register, object),
+        )),
         Step::Store {
             register,
             window: _,

@@ -56,13 +56,7 @@ fn count_object(object: Object) -> usize
     }
 }
 
-fn write_object(
-    tape: &mut [i32],
-    at: usize,
-    register: u8,
-    object: Object,
-    t: MatrixType,
-) -> usize
+fn write_object(tape: &mut [i32], at: usize, register: u8, object: Object, t: MatrixType) -> usize
     requires { ⌜ (register < registerCount) × (objectRegister register object < registerCount) × SizedType t × (isEmpty t ≡ false) ⌝ }
     requires { ⌜ Room (now tape) at (objectRecords register object t) ⌝ }
     ensures { λ r. ⌜ Wrote (now (tape .entry)) (now (tape .exit)) at (objectRecords register object t) r ⌝ }

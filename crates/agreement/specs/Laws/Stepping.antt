@@ -1,11 +1,12 @@
 -- One step: its records pass, and leave what the step leaves.
-use Prim.Native.Nat.{ℕ, _^_, _<_}
+use Prim.Native.Nat.{ℕ, _+_, _*_, _^_, _<_}
 use mathlib.Core.Path.{_≡_, refl, sym, ap, _∙_}
 use mathlib.Core.Bool.{Bool, true, false, not}
 use mathlib.Core.List.{List, [], _∷_}
 use native.Mathlib.Omega.{arith}
-use borrow.Author.Tests.{lt-ltb, eq-eqb}
+use borrow.Author.Tests.{lt-ltb, le-leb, eq-eqb}
 use lib.ListN.{length}
+use lib.Pow.{pow-pos}
 use lib.Seq.{getD-set-same, set-getD}
 use Rattle.numbers.specs.Laws.Choice.{both-true}
 use Rattle.kinds.specs.Widths.{bytesOf, width, fits}
@@ -15,7 +16,7 @@ use Rattle.outcomes.specs.declared.Outcome.the-variants.{Skipped, Filled, Disca
 use Rattle.sheet.specs.Sizes.{registerCount}
 use Rattle.sheet_ranges.specs.Steps.{theStep, stepOk}
 use Rattle.sheet.specs.declared.Object.{Object}
-use Rattle.sheet.specs.declared.Object.the-variants.{Kept, Register}
+use Rattle.sheet.specs.declared.Object.the-variants.{Kept, Zeros, Register}
 use Rattle.sheet.specs.declared.Window.{Window}
 use Rattle.sheet.specs.declared.Sheet.{Sheet}
 use Rattle.sheet.specs.declared.Step.{Step}
@@ -41,8 +42,9 @@ use Rattle.records.specs.declared.Record.{Record}
 use Rattle.records.specs.declared.Record.the-variants.{Whole}
 use Rattle.runs.specs.Laws.States.{performAll, performAll-append}
 use Rattle.access_tapes.specs.Accesses.{accessRecords}
-use Rattle.translating.specs.Tapes.{copyRecords, stepRecords}
-use Rattle.judging.specs.Records.{wholeRecordOk, recordOk}
+use Rattle.translating.specs.Tapes.{objectRecords, stepRecords}
+use Rattle.judging.specs.Records.{fillRecordOk, wholeRecordOk, recordOk}
+use Rattle.moves.specs.Laws.Elements.{fill-order}
 use Rattle.running.specs.Records.{ranRecordWith, ranRecord}
 use Rattle.agreement.specs.Laws.Passing.{Passes, none, more, passes-append, ranAll}
 use Rattle.agreement.specs.Laws.Moving.{elementDone, FillsOnLoad, runs-done}
@@ -84,19 +86,32 @@ module _ (sh : Sheet) (load : Bool) (register : ℕ) (window : Window) where
       let a = access (theType (m .registers .types) register) (length (m .memory)) in
       runs-done sh register load (outcomeOf a) (elementsOf a) m (λ i. outcome-fills a (outcomeOf a i) (element-sound a i))
 
--- ---- the copy of a load
+-- ---- the object of a load
+
+-- zeros over a matrix that is not empty
+zeros-pass : (t : MatrixType) → isEmpty t ≡ false → fillRecordOk t 0 (t .rows * t .columns) 0 ≡ true
+unfolding fillRecordOk fits
+zeros-pass t some =
+    let n = t .rows * t .columns in
+    both-true _ _ (rw some) (both-true _ _ (le-leb (0 + n) n (omega arith)) (lt-ltb 0 (2 ^ width (t .kind)) (pow-pos (width (t .kind)))))
 
 module _ (sh : Sheet) (m : Machine) (register : ℕ) where
-  copies-pass : (object : Object) (len : ℕ) → isEmpty (theType (m .registers .types) (objectRegister register object)) ≡ false
-      → Passes sh len (copyRecords register object) (m .registers .types)
-      (withType (m .registers .types) register (theType (m .registers .types) (objectRegister register object)))
-  copies-pass Kept len some = rw (set-getD (m .registers .types) register noType) none
-  copies-pass (Register object) len some = let p : not (isEmpty (theType (m .registers .types) object)) ≡ true = rw some in more p none
+  abbrev typeOf : Object → MatrixType
+  typeOf object = theType (m .registers .types) (objectRegister register object)
 
-  copies-done : (object : Object) → ranAll sh (copyRecords register object) m ≡ objectDone register object m
+  object-passes : (object : Object) (len : ℕ) → isEmpty (typeOf object) ≡ false
+      → Passes sh len (objectRecords register object (typeOf object)) (m .registers .types) (withType (m .registers .types) register (typeOf object))
+  object-passes Kept len some = rw (set-getD (m .registers .types) register noType) none
+  object-passes Zeros len some = rw (set-getD (m .registers .types) register noType) (more (zeros-pass (typeOf Zeros) some) none)
+  object-passes (Register object) len some = let p : not (isEmpty (theType (m .registers .types) object)) ≡ true = rw some in more p none
+
+  object-done : (object : Object) → ranAll sh (objectRecords register object (typeOf object)) m ≡ objectDone register object m
   unfolding withObject performAll ranRecordWith
-  copies-done Kept = refl
-  copies-done (Register object) = refl
+  object-done Kept = refl
+  object-done Zeros =
+      let t = typeOf Zeros in
+      ap (machineOf (m .registers .types)) (sym (fill-order register 0 0 (m .registers .elements) (m .memory) (m .counts) (t .rows * t .columns)))
+  object-done (Register object) = refl
 
 -- ---- any step
 
@@ -126,9 +141,9 @@ module _ (sh : Sheet) (m : Machine) (k : ℕ) where
       let x = accessOf (sh .tensors) true window t len in
       let after = withType ts register t in
       let some = access-clear ts after t x a .filled in
-      let few = load-register _ _ register object window ok in
+      let few = load-register _ _ _ register object window ok in
       rw (access-moved ts after t x some)
-      (passes-append sh (copies-pass sh m register object len some)
+      (passes-append sh (object-passes sh m register object len some)
       (access-passes sh true register window len after t (getD-set-same ts register t noType (omega arith)) some))
   step-passes (step.Store register window) h e a four ok =
       let t = theType ts register in
@@ -145,11 +160,12 @@ module _ (sh : Sheet) (m : Machine) (k : ℕ) where
       → ranAll sh (stepRecords (sh .tensors) ts len k (step.Load register object window)) m ≡ performedStep (sh .tensors) (step.Load register object window) m
   unfolding stepRecords performedStep loadDone
   load-done register object window few =
-      let copied = objectDone register object m in
-      performAll-append (ranRecord sh) (copyRecords register object) (records (theType ts (objectRegister register object))) m
-      ∙ ap (ranAll sh (records (theType ts (objectRegister register object)))) (copies-done sh m register object)
-      ∙ ap (λ (t : MatrixType). ranAll sh (records t) copied) (sym (object-type register object m few))
-      ∙ access-done sh true register window copied
+      let given = objectDone register object m in
+      let t = theType ts (objectRegister register object) in
+      performAll-append (ranRecord sh) (objectRecords register object t) (records t) m
+      ∙ ap (ranAll sh (records t)) (object-done sh m register object)
+      ∙ ap (λ (t : MatrixType). ranAll sh (records t) given) (sym (object-type register object m few))
+      ∙ access-done sh true register window given
     where
       records : MatrixType → List Record
       records t = accessRecords (accessOf (sh .tensors) true window t len) register
@@ -160,6 +176,6 @@ module _ (sh : Sheet) (m : Machine) (k : ℕ) where
   unfolding stepRecords performedStep storeDone performAll
   step-done step.Nothing e four ok = refl
   step-done (step.Load register object window) e four ok =
-      let few = load-register _ _ register object window ok in load-done register object window (omega arith)
+      let few = load-register _ _ _ register object window ok in load-done register object window (omega arith)
   step-done (step.Store register window) e four ok = access-done sh false register window m
   step-done (step.Whole whole) e four ok = whole-done _ e

@@ -50,7 +50,7 @@ module _ (sh : Sheet) (w : Within sh) (memory : List ℕ) (h : checked sh (lengt
   module _ (most : length memory ≤ memoryLimit) (few : length (tapeOf sh (length memory)) ≤ limits (sh .edition) .records) (numbers rest : List ℤ)
       (is : numbers ≡ tapeNumbers (tapeOf sh (length memory)) ++ rest) where
     numbers-say : Says (tapeRecord numbers) 0 (tapeOf sh (length memory))
-    numbers-say i l = rw (is, zero-add i) (tape-back (tapeOf sh (length memory)) rest i (tape-within (length memory) most sh w) l)
+    numbers-say i l = rw (is, zero-add i) (tape-back (tapeOf sh (length memory)) rest i (tape-within (length memory) most sh w h) l)
 
     numbers-fit : recordsFit (sh .edition) (length numbers) (length (tapeOf sh (length memory))) ≡ true
     unfolding recordsFit
