@@ -180,6 +180,16 @@ edgeStrip layouts wanted = loadStrip layouts [] 255 1 8 8 wanted
 plain : ℕ → ℕ → List ℕ
 plain n stride = layout Undefined 0 (dimension 1 n stride 0 n ∷ [])
 
+-- in a sheet of an edition, register 0 is a matrix of 2 by 4 hundreds, and is loaded without an object from byte 16, its columns from 2 on
+noObjectStrip : ℕ → Answer → Strip
+noObjectStrip number wanted =
+    record {
+      sheet = editionOf number ++ plain 8 1 ++ view (0 ∷ []) 2 ++ fill 2 4 100 ++ field 0x21 (0 ∷ 255 ∷ 0 ∷ 0 ∷ long 16);
+      memory = counting;
+      question = elements 0 8;
+      wanted = wanted;
+    }
+
 -- six pixels, and two bytes that are not read; 4 by 6 weights of s8, a column a line; 3 by 4 weights of s16, a row a line; three biases
 network : List ℕ
 network =
@@ -247,9 +257,12 @@ strips =
       question = elements 2 3;
       wanted = accepted (500 ∷ 965 ∷ 4294964296 ∷ []);
     }
+    -- document 02's T-03: what is skipped of a load without an object is kept in edition 2, and 0 in edition 3
+    ∷ noObjectStrip 2 (accepted (100 ∷ 100 ∷ 16 ∷ 17 ∷ 100 ∷ 100 ∷ 20 ∷ 21 ∷ []))
+    ∷ noObjectStrip 3 (accepted (0 ∷ 0 ∷ 16 ∷ 17 ∷ 0 ∷ 0 ∷ 20 ∷ 21 ∷ []))
     ∷ []
 
 -- each strip gives what is wanted
 pub strips-right : map found strips ≡ map (λ (s : Strip). s .wanted) strips
-unfolding strips word long field editionOf edition layout dimension view fill load store vector network Undefined Constant ClampToEdge Repeat MirrorRepeat countingFrom counting loadStrip storeStrip edged edgeStrip plain pick both between all line Little.u16At Little.u32At width bytesOf fits elementAt withElement Editions.tagKnown Editions.limits Editions.fillLength Sizes.offsetOk Codes.clampMode Codes.reduceMode Codes.combineOf Codes.memoryLayout Codes.objectOf Codes.viewingOf Layouts.noLayout Layouts.dimensionOk Layouts.dimensionUnused Layouts.dimensionAtOk Layouts.layoutOk Layouts.layoutUnused Views.noView Views.fresh Views.entryOk Views.viewDimensionUnused Views.viewDimensionAtOk Views.sizedRank Views.viewOk Views.clipUnused Views.viewUnused model.fillOk model.windowOk model.loadOk model.storeOk model.reduceOk model.transposeOk model.multiplyOk model.biasOk model.vectorOk interpretationOk Sheets.noTensors Sheets.emptySheet Fields.fieldAt Contents.dimensionAt Contents.dimensionsAt Contents.layoutAt Contents.layoutLengthOk Contents.layoutHeadOk Contents.permutationAt Contents.viewDimensionAt Contents.viewDimensionsAt Contents.clipAt Contents.viewOf Contents.viewAt Contents.viewLengthOk Contents.viewHeadOk stepContents.fillAt stepContents.windowAt stepContents.loadAt stepContents.storeAt stepContents.reduceAt stepContents.transposeAt stepContents.multiplyAt stepContents.vectorNumbers stepContents.vectorAt stepContents.stepAt stepContents.stepLength Reading.layoutMayCome Reading.viewMayCome Reading.stepMayCome Reading.editionRefusal Reading.layoutRefusal Reading.viewRefusal Reading.stepRefusal Reading.fieldRefusal Reading.withField Reading.refusedRead Reading.acceptedRead Reading.endRead Reading.turnField Reading.turn Reading.afterTurn Reading.readFrom Reading.readSheet emptyRegisters Combining.folded Rules.outsideClip Rules.outsideView Rules.indexed Indices.rowMajor Indices.viewSizes Indices.viewStrides Indices.coordinates Indices.viewCoordinates Indices.weighted Indices.viewIndex Spans.spanCoordinates value taken negative Clamps.turnedBack Clamps.mirrored Clamps.outside Clamps.clamped Rules.part Rules.tensorIndex Rules.addressed Rules.reached Rules.located accesses.elementOutcome accesses.otherRank accesses.blocksOne accesses.storeBlocked accesses.firstRefused clashes.meets clashes.clashFrom accesses.clashRefusal accesses.elementsRefusal accesses.accessRefusal accesses.placedCount accesses.checkedElements Grids.blank Grids.block Reducing.reduced shapes.reduceRefusal firstFrom sumZ Places.rowStep Places.columnStep Places.elementsOf Places.endOf vectors.inputAgrees vectors.memoryRefusal vectors.vectorRefusal Saturation.below Saturation.above Saturation.saturated Components.packedKind Components.componentAt Results.biasAt Results.resultAt transferred checks.accessCheck checks.checkedStep steps.withObject steps.loadDone steps.storeDone steps.performedStep checkedFrom checked checkedSheet performedFrom performed carried carriedMemory
+unfolding strips word long field editionOf edition layout dimension view fill load store vector noObjectStrip network Undefined Constant ClampToEdge Repeat MirrorRepeat countingFrom counting loadStrip storeStrip edged edgeStrip plain pick both between all line Little.u16At Little.u32At width bytesOf fits elementAt withElement Editions.noObject Editions.tagKnown Editions.limits Editions.fillLength Sizes.offsetOk Codes.clampMode Codes.reduceMode Codes.combineOf Codes.memoryLayout Codes.objectOf Codes.viewingOf Layouts.noLayout Layouts.dimensionOk Layouts.dimensionUnused Layouts.dimensionAtOk Layouts.layoutOk Layouts.layoutUnused Views.noView Views.fresh Views.entryOk Views.viewDimensionUnused Views.viewDimensionAtOk Views.sizedRank Views.viewOk Views.clipUnused Views.viewUnused model.fillOk model.windowOk model.loadOk model.storeOk model.reduceOk model.transposeOk model.multiplyOk model.biasOk model.vectorOk interpretationOk Sheets.noTensors Sheets.emptySheet Fields.fieldAt Contents.dimensionAt Contents.dimensionsAt Contents.layoutAt Contents.layoutLengthOk Contents.layoutHeadOk Contents.permutationAt Contents.viewDimensionAt Contents.viewDimensionsAt Contents.clipAt Contents.viewOf Contents.viewAt Contents.viewLengthOk Contents.viewHeadOk stepContents.fillAt stepContents.windowAt stepContents.loadAt stepContents.storeAt stepContents.reduceAt stepContents.transposeAt stepContents.multiplyAt stepContents.vectorNumbers stepContents.vectorAt stepContents.stepAt stepContents.stepLength Reading.layoutMayCome Reading.viewMayCome Reading.stepMayCome Reading.editionRefusal Reading.layoutRefusal Reading.viewRefusal Reading.stepRefusal Reading.fieldRefusal Reading.withField Reading.refusedRead Reading.acceptedRead Reading.endRead Reading.turnField Reading.turn Reading.afterTurn Reading.readFrom Reading.readSheet emptyRegisters Combining.folded Rules.outsideClip Rules.outsideView Rules.indexed Indices.rowMajor Indices.viewSizes Indices.viewStrides Indices.coordinates Indices.viewCoordinates Indices.weighted Indices.viewIndex Spans.spanCoordinates value taken negative Clamps.turnedBack Clamps.mirrored Clamps.outside Clamps.clamped Rules.part Rules.tensorIndex Rules.addressed Rules.reached Rules.located accesses.elementOutcome accesses.otherRank accesses.blocksOne accesses.storeBlocked accesses.firstRefused clashes.meets clashes.clashFrom accesses.clashRefusal accesses.elementsRefusal accesses.accessRefusal accesses.placedCount accesses.checkedElements Grids.blank Grids.block Reducing.reduced shapes.reduceRefusal firstFrom sumZ Places.rowStep Places.columnStep Places.elementsOf Places.endOf vectors.inputAgrees vectors.memoryRefusal vectors.vectorRefusal Saturation.below Saturation.above Saturation.saturated Components.packedKind Components.componentAt Results.biasAt Results.resultAt transferred checks.accessCheck checks.checkedStep steps.withObject steps.loadDone steps.storeDone steps.performedStep checkedFrom checked checkedSheet performedFrom performed carried carriedMemory
 strips-right = refl
