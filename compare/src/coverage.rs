@@ -8,8 +8,8 @@ use crate::jobs::{names_a_dimension, Answer, OutcomeRow};
 use crate::order_sights::Exchange;
 use crate::orders::{Card, Order};
 use crate::reference::{
-    check, do_step, read_sheet, Cause, Checked, Edition, Entry, Outcome, Refusal, Registers, Sheet,
-    Step, RECORD_NUMBERS, WHOLE_STEP,
+    check, read_sheet, Cause, Checked, Edition, Entry, Outcome, Refusal, Registers, Sheet, Step,
+    RECORD_NUMBERS, WHOLE_STEP,
 };
 use crate::tapes::Tape;
 use crate::{order_sights, side_sights, span_sights, trace_sights, vector_sights};
@@ -131,9 +131,9 @@ impl Coverage {
 
     fn accepted(&mut self, checked: Checked, mut memory: Vec<u8>) {
         let mut registers = Registers::default();
-        for (step, outcomes) in checked.sheet.steps.iter().zip(&checked.outcomes) {
-            self.step(&checked.sheet, step, outcomes, &registers, memory.len());
-            do_step(step, outcomes, &mut registers, &mut memory);
+        for number in 0..checked.sheet.steps.len() {
+            self.step(&checked, number, &registers);
+            checked.do_step(number, &mut registers, &mut memory);
         }
     }
 
@@ -146,16 +146,12 @@ impl Coverage {
         }
     }
 
-    fn step(
-        &mut self,
-        sheet: &Sheet,
-        step: &Step,
-        outcomes: &[Outcome],
-        registers: &Registers,
-        memory_len: usize,
-    ) {
+    /// Notes what a step does with what the registers hold before it.
+    fn step(&mut self, checked: &Checked, number: usize, registers: &Registers) {
+        let Checked { sheet, memory_len, .. } = checked;
+        let outcomes = &checked.outcomes[number];
         let kind = |register: usize| registers[register].as_ref().map_or(0, |m| m.type_.kind.0);
-        match *step {
+        match sheet.steps[number] {
             Step::Load { register, object, layout, view, .. } => {
                 self.sight(format!("load of kind {}", kind(object.unwrap_or(register))));
                 self.access("load", sheet, layout, view, outcomes);
@@ -181,7 +177,7 @@ impl Coverage {
             Step::Fill { kind, .. } => self.sight(format!("fill of kind {}", kind.0)),
             Step::Vector(ref vector) => {
                 let input = registers[vector.input].as_ref().expect("accepted");
-                for sight in vector_sights::of_accepted(vector, input, memory_len) {
+                for sight in vector_sights::of_accepted(vector, input, *memory_len) {
                     self.sight(sight);
                 }
             }

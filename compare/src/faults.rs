@@ -6,10 +6,9 @@ use crate::jobs::{
     outcome_row, verdict_row, Answer, Jobs, OutcomeRow, Reference, State, VerdictRow, AGREES,
 };
 use crate::reference::{
-    check, divides, do_step, entries, indices, read_sheet, read_trace, trace_bytes, verdict,
-    Addressing, Cause, Checked, Dimension, Edition, Entry, Interpretation, Kind, Located, Matrix,
-    MemoryLayout, Outcome, Outside, Registers, Side, Step, VectorStep, ACCESS_LENGTH, BIAS_SIZE,
-    PLACED,
+    check, divides, entries, indices, read_sheet, read_trace, trace_bytes, verdict, Addressing,
+    Cause, Checked, Dimension, Edition, Entry, Interpretation, Kind, Located, Matrix, MemoryLayout,
+    Outcome, Outside, Registers, Side, Step, VectorStep, ACCESS_LENGTH, BIAS_SIZE, PLACED,
 };
 use crate::side_sights::unclipped_index;
 use crate::span_sights::is_outside;
@@ -545,12 +544,12 @@ fn matrix_elements(sheet: &[u8], step: usize) -> u32 {
 fn carry_out_with(fault: Fault, sheet: &[u8], memory: &mut [u8]) -> Registers {
     let checked = check(sheet, memory.len()).expect("accepted");
     let mut registers = Registers::default();
-    for (step, outcomes) in checked.sheet.steps.iter().zip(&checked.outcomes) {
+    for (number, step) in checked.sheet.steps.iter().enumerate() {
         if let Step::Vector(vector) = step {
             let input = registers[vector.input].as_ref().expect("accepted");
             registers[vector.result] = Some(perform_with(fault, vector, input, memory));
         } else {
-            do_step(step, outcomes, &mut registers, memory);
+            checked.do_step(number, &mut registers, memory);
         }
     }
     registers

@@ -2,7 +2,7 @@
 //! store's placed elements in any order, each once.
 
 use crate::random::Random;
-use crate::reference::{do_step, Checked, Outcome, Registers, Step};
+use crate::reference::{Checked, Outcome, Registers, Step};
 use crate::stores::{is_store, Stores};
 
 /// The orders in which each store is performed.
@@ -47,9 +47,9 @@ impl Card {
 
     /// Performs a step of an accepted sheet.
     fn perform(&mut self, stores: &dyn Stores, checked: &Checked, number: usize) {
-        let (step, outcomes) = (&checked.sheet.steps[number], &checked.outcomes[number]);
-        let Step::Store { register, .. } = *step else {
-            do_step(step, outcomes, &mut self.registers, &mut self.memory);
+        let outcomes = &checked.outcomes[number];
+        let Step::Store { register, .. } = checked.sheet.steps[number] else {
+            checked.do_step(number, &mut self.registers, &mut self.memory);
             self.byte_elements += outcomes.iter().filter_map(|o| o.byte()).count() as u32;
             return;
         };
@@ -77,7 +77,7 @@ pub fn perform(
     let mut cards: Vec<Card> = (0..).zip(ORDERS).map(card).collect();
     let (mut registers, mut by_rows) = (Registers::default(), memory.to_vec());
     for (number, step) in steps.iter().enumerate() {
-        do_step(step, &checked.outcomes[number], &mut registers, &mut by_rows);
+        checked.do_step(number, &mut registers, &mut by_rows);
         for card in &mut cards {
             card.perform(stores, checked, number);
             if is_store(step) && card.memory != by_rows {

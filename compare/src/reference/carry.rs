@@ -2,6 +2,7 @@
 //! the steps, which can no longer fail.
 
 use super::addressing::{divisions, Access, Addressing, Outcome};
+use super::edition::Start;
 use super::refusal::{Cause, Refusal};
 use super::registers::{Matrix, Registers, Type};
 use super::sheet::{read_sheet, Sheet, Step};
@@ -52,6 +53,31 @@ impl Checked {
             }
         }
         count
+    }
+
+    /// What a load starts from; None for another step.
+    pub fn start(&self, step: usize) -> Option<Start> {
+        match self.sheet.steps[step] {
+            Step::Load { object, .. } => Some(self.sheet.edition.start(object)),
+            _ => None,
+        }
+    }
+
+    /// Does a step, all before it being done.
+    pub fn do_step(&self, number: usize, registers: &mut Registers, memory: &mut [u8]) {
+        let (step, outcomes) = (&self.sheet.steps[number], &self.outcomes[number]);
+        match *step {
+            Step::Load { register, object, .. } => {
+                let start = self.sheet.edition.start(object);
+                let mut matrix = started(start, register, registers);
+                load(&mut matrix, outcomes, memory);
+                registers[register] = Some(matrix);
+            }
+            Step::Store { register, .. } => {
+                store(registers[register].as_ref().expect("accepted"), outcomes, memory);
+            }
+            _ => do_whole(step, registers, memory),
+        }
     }
 }
 
@@ -163,28 +189,23 @@ fn later_at_an_earlier_byte(outcomes: &[Outcome]) -> Option<usize> {
 pub fn carry_out(sheet: &[u8], memory: &mut [u8]) -> Result<Carried, Refusal> {
     let checked = check(sheet, memory.len())?;
     let mut registers = Registers::default();
-    for (step, outcomes) in checked.sheet.steps.iter().zip(&checked.outcomes) {
-        do_step(step, outcomes, &mut registers, memory);
+    for step in 0..checked.sheet.steps.len() {
+        checked.do_step(step, &mut registers, memory);
     }
     Ok(Carried { registers, byte_elements: checked.byte_elements() })
 }
 
-/// Does a step that is known to be accepted.
-pub fn do_step(step: &Step, outcomes: &[Outcome], registers: &mut Registers, memory: &mut [u8]) {
-    match *step {
-        Step::Load { register, object, .. } => {
-            let mut matrix = registers[object.unwrap_or(register)].clone().expect("accepted");
-            load(&mut matrix, outcomes, memory);
-            registers[register] = Some(matrix);
-        }
-        Step::Store { register, .. } => {
-            store(registers[register].as_ref().expect("accepted"), outcomes, memory);
-        }
-        _ => do_whole(step, registers, memory),
+/// The matrix that a load of a register starts from.
+fn started(start: Start, register: usize, registers: &Registers) -> Matrix {
+    let held = |register: usize| registers[register].as_ref().expect("accepted");
+    match start {
+        Start::Object(object) => held(object).clone(),
+        Start::Own => held(register).clone(),
+        Start::Zeros => Matrix::filled(held(register).type_, 0),
     }
 }
 
-/// A skipped element keeps what the object has there.
+/// A skipped element keeps what the load started from.
 fn load(matrix: &mut Matrix, outcomes: &[Outcome], memory: &[u8]) {
     let size = matrix.type_.kind.size();
     for (element, outcome) in matrix.elements.iter_mut().zip(outcomes) {
@@ -220,7 +241,7 @@ pub fn put_bits(memory: &mut [u8], byte: usize, size: usize, bits: u32) {
 #[cfg(test)]
 mod tests {
     use super::super::sheet::{sheet_bytes, ClampMode, Clip, Dimension, Layout, View};
-    use super::super::Kind;
+    use super::super::{Edition, Kind};
     use super::*;
 
     fn fill(register: usize, rows: usize, columns: usize) -> Step {
@@ -248,6 +269,24 @@ mod tests {
         sheet.steps = vec![fill(0, 2, 4), fill(1, 1, 1)];
         sheet.steps.extend(steps.iter().copied().cloned());
         check(&sheet_bytes(&sheet), 3).map(|checked| checked.divisions()).expect("accepted")
+    }
+
+    #[test]
+    fn a_load_without_an_object_reads_its_own_register() {
+        let dimensions = vec![dimension(8, 1, 8)];
+        let layout = Layout { clamp_mode: ClampMode::Undefined, clamp_value: 0, dimensions };
+        let checked = |edition, register, object| {
+            let load = Step::Load { register, object, layout: 0, view: None, base: 0 };
+            let (layouts, steps) = (vec![layout.clone()], vec![fill(0, 2, 4), load]);
+            check(&sheet_bytes(&Sheet { edition, layouts, steps, ..Sheet::default() }), 8)
+        };
+        let empty = Refusal::at(Cause::EmptyRegister, 1);
+        for edition in Edition::ALL {
+            assert!(checked(edition, 0, None).is_ok());
+            assert!(checked(edition, 1, Some(0)).is_ok());
+            assert_eq!(checked(edition, 1, None).err(), Some(empty));
+            assert_eq!(checked(edition, 0, Some(1)).err(), Some(empty));
+        }
     }
 
     #[test]

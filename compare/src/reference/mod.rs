@@ -18,8 +18,8 @@ mod whole;
 pub use addressing::{
     divides, divisions, indices, side, Access, Addressing, Outcome, Outside, Side, DIMENSIONS_MAX,
 };
-pub use carry::{carry_out, check, check_step, do_step, Carried, Checked, Types};
-pub use edition::Edition;
+pub use carry::{carry_out, check, check_step, Carried, Checked, Types};
+pub use edition::{Edition, Start};
 pub use kind::Kind;
 pub use outcome::Located;
 pub use refusal::{Cause, Refusal};
@@ -28,7 +28,7 @@ pub use sheet::{
     read_sheet, sheet_bytes, write_sheet, ClampMode, Clip, Combine, Dimension, Layout, ReduceMode,
     Sheet, Step, View, ViewDimension,
 };
-pub use tape::{run_tape, translate, Record, Translated, WHOLE_STEP};
+pub use tape::{run_tape, step_records, translate, Record, Translated, FILL, WHOLE_STEP};
 pub use trace::{
     entries, read_trace, replay, trace, trace_bytes, verdict, Entry, Replayed, Verdict,
     ACCESS_LENGTH, PLACED,

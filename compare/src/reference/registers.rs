@@ -26,6 +26,11 @@ pub struct Matrix {
 }
 
 impl Matrix {
+    /// The matrix of a type whose elements are all alike.
+    pub fn filled(type_: Type, value: u32) -> Matrix {
+        Matrix { type_, elements: vec![value; type_.elements()] }
+    }
+
     /// The element at a row and a column.
     pub fn at(&self, row: usize, column: usize) -> u32 {
         self.elements[row * self.type_.columns + column]

@@ -689,6 +689,7 @@ mod tests {
 
     const EDITION_FIELD: [u8; 4] = [1, 1, 0, 1];
     const EDITION_2_FIELD: [u8; 4] = [1, 1, 0, 2];
+    const EDITION_3_FIELD: [u8; 4] = [1, 1, 0, 3];
     /// Register 1, s32, from register 2 packed unsigned, by a 5 by 6 matrix of s16 in columns of
     /// stride 0x0807 at 0x0C0B0A09, with a bias at 0x100F0E0D.
     const VECTOR_FIELD: [u8; 22] =
@@ -709,11 +710,15 @@ mod tests {
         assert_eq!(refused(&[0x24, 1, 0, 0]), (3, [0, 0]));
         assert_eq!(refused(&[1, 2, 0, 1, 1]), (4, [0, 0]));
         assert_eq!(refused(&[1, 1, 0, 0]), (6, [0, 0]));
-        assert_eq!(refused(&[1, 1, 0, 3]), (6, [0, 0]));
+        assert_eq!(refused(&[1, 1, 0, 4]), (6, [0, 0]));
+        assert_eq!(refused(&[1, 1, 0, 255]), (6, [0, 0]));
         assert_eq!(refused(&[&EDITION_FIELD[..], &[1]].concat()), (1, [4, 0]));
         assert_eq!(refused(&[&EDITION_FIELD[..], &EDITION_FIELD].concat()), (3, [4, 0]));
         assert_eq!(refused(&[&EDITION_FIELD[..], &[0x24, 2, 0, 4, 0]].concat()), (5, [4, 0]));
-        assert!(read_sheet(&EDITION_FIELD).is_ok());
+        for edition in Edition::ALL {
+            let sheet = read_sheet(&[1, 1, 0, edition.number()]).expect("accepted");
+            assert_eq!(sheet.edition, edition);
+        }
     }
 
     #[test]
@@ -785,6 +790,9 @@ mod tests {
         let place = [4 + steps.len() as u32, 0];
         assert_eq!(after(&[&EDITION_2_FIELD[..], &steps].concat(), &short), (3, place));
         assert_eq!(after(&[&EDITION_FIELD[..], &steps].concat(), &short), (2, place));
+        // A later edition takes it still.
+        assert_eq!(after(&EDITION_3_FIELD, &short), (4, [4, 0]));
+        assert!(read_sheet(&[&EDITION_3_FIELD[..], &VECTOR_FIELD].concat()).is_ok());
         // It is a step: no layout comes after it.
         let stepped = [&EDITION_2_FIELD[..], &VECTOR_FIELD].concat();
         assert_eq!(after(&stepped, &[0x10, 0, 0]), (3, [26, 0]));

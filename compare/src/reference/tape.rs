@@ -1,7 +1,8 @@
 //! The tape: translating a sheet into records, and running records.
 
 use super::addressing::Outcome;
-use super::carry::{bits_at, check, put_bits, Carried, Types};
+use super::carry::{bits_at, check, put_bits, Carried, Checked, Types};
+use super::edition::Start;
 use super::refusal::{Cause, Refusal};
 use super::registers::{Registers, Type};
 use super::sheet::{read_sheet, Sheet, Step};
@@ -11,7 +12,8 @@ use super::{check_memory, RECORDS_MAX, RECORD_NUMBERS, REGISTERS};
 const COPY: i32 = 0;
 const TAKE: i32 = 1;
 const PUT: i32 = 2;
-const FILL: i32 = 3;
+/// The op of a run of elements that get a value.
+pub const FILL: i32 = 3;
 /// The op of a step that the tape does not take apart.
 pub const WHOLE_STEP: i32 = 4;
 const BYTE_STEP_MAX: i32 = 65_535;
@@ -29,8 +31,8 @@ pub struct Translated {
 pub fn translate(sheet: &[u8], memory_len: usize, room: usize) -> Result<Translated, Refusal> {
     let checked = check(sheet, memory_len)?;
     let mut records = Vec::new();
-    for (number, step) in checked.sheet.steps.iter().enumerate() {
-        step_records(number, step, &checked.outcomes[number], &mut records);
+    for step in 0..checked.sheet.steps.len() {
+        step_records(&checked, step, &mut records);
     }
     if records.len() > RECORDS_MAX {
         return Err(Refusal::nowhere(Cause::TooManyRecords));
@@ -41,16 +43,27 @@ pub fn translate(sheet: &[u8], memory_len: usize, room: usize) -> Result<Transla
     Ok(Translated { records, byte_elements: checked.byte_elements() })
 }
 
-fn step_records(number: usize, step: &Step, outcomes: &[Outcome], records: &mut Vec<Record>) {
-    match *step {
+/// Adds the records of a step of an accepted sheet.
+pub fn step_records(checked: &Checked, number: usize, records: &mut Vec<Record>) {
+    let outcomes = &checked.outcomes[number];
+    match checked.sheet.steps[number] {
         Step::Load { register, object, .. } => {
-            if let Some(object) = object {
-                records.push([COPY, register as i32, object as i32, 0, 0, 0]);
-            }
+            let start = checked.sheet.edition.start(object);
+            records.extend(start_record(start, register, outcomes.len()));
             push_runs(TAKE, register, outcomes, records);
         }
         Step::Store { register, .. } => push_runs(PUT, register, outcomes, records),
         _ => records.push([WHOLE_STEP, number as i32, 0, 0, 0, 0]),
+    }
+}
+
+/// The record before the runs of a load with so many elements, if there is one.
+fn start_record(start: Start, register: usize, elements: usize) -> Option<Record> {
+    let register = register as i32;
+    match start {
+        Start::Object(object) => Some([COPY, register, object as i32, 0, 0, 0]),
+        Start::Own => None,
+        Start::Zeros => Some([FILL, register, 0, elements as i32, 0, 0]),
     }
 }
 
@@ -265,8 +278,10 @@ fn run_record(sheet: &Sheet, record: &Record, carried: &mut Carried, memory: &mu
 #[cfg(test)]
 mod tests {
     use super::super::carry::carry_out;
-    use super::super::sheet::{sheet_bytes, ClampMode, Combine, Dimension, Layout, ReduceMode};
-    use super::super::Kind;
+    use super::super::sheet::{
+        sheet_bytes, ClampMode, Clip, Combine, Dimension, Layout, ReduceMode, View,
+    };
+    use super::super::{Edition, Kind};
     use super::*;
 
     /// A fill of register 0, 2 by 3, a load of it, and a reduction of all of register 1 to 2.
@@ -317,6 +332,66 @@ mod tests {
         assert_eq!(translated.records, [FILL_0, [TAKE, 0, 0, 6, 0, 2]]);
         assert_eq!(translated.byte_elements, 6);
         assert_eq!(translate(&bytes, 16, 11).err(), Some(Refusal::nowhere(Cause::TapeRoom)));
+    }
+
+    const COPY_0: Record = [COPY, 0, 0, 0, 0, 0];
+    const ZEROS_0: Record = [FILL, 0, 0, 8, 0, 0];
+
+    /// What register 0 holds and the tape, both behind its fill: 2 by 4 of 100, then loaded from byte
+    /// 16 on, but for the columns before one. Eight places from an offset on are meant; those
+    /// outside get 0.
+    fn loaded(
+        edition: Edition,
+        object: Option<usize>,
+        offset: i16,
+        column_offset: u16,
+    ) -> (Vec<u32>, Vec<Record>) {
+        let dimensions = vec![Dimension { block_size: 1, size: 8, stride: 1, offset, span: 8 }];
+        let clip = Clip { row_offset: 0, row_span: 2, column_offset, column_span: 65_535 };
+        let sheet = sheet_bytes(&Sheet {
+            edition,
+            layouts: vec![Layout { clamp_mode: ClampMode::Constant, clamp_value: 0, dimensions }],
+            views: vec![View { permutation: vec![0], dimensions: None, clip }],
+            steps: vec![
+                Step::Fill { register: 0, rows: 2, columns: 4, kind: Kind::U8, value: 100 },
+                Step::Load { register: 0, object, layout: 0, view: Some(0), base: 16 },
+            ],
+        });
+        let mut memory: Vec<u8> = (0..24).collect();
+        let [matrix, ..] = carry_out(&sheet, &mut memory).expect("accepted").registers;
+        let records = translate(&sheet, memory.len(), 60).expect("accepted").records;
+        let ran = run_tape(&sheet, &records.concat(), records.len(), &mut memory);
+        assert_eq!(ran.expect("accepted").registers[0], matrix);
+        assert_eq!(records[0], FILL_0);
+        (matrix.expect("not empty").elements, records[1..].to_vec())
+    }
+
+    #[test]
+    fn a_load_without_an_object_starts_from_zeros_from_edition_3_on() {
+        let takes = [[TAKE, 0, 2, 2, 16, 1], [TAKE, 0, 6, 2, 20, 1]];
+        let with_skipped = |skipped| [skipped, skipped, 16, 17, skipped, skipped, 20, 21].to_vec();
+        for edition in [Edition::One, Edition::Two] {
+            assert_eq!(loaded(edition, None, 0, 2), (with_skipped(100), takes.to_vec()));
+        }
+        let records = [&[ZEROS_0][..], &takes].concat();
+        assert_eq!(loaded(Edition::Three, None, 0, 2), (with_skipped(0), records));
+        let records = [&[COPY_0][..], &takes].concat();
+        for edition in Edition::ALL {
+            let of_itself = loaded(edition, Some(0), 0, 2);
+            assert_eq!(of_itself, (with_skipped(100), records.clone()));
+        }
+    }
+
+    #[test]
+    fn the_zeros_have_a_record_that_is_always_there_and_joined_with_none() {
+        let loaded = |offset, column_offset| loaded(Edition::Three, None, offset, column_offset);
+        let taken = [TAKE, 0, 0, 8, 16, 1];
+        assert_eq!(loaded(0, 0), ((16..24).collect(), vec![ZEROS_0, taken]));
+        let (filled, taken) = ([FILL, 0, 0, 2, 0, 0], [TAKE, 0, 2, 6, 16, 1]);
+        let elements = vec![0, 0, 16, 17, 18, 19, 20, 21];
+        assert_eq!(loaded(-2, 0), (elements, vec![ZEROS_0, filled, taken]));
+        assert_eq!(loaded(-8, 0), (vec![0; 8], vec![ZEROS_0, ZEROS_0]));
+        assert_eq!(loaded(0, 4), (vec![0; 8], vec![ZEROS_0]));
     }
 
     #[test]

@@ -70,8 +70,7 @@ pub fn do_whole(step: &Step, registers: &mut Registers, memory: &[u8]) {
     let of = |register: usize| registers[register].as_ref().expect("accepted");
     let (register, matrix) = match *step {
         Step::Fill { register, rows, columns, kind, value } => {
-            let type_ = Type { kind, rows, columns };
-            (register, Matrix { type_, elements: vec![value; type_.elements()] })
+            (register, Matrix::filled(Type { kind, rows, columns }, value))
         }
         Step::Reduce { result, source, rows, columns, mode, combine } => {
             (result, reduced(of(source), rows, columns, mode, combine))
