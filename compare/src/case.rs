@@ -2,6 +2,7 @@
 
 use std::hint::black_box;
 
+use crate::clipped::clipped_loads;
 use crate::coverage::Coverage;
 use crate::damage::{damage, noise};
 use crate::generate::{generate, many_records, partly_outside, Generated};
@@ -31,6 +32,8 @@ const CASES_AN_EDITION: u64 = 1 << 48;
 pub const FIRST_PARTLY_OUTSIDE: u64 = CASES_AN_EDITION / 2;
 /// From this one on they have neighbouring stores.
 pub const FIRST_NEIGHBOURING: u64 = CASES_AN_EDITION / 4 * 3;
+/// From this one on they have loads through clipped views.
+pub const FIRST_CLIPPED: u64 = CASES_AN_EDITION / 8 * 7;
 
 /// The inputs of every job.
 #[derive(Clone)]
@@ -78,7 +81,8 @@ impl Case {
         let Generated { sheet, memory_len } = match number {
             ..FIRST_PARTLY_OUTSIDE => any_sheet(random, edition),
             FIRST_PARTLY_OUTSIDE..FIRST_NEIGHBOURING => partly_outside(random, edition),
-            FIRST_NEIGHBOURING.. => neighbouring_stores(random, edition),
+            FIRST_NEIGHBOURING..FIRST_CLIPPED => neighbouring_stores(random, edition),
+            FIRST_CLIPPED.. => clipped_loads(random, edition),
         };
         Case::of_sheet(random, edition, sheet, memory_len)
     }
@@ -333,7 +337,7 @@ impl<'a> Comparison<'a> {
         self.same(Job::Check, |jobs| check_exit(jobs, sheet, *told_len))?;
         self.same(Job::Translate, |jobs| translate_exit(jobs, sheet, *told_len, case.tape_room))?;
         for tape in &case.tapes {
-            self.same(Job::Run, |jobs| run_exit(jobs, case, tape))?;
+            self.tape_is_run_alike(case, tape)?;
         }
         for trace in &case.traces {
             self.same(Job::Replay, |jobs| replay_exit(jobs, case, trace))?;
@@ -369,6 +373,17 @@ impl<'a> Comparison<'a> {
         Ok(archive)
     }
 
+    /// A tape beside the sheet's own leaves the same on both sides, or is refused alike.
+    fn tape_is_run_alike(&mut self, case: &Case, tape: &Tape) -> Result<(), String> {
+        let ran = self.same(Job::Run, |jobs| run_exit(jobs, case, tape))?;
+        if let (17, Some(cause)) = (ran.returned, self.reference.cause()) {
+            if let Ok(checked) = check(&case.sheet, case.memory.len()) {
+                self.coverage.refused_record(&checked, tape, ran.answer[1] as usize, cause);
+            }
+        }
+        Ok(())
+    }
+
     /// What was read is written back as the same bytes.
     fn round_trip(&self, case: &Case) -> Result<(), String> {
         let exit = rewrite_exit(self.archive, &case.sheet, case.sheet.len());
@@ -384,6 +399,11 @@ impl<'a> Comparison<'a> {
         let length = case.memory.len();
         let translated =
             self.same(Job::Translate, |jobs| translate_exit(jobs, &case.sheet, length, TAPE_ROOM))?;
+        let Ok(checked) = check(&case.sheet, length) else { return Ok(()) };
+        // Told another length, it was refused before its room was looked at.
+        if case.told_len == length {
+            self.coverage.tape_room(&checked, case.tape_room);
+        }
         if translated.returned != 0 {
             return Ok(());
         }
@@ -395,7 +415,7 @@ impl<'a> Comparison<'a> {
         if let Some(difference) = ran.difference(carried) {
             return Err(format!("the tape's run differs from carrying out in {difference}"));
         }
-        self.coverage.tape(&case.sheet, &tape);
+        self.coverage.tape(&checked, &tape);
         Ok(())
     }
 
@@ -567,5 +587,6 @@ mod tests {
         let sheets = |edition| (0..1_000).flat_map(move |k| Case::of_seed(edition, 1, k).sheet);
         assert_eq!(hash(sheets(Edition::One)), 0xC95C_BF9F_4656_CA79);
         assert_eq!(hash(sheets(Edition::Two)), 0x075D_D235_26F5_0940);
+        assert_eq!(hash(sheets(Edition::Three)), 0x9120_7847_CBC0_24A1);
     }
 }

@@ -4,6 +4,7 @@
 use std::collections::{BTreeMap, BTreeSet};
 
 use crate::case::Job;
+use crate::damage::editions;
 use crate::jobs::{names_a_dimension, Answer, OutcomeRow};
 use crate::order_sights::Exchange;
 use crate::orders::{Card, Order};
@@ -12,7 +13,7 @@ use crate::reference::{
     RECORD_NUMBERS, WHOLE_STEP,
 };
 use crate::tapes::Tape;
-use crate::{order_sights, side_sights, span_sights, trace_sights, vector_sights};
+use crate::{object_sights, order_sights, side_sights, span_sights, trace_sights, vector_sights};
 
 /// How many different places a refusal is to be met at, where it has more than one.
 const PLACES: usize = 3;
@@ -20,6 +21,8 @@ const PLACES: usize = 3;
 const PLACES_KEPT: usize = 1_000;
 /// One in so many sheets is to have a vector step, where the edition has such steps.
 const VECTORS_ONE_IN: u64 = 3;
+/// Where a sheet's first field has the edition.
+pub const EDITION_AT: usize = 3;
 const JOBS: [Job; 10] = [
     Job::Read,
     Job::Rewrite,
@@ -80,6 +83,10 @@ fn has_one_place(number: u32) -> bool {
     matches!(number, 0 | 6 | 16 | 18 | 19)
 }
 
+fn wrong_edition(number: u8) -> String {
+    format!("edition {number} refused")
+}
+
 fn is_vector(step: &Step) -> bool {
     matches!(step, Step::Vector(_))
 }
@@ -120,13 +127,21 @@ impl Coverage {
 
     /// Notes what carrying out a sheet does, and where it is refused.
     pub fn sheet(&mut self, sheet: &[u8], memory: &[u8]) {
-        let steps = read_sheet(sheet).map_or(Vec::new(), |sheet| sheet.steps);
+        let model = read_sheet(sheet).unwrap_or_default();
         self.sheets += 1;
-        self.sheets_with_vectors += u64::from(steps.iter().any(is_vector));
+        self.sheets_with_vectors += u64::from(model.steps.iter().any(is_vector));
         match check(sheet, memory.len()) {
             Ok(checked) => self.accepted(checked, memory.to_vec()),
-            Err(refusal) => self.refused(&steps, refusal, memory.len()),
+            Err(Refusal { cause: Cause::WrongEdition, .. }) => {
+                self.sight(wrong_edition(sheet[EDITION_AT]));
+            }
+            Err(refusal) => self.refused(&model, refusal, memory.len()),
         }
+    }
+
+    /// Whether a sheet is of the edition that it was made for: a damaged one may name another.
+    fn is_own(&self, sheet: &Sheet) -> bool {
+        sheet.edition == self.edition
     }
 
     fn accepted(&mut self, checked: Checked, mut memory: Vec<u8>) {
@@ -137,11 +152,17 @@ impl Coverage {
         }
     }
 
-    fn refused(&mut self, steps: &[Step], refusal: Refusal, memory_len: usize) {
+    fn refused(&mut self, sheet: &Sheet, refusal: Refusal, memory_len: usize) {
         let [step, element] = refusal.place.map(|number| number as usize);
-        if let (14, Some(Step::Vector(vector))) = (refusal.cause.number(), steps.get(step)) {
+        let Some(step) = sheet.steps.get(step) else { return };
+        if let (14, Step::Vector(vector)) = (refusal.cause.number(), step) {
             if let Some(sight) = vector_sights::of_refused(vector, element, memory_len) {
                 self.sight(sight);
+            }
+        }
+        if self.is_own(sheet) {
+            if let Some(sight) = object_sights::of_refused(step, refusal.cause) {
+                self.sight(String::from(sight));
             }
         }
     }
@@ -155,6 +176,11 @@ impl Coverage {
             Step::Load { register, object, layout, view, .. } => {
                 self.sight(format!("load of kind {}", kind(object.unwrap_or(register))));
                 self.access("load", sheet, layout, view, outcomes);
+                if self.is_own(sheet) {
+                    for sight in object_sights::of_load(register, object, outcomes, registers) {
+                        self.sight(sight);
+                    }
+                }
             }
             Step::Store { register, layout, view, .. } => {
                 self.sight(format!("store of kind {}", kind(register)));
@@ -217,9 +243,9 @@ impl Coverage {
         sort("placed", |outcome| matches!(outcome, Outcome::Placed(_)));
     }
 
-    /// Notes the records of a sheet's tape, which was run.
-    pub fn tape(&mut self, sheet: &[u8], tape: &Tape) {
-        let steps = read_sheet(sheet).expect("accepted").steps;
+    /// Notes the records of an accepted sheet's tape, which was run.
+    pub fn tape(&mut self, checked: &Checked, tape: &Tape) {
+        let steps = &checked.sheet.steps;
         let records = || tape.numbers.chunks_exact(RECORD_NUMBERS);
         for op in 0..5 {
             if records().any(|record| record[0] == op) {
@@ -229,6 +255,23 @@ impl Coverage {
         let whole = |record: &[i32]| (record[0] == WHOLE_STEP).then(|| &steps[record[1] as usize]);
         if records().filter_map(whole).any(is_vector) {
             self.sight(String::from(vector_sights::RECORD));
+        }
+        for sight in object_sights::of_tape(checked) {
+            self.sight(String::from(sight));
+        }
+    }
+
+    /// Notes the room for the tape of an accepted sheet, in numbers.
+    pub fn tape_room(&mut self, checked: &Checked, room: usize) {
+        if let Some(sight) = object_sights::of_room(checked, room) {
+            self.sight(String::from(sight));
+        }
+    }
+
+    /// Notes a tape beside an accepted sheet's own that is refused at a record.
+    pub fn refused_record(&mut self, checked: &Checked, tape: &Tape, at: usize, cause: Cause) {
+        if let Some(sight) = object_sights::of_refused_record(checked, tape, at, cause) {
+            self.sight(sight);
         }
     }
 
@@ -397,6 +440,9 @@ fn sights(edition: Edition) -> Vec<String> {
     sights.extend(span_sights::every());
     sights.extend(side_sights::every());
     sights.extend(order_sights::every());
+    sights.extend(object_sights::every(edition));
+    let is_wrong = |number: &u8| Edition::of_number(*number).is_none();
+    sights.extend(editions(edition).into_iter().filter(is_wrong).map(wrong_edition));
     if edition.has_vectors() {
         sights.extend(vector_sights::every());
     }

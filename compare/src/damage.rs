@@ -11,7 +11,6 @@ const TAGS: [u8; 14] =
     [0x00, 0x01, 0x02, 0x10, 0x11, 0x12, 0x1F, 0x20, 0x21, 0x22, 0x23, 0x24, 0x25, 0x26];
 const LENGTHS: [u16; 25] =
     [0, 1, 2, 3, 4, 5, 6, 7, 8, 9, 10, 11, 12, 15, 16, 20, 25, 26, 30, 35, 36, 40, 46, 56, 66];
-const EDITIONS: [u8; 3] = [0, 1, 2];
 
 /// The limits of block size, dimension, span and view dimension, and the numbers past them.
 const EXTENTS: [u16; 4] = [0, 1, 4_096, 4_097];
@@ -53,12 +52,11 @@ impl Stock {
             edition,
             tags: TAGS.to_vec(),
             lengths: LENGTHS.to_vec(),
-            editions: EDITIONS.to_vec(),
+            editions: editions(edition),
         };
         if edition.has_vectors() {
             stock.tags.extend([VECTOR, VECTOR + 1]);
             stock.lengths.extend([18, 19]);
-            stock.editions.push(3);
         }
         stock
     }
@@ -80,6 +78,15 @@ impl Stock {
             }
             _ => vec![],
         }
+    }
+}
+
+/// The numbers that sheets of an edition get in place of their own.
+pub fn editions(edition: Edition) -> Vec<u8> {
+    match edition {
+        Edition::One => vec![0, 1, 2],
+        Edition::Two => vec![0, 1, 2, 3],
+        Edition::Three => vec![0, 1, 2, 3, 4, 255],
     }
 }
 

@@ -626,6 +626,7 @@ fn no_cases_meet_nothing() {
     let missing = |edition| Coverage::new(edition).missing().len();
     assert!(missing(Edition::One) > 200);
     assert!(missing(Edition::Two) > missing(Edition::One) + 80);
+    assert!(missing(Edition::Three) > missing(Edition::Two) + 15);
 }
 
 /// What some of an edition's cases met, with the reference on both sides.

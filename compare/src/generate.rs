@@ -4,8 +4,8 @@ use crate::random::Random;
 use crate::reference::{
     check, check_step, sheet_bytes, whole_type, Cause, Checked, ClampMode, Clip, Combine,
     Dimension, Edition, Interpretation, Kind, Layout, MemoryLayout, Outcome, ReduceMode, Sheet,
-    Step, Type, Types, VectorStep, View, ViewDimension, BIAS_SIZE, COMPONENTS_A_WORD, MEMORY_MAX,
-    REGISTERS, SIDE_MAX,
+    Start, Step, Type, Types, VectorStep, View, ViewDimension, BIAS_SIZE, COMPONENTS_A_WORD,
+    MEMORY_MAX, REGISTERS, SIDE_MAX,
 };
 
 const STEPS_MAX: usize = 32;
@@ -157,15 +157,18 @@ pub fn many_records(random: &mut Random, edition: Edition) -> Vec<u8> {
     let layout =
         Layout { clamp_mode: ClampMode::MirrorRepeat, clamp_value: 0, dimensions: vec![zigzag] };
     let mut sheet = Sheet { edition, layouts: vec![layout], ..Sheet::default() };
+    // The records before a load's runs, that of its register's fill aside.
+    let zeros = usize::from(edition.start(None) == Start::Zeros);
     while missing > 0 {
         let register = random.below(REGISTERS);
         let kind = Kind(random.below(6) as u8);
-        let runs = (missing - 1).min(128);
+        let runs = missing.saturating_sub(1 + zeros).min(128);
         let (rows, columns) = if runs < 8 { (1, (2 * runs).max(1)) } else { (runs / 8, 16) };
         sheet.steps.push(Step::Fill { register, rows, columns, kind, value: 0 });
         if runs > 0 {
             let base = 16 * random.below(4_096) as u32;
             sheet.steps.push(Step::Load { register, object: None, layout: 0, view: None, base });
+            missing -= zeros;
         }
         missing -= 1 + if runs < 8 { runs } else { runs / 8 * 8 };
     }
@@ -502,7 +505,7 @@ impl StepMaker<'_> {
         self.load_of(register, Some(object), sheet)
     }
 
-    fn load_of(&mut self, register: usize, object: Option<usize>, sheet: &Sheet) -> Step {
+    pub fn load_of(&mut self, register: usize, object: Option<usize>, sheet: &Sheet) -> Step {
         let layout = self.random.below(sheet.layouts.len());
         Step::Load { register, object, layout, view: self.view(sheet), base: self.base() }
     }

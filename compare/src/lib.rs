@@ -2,6 +2,7 @@
 
 pub mod bench;
 pub mod case;
+mod clipped;
 pub mod coverage;
 pub mod damage;
 #[cfg(test)]
@@ -9,6 +10,7 @@ mod faults;
 pub mod generate;
 pub mod jobs;
 mod neighbours;
+mod object_sights;
 mod order_sights;
 mod orders;
 mod outcomes;

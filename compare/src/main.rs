@@ -10,7 +10,9 @@ use std::time::Instant;
 
 use archive::Archive;
 use compare::bench::{bench, bench_sides, timed_sheets};
-use compare::case::{Asked, Case, Comparison, FIRST_NEIGHBOURING, FIRST_PARTLY_OUTSIDE};
+use compare::case::{
+    Asked, Case, Comparison, FIRST_CLIPPED, FIRST_NEIGHBOURING, FIRST_PARTLY_OUTSIDE,
+};
 use compare::coverage::Coverage;
 use compare::jobs::Reference;
 use compare::random::Random;
@@ -21,10 +23,11 @@ use compare::strips::check_strips;
 const HELP: &str = "\
 compare [--sheets N] [--seed S] [--edition E] [--case K] [--trace]
     Compare every public job of the archive with the reference on the sheets of the timings and,
-    of each edition, on N random sheets (20000), on N/20 more that are partly outside and on N/20
-    with neighbouring stores. Perform the stores of each in other orders, and exchange neighbouring
-    ones. The same seed gives the same sheets. --edition E takes only the random sheets of edition
-    E, --case K only sheet K of them, --trace prints the number of each before it is tried.
+    of each edition, on N random sheets (20000), on N/20 more that are partly outside, on N/20 with
+    neighbouring stores and on N/20 with clipped loads. Perform the stores of each in other orders,
+    and exchange neighbouring ones. The same seed gives the same sheets. --edition E takes only the
+    random sheets of edition E, --case K only sheet K of them, --trace prints the number of each
+    before it is tried.
 compare bench [--sides] [--samples N]
     Time both sides on named sheets, N samples each (51). --sides prints only the last table, of
     what lies outside.
@@ -34,7 +37,8 @@ compare dump FOLDER [--sheets N] [--seed S] [--edition E]
 
 /// From this many sheets of an edition on, every refusal and every outcome must have been met.
 const SHEETS_FOR_COVERAGE: u64 = 20_000;
-/// For so many sheets there is one more that is partly outside, and one with neighbouring stores.
+/// For so many sheets there is one more that is partly outside, one with neighbouring stores and one
+/// with clipped loads.
 const SHEETS_A_SPECIAL: u64 = 20;
 const SEED: u64 = 1;
 /// Each sheet of the timings is compared so often, with other traces each time.
@@ -258,8 +262,8 @@ fn numbers(options: &Options) -> Vec<u64> {
         return vec![case];
     }
     let special = |first| first..first + options.sheets / SHEETS_A_SPECIAL;
-    let (outside, neighbours) = (special(FIRST_PARTLY_OUTSIDE), special(FIRST_NEIGHBOURING));
-    (0..options.sheets).chain(outside).chain(neighbours).collect()
+    let specials = [FIRST_PARTLY_OUTSIDE, FIRST_NEIGHBOURING, FIRST_CLIPPED].map(special);
+    (0..options.sheets).chain(specials.into_iter().flatten()).collect()
 }
 
 /// Compares every job on a case. One that fails is shrunk, and all is said about it.

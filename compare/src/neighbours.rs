@@ -20,7 +20,7 @@ const TRIES: usize = 200;
 /// Shapes beside random ones: one element, and those with which some kinds fill paragraphs.
 const SHAPES: [(usize, usize); 7] = [(1, 1), (1, 1), (1, 4), (4, 4), (2, 8), (1, 16), (8, 8)];
 /// The most elements of a matrix: no index of an element comes to it.
-const ELEMENTS: u16 = 256;
+pub const ELEMENTS: u16 = 256;
 /// The first layout of each sheet, by which registers are loaded.
 const LINE: usize = 0;
 
@@ -47,7 +47,7 @@ pub fn neighbouring_stores(random: &mut Random, edition: Edition) -> Generated {
 }
 
 /// Elements one after the other, some of the later ones outside.
-fn line(random: &mut Random) -> Layout {
+pub fn line(random: &mut Random) -> Layout {
     let (size, offset) = (random.pick(&[16, 64, ELEMENTS]), random.pick(&[0, 0, 0, -1, 1]));
     let dimension = Dimension { block_size: 1, size, stride: 1, offset, span: ELEMENTS };
     let clamp_mode = random.pick(&[ClampMode::Constant, ClampMode::Repeat]);
