@@ -1,14 +1,19 @@
 //! Tests of the comparison itself: an implementation with one fault must be found out.
 
-use crate::case::{Case, Comparison};
-use crate::coverage::Coverage;
+use std::ops::Range;
+
+use crate::case::{Case, Comparison, FIRST_CLIPPED};
+use crate::coverage::{Coverage, EDITION_AT};
 use crate::jobs::{
-    outcome_row, verdict_row, Answer, Jobs, OutcomeRow, Reference, State, VerdictRow, AGREES,
+    outcome_row, put_records, verdict_row, Answer, Jobs, OutcomeRow, Reference, State, VerdictRow,
+    AGREES,
 };
+use crate::object_faults::{self, ObjectFault, OBJECT_FAULTS};
 use crate::reference::{
     check, divides, entries, indices, read_sheet, read_trace, trace_bytes, verdict, Addressing,
     Cause, Checked, Dimension, Edition, Entry, Interpretation, Kind, Located, Matrix, MemoryLayout,
     Outcome, Outside, Registers, Side, Step, VectorStep, ACCESS_LENGTH, BIAS_SIZE, PLACED,
+    RECORD_NUMBERS,
 };
 use crate::side_sights::unclipped_index;
 use crate::span_sights::is_outside;
@@ -17,6 +22,8 @@ use crate::traces::{mended, BYTE, SORT};
 
 /// So many cases find each fault out.
 const CASES: u64 = 400;
+/// Fewer find out a fault in what loads start from: they load through clipped views.
+const CLIPPED: Range<u64> = FIRST_CLIPPED..FIRST_CLIPPED + 100;
 
 /// What an implementation does wrong.
 #[derive(Clone, Copy, Debug)]
@@ -74,6 +81,8 @@ enum Fault {
     GivesOutcomesByTheRegistersSize,
     CountsTheOutcome,
     KeepsTheOutcomeOfRefused,
+    TakesEdition4,
+    Object(ObjectFault),
 }
 
 const FAULTS: [Fault; 8] = [
@@ -155,11 +164,12 @@ struct Faulty {
 
 impl Jobs for Faulty {
     fn read(&self, sheet: &[u8], counts: &mut [u32; 3], answer: &mut Answer) -> u32 {
-        let mut sheet = sheet.to_vec();
-        if matches!(self.fault, Fault::TakesVectorsInEdition1) && sheet.starts_with(&EDITION_1) {
-            sheet[..EDITION_2.len()].copy_from_slice(&EDITION_2);
-        }
-        let number = self.reference.read(&sheet, counts, answer);
+        let sheet = &match self.fault {
+            Fault::TakesVectorsInEdition1 => taken_for(sheet, 1, 2),
+            Fault::TakesEdition4 => taken_for(sheet, 4, 3),
+            _ => sheet.to_vec(),
+        };
+        let number = self.reference.read(sheet, counts, answer);
         if matches!(self.fault, Fault::KeepsCountsOfRefused) && number != 0 {
             counts[0] = 1;
         }
@@ -183,9 +193,15 @@ impl Jobs for Faulty {
             Fault::NumbersTheBiasFrom0 if self.reference.cause() == Some(Cause::BiasPastMemory) => {
                 answer[2] -= matrix_elements(sheet, answer[1] as usize);
             }
+            Fault::Object(fault) if self.reference.cause() == Some(Cause::EmptyRegister) => {
+                let steps = read_sheet(sheet).expect("read before").steps;
+                if object_faults::takes(fault, &steps[answer[1] as usize]) {
+                    *answer = [0; 4];
+                }
+            }
             _ => {}
         }
-        number
+        answer[0]
     }
 
     fn carry_out(
@@ -221,6 +237,13 @@ impl Jobs for Faulty {
         let number = self.reference.translate(sheet, memory_len, tape, records, answer);
         if let (Fault::WritesPastTheTape, Some(last)) = (self.fault, tape.last_mut()) {
             *last = 0;
+        }
+        if let (Fault::Object(fault), 0) = (self.fault, number) {
+            let checked = check(sheet, memory_len).expect("accepted");
+            let faulty = object_faults::records(fault, checked);
+            if faulty.len() <= tape.len() / RECORD_NUMBERS {
+                *records = put_records(&faulty, tape);
+            }
         }
         number
     }
@@ -529,8 +552,14 @@ fn side_with(fault: Fault, coordinate: i64, size: u16, side: Side) -> Side {
     }
 }
 
-const EDITION_1: [u8; 4] = [1, 1, 0, 1];
-const EDITION_2: [u8; 4] = [1, 1, 0, 2];
+/// A sheet of one edition taken for a sheet of another; any other sheet as it is.
+fn taken_for(sheet: &[u8], edition: u8, other: u8) -> Vec<u8> {
+    let mut sheet = sheet.to_vec();
+    if sheet.starts_with(&[1, 1, 0, edition]) {
+        sheet[EDITION_AT] = other;
+    }
+    sheet
+}
 
 /// The number of matrix elements of a sheet's vector step.
 fn matrix_elements(sheet: &[u8], step: usize) -> u32 {
@@ -540,9 +569,12 @@ fn matrix_elements(sheet: &[u8], step: usize) -> u32 {
     }
 }
 
-/// Carries out an accepted sheet, its vector steps with a fault.
+/// Carries out an accepted sheet, its vector steps or what its loads start from with a fault.
 fn carry_out_with(fault: Fault, sheet: &[u8], memory: &mut [u8]) -> Registers {
-    let checked = check(sheet, memory.len()).expect("accepted");
+    let mut checked = check(sheet, memory.len()).expect("accepted");
+    if let Fault::Object(fault) = fault {
+        checked = object_faults::carried_out(fault, checked);
+    }
     let mut registers = Registers::default();
     for (number, step) in checked.sheet.steps.iter().enumerate() {
         if let Step::Vector(vector) = step {
@@ -592,9 +624,16 @@ fn perform_saturating(vector: &VectorStep, input: &Matrix, memory: &[u8]) -> Mat
 
 /// Whether some of an edition's first cases tell an implementation from the reference.
 fn found_out(jobs: &dyn Jobs, edition: Edition) -> bool {
-    let reference = Reference::default();
-    let mut comparison = Comparison::new(jobs, &reference, edition);
-    (0..CASES).any(|number| comparison.compare(&Case::of_seed(edition, 1, number)).is_err())
+    said(jobs, edition, 0..CASES).next().is_some()
+}
+
+/// What is said of an implementation by each of an edition's cases that tells it from the reference.
+fn said(jobs: &dyn Jobs, edition: Edition, cases: Range<u64>) -> impl Iterator<Item = String> + '_ {
+    cases.filter_map(move |number| {
+        let reference = Reference::default();
+        let mut comparison = Comparison::new(jobs, &reference, edition);
+        comparison.compare(&Case::of_seed(edition, 1, number)).err()
+    })
 }
 
 #[test]
@@ -604,8 +643,11 @@ fn each_fault_is_found_out() {
         assert!(found_out(&faulty(fault), Edition::One), "{fault:?}");
     }
     for fault in VECTOR_FAULTS {
-        assert!(found_out(&faulty(fault), Edition::Two), "{fault:?}");
+        for edition in Edition::ALL.into_iter().filter(|edition| edition.has_vectors()) {
+            assert!(found_out(&faulty(fault), edition), "{fault:?}");
+        }
     }
+    assert!(found_out(&faulty(Fault::TakesEdition4), Edition::Three));
     for fault in [&TRACE_FAULTS[..], &DIVISION_FAULTS, &OUTCOME_FAULTS].concat() {
         for edition in Edition::ALL {
             assert!(found_out(&faulty(fault), edition), "{fault:?}");
@@ -618,6 +660,19 @@ fn each_fault_is_found_out() {
     }
     for edition in Edition::ALL {
         assert!(!found_out(&faulty(Fault::Nothing), edition));
+    }
+}
+
+#[test]
+fn each_fault_in_what_a_load_starts_from_is_found_out_where_it_shows() {
+    for (fault, words, editions) in OBJECT_FAULTS {
+        let faulty = Faulty { reference: Reference::default(), fault: Fault::Object(fault) };
+        for edition in Edition::ALL {
+            let said = said(&faulty, edition, CLIPPED).next();
+            assert_eq!(said.is_some(), editions.contains(&edition), "{fault:?} in {edition:?}");
+            let is_as_expected = said.is_none_or(|what| what.starts_with(words));
+            assert!(is_as_expected, "{fault:?} in {edition:?}");
+        }
     }
 }
 

@@ -3,7 +3,7 @@
 use std::cell::{Cell, Ref, RefCell};
 
 use crate::reference::{
-    self, Carried, Cause, Checked, Located, Outcome, Refusal, Registers, Side, Verdict,
+    self, Carried, Cause, Checked, Located, Outcome, Record, Refusal, Registers, Side, Verdict,
     RECORD_NUMBERS,
 };
 
@@ -45,6 +45,14 @@ pub fn outcome_row(located: Located) -> OutcomeRow {
         [outside.dimension as u32, side]
     });
     [located.outcome.sort().into(), value, dimension, side]
+}
+
+/// Hands records over in a room that they fit, and gives their count.
+pub fn put_records(records: &[Record], room: &mut [i32]) -> [u32; 1] {
+    for (place, record) in room.chunks_exact_mut(RECORD_NUMBERS).zip(records) {
+        place.copy_from_slice(record);
+    }
+    [records.len() as u32]
 }
 
 /// Whether an outcome names a dimension.
@@ -235,10 +243,7 @@ impl Jobs for Reference {
         let translated = reference::translate(sheet, memory_len, tape.len());
         *records = [0];
         if let Ok(translated) = &translated {
-            *records = [translated.records.len() as u32];
-            for (place, record) in tape.chunks_exact_mut(RECORD_NUMBERS).zip(&translated.records) {
-                place.copy_from_slice(record);
-            }
+            *records = put_records(&translated.records, tape);
         }
         self.finish(answer, translated.map(|translated| translated.byte_elements))
     }

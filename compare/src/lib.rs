@@ -10,6 +10,8 @@ mod faults;
 pub mod generate;
 pub mod jobs;
 mod neighbours;
+#[cfg(test)]
+mod object_faults;
 mod object_sights;
 mod order_sights;
 mod orders;
