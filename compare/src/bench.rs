@@ -3,11 +3,12 @@
 use std::hint::black_box;
 use std::time::{Duration, Instant};
 
+use crate::generate::UNCLIPPED;
 use crate::jobs::{Jobs, State, AGREES};
 use crate::reference::{
-    sheet_bytes, trace, ClampMode, Clip, Combine, Dimension, Edition, Interpretation, Kind, Layout,
-    MemoryLayout, ReduceMode, Sheet, Step, VectorStep, View, ViewDimension, COMPONENTS_A_WORD,
-    MEMORY_MAX, RECORDS_MAX, RECORD_NUMBERS, SIDE_MAX,
+    read_sheet, sheet_bytes, trace, ClampMode, Clip, Combine, Dimension, Edition, Interpretation,
+    Kind, Layout, MemoryLayout, ReduceMode, Sheet, Step, VectorStep, View, ViewDimension,
+    COMPONENTS_A_WORD, MEMORY_MAX, RECORDS_MAX, RECORD_NUMBERS, SIDE_MAX,
 };
 
 /// A sample lasts at least so long, so that the clock's grain does not matter.
@@ -230,8 +231,14 @@ fn median(mut times: Vec<f64>) -> f64 {
     times[times.len() / 2]
 }
 
-/// The sheets of the timings, those of smaller matrices aside.
-pub fn timed_sheets() -> Vec<(String, Vec<u8>)> {
+/// The sheets of the timings of an edition, those of smaller matrices aside.
+pub fn timed_sheets(edition: Edition) -> Vec<(String, Vec<u8>)> {
+    let is_own =
+        |(_, sheet): &(String, Vec<u8>)| read_sheet(sheet).expect("accepted").edition == edition;
+    all_timed_sheets().into_iter().filter(is_own).collect()
+}
+
+fn all_timed_sheets() -> Vec<(String, Vec<u8>)> {
     let by_spans = SPANS
         .map(|spans| (format!("spans {}", spaced(spans)), sheet_bytes(&loads_by_spans(spans))));
     let named = named_sheets().into_iter().map(|(name, sheet)| (String::from(name), sheet));
@@ -254,6 +261,8 @@ fn named_sheets() -> Vec<(&'static str, Vec<u8>)> {
         ("16 by 16 vectors", vectors(16, Interpretation::Plain(Kind::S8))),
         ("16 by 16 packed vectors", vectors(16, Interpretation::Packed(Kind::S8))),
         ("4 by 4 vectors", vectors(4, Interpretation::Plain(Kind::S8))),
+        ("clipped loads", clipped_loads(Edition::Two)),
+        ("clipped loads on zeros", clipped_loads(Edition::Three)),
     ]
     .map(|(name, sheet)| {
         assert_eq!(sheet.steps.len(), STEPS);
@@ -293,9 +302,15 @@ fn base(step: usize) -> u32 {
     1_024 * step as u32
 }
 
+/// A fill of a register and loads of it.
+fn fill_and_loads(side: usize, kind: u8, view: Option<usize>) -> Vec<Step> {
+    let mut steps = vec![fill(0, side, kind)];
+    steps.extend((1..STEPS).map(|step| load(0, view, base(step))));
+    steps
+}
+
 fn plain_loads(side: usize) -> Sheet {
-    let mut steps = vec![fill(0, side, 0)];
-    steps.extend((1..STEPS).map(|step| load(0, None, base(step))));
+    let steps = fill_and_loads(side, 0, None);
     Sheet { layouts: vec![square_layout(side)], steps, ..Sheet::default() }
 }
 
@@ -375,12 +390,19 @@ fn five_dimensional_views() -> Sheet {
                 .map(|(&size, stride)| ViewDimension { size, stride })
                 .collect(),
         ),
-        clip: Clip { row_offset: 0, row_span: 65_535, column_offset: 0, column_span: 65_535 },
+        clip: UNCLIPPED,
     };
-    let mut steps = vec![fill(0, 16, 2)];
-    steps.extend((1..STEPS).map(|step| load(0, Some(0), base(step))));
+    let steps = fill_and_loads(16, 2, Some(0));
     let layouts = vec![layout(ClampMode::Undefined, dimensions.collect())];
     Sheet { layouts, views: vec![view], steps, ..Sheet::default() }
+}
+
+/// Loads without an object that skip the left half, which the edition keeps or makes 0.
+fn clipped_loads(edition: Edition) -> Sheet {
+    let clip = Clip { column_offset: SIDE_MAX as u16 / 2, ..UNCLIPPED };
+    let view = View { permutation: vec![0, 1], dimensions: None, clip };
+    let steps = fill_and_loads(SIDE_MAX, 0, Some(0));
+    Sheet { edition, layouts: vec![square_layout(SIDE_MAX)], views: vec![view], steps }
 }
 
 fn stores() -> Sheet {
@@ -455,7 +477,7 @@ mod tests {
 
     #[test]
     fn the_sheets_of_the_timings_are_accepted() {
-        for (name, sheet) in timed_sheets() {
+        for (name, sheet) in all_timed_sheets() {
             let mut bench = Bench::new(&sheet, &Reference::default());
             for call in [Bench::run, Bench::trace, Bench::replay, Bench::divisions] {
                 call(&mut bench, &Reference::default());
@@ -483,6 +505,17 @@ mod tests {
             }
         }
         counts
+    }
+
+    #[test]
+    fn clipped_loads_skip_half_of_their_elements() {
+        for edition in [Edition::Two, Edition::Three] {
+            let checked = check(&sheet_bytes(&clipped_loads(edition)), MEMORY_MAX);
+            let checked = checked.expect("accepted");
+            let outcomes = checked.outcomes.iter().flatten();
+            assert_eq!(outcomes.filter(|o| **o == Outcome::Skipped).count(), ELEMENTS / 2);
+            assert_eq!(checked.byte_elements() as usize, ELEMENTS / 2);
+        }
     }
 
     #[test]

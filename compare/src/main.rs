@@ -26,8 +26,8 @@ compare [--sheets N] [--seed S] [--edition E] [--case K] [--trace]
     of each edition, on N random sheets (20000), on N/20 more that are partly outside, on N/20 with
     neighbouring stores and on N/20 with clipped loads. Perform the stores of each in other orders,
     and exchange neighbouring ones. The same seed gives the same sheets. --edition E takes only the
-    random sheets of edition E, --case K only sheet K of them, --trace prints the number of each
-    before it is tried.
+    sheets of edition E, --case K only random sheet K, --trace prints the number of each random
+    sheet before it is tried.
 compare bench [--sides] [--samples N]
     Time both sides on named sheets, N samples each (51). --sides prints only the last table, of
     what lies outside.
@@ -146,27 +146,26 @@ fn dump(options: &Options, folder: &Path) -> Result<(), String> {
     Ok(())
 }
 
-/// The strips, the sheets of the timings, then the random cases of each edition.
+/// The strips, then of each edition the sheets of the timings and the random cases.
 fn compare_all(options: &Options) -> Result<(), String> {
     let start = Instant::now();
     let strips = check_strips(&Archive)?;
     println!("{strips} strips agree with the scope");
-    if options.case.is_none() {
-        compare_timed(options.seed)?;
-    }
     for &edition in &options.editions {
+        if options.case.is_none() {
+            compare_timed(options.seed, edition)?;
+        }
         compare_edition(options, edition)?;
     }
     println!("{:.1} seconds", start.elapsed().as_secs_f64());
     Ok(())
 }
 
-/// The sheets of the timings, some of which have the longest traces.
-fn compare_timed(seed: u64) -> Result<(), String> {
-    let edition = Edition::Two;
+/// The sheets of the timings of an edition, some of which have the longest traces.
+fn compare_timed(seed: u64, edition: Edition) -> Result<(), String> {
     let reference = Reference::default();
     let mut comparison = Comparison::new(&Archive, &reference, edition);
-    let sheets = timed_sheets();
+    let sheets = timed_sheets(edition);
     for (name, sheet) in &sheets {
         for number in 0..TIMES_TIMED {
             let random = &mut Random::of_case(seed, number);
@@ -176,7 +175,7 @@ fn compare_timed(seed: u64) -> Result<(), String> {
                 .map_err(|what| format!("seed {seed}, {name} of the timings: {what}"))?;
         }
     }
-    println!("{} sheets of the timings agree", sheets.len());
+    println!("{} sheets of the timings of edition {} agree", sheets.len(), edition.number());
     Ok(())
 }
 
