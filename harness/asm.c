@@ -198,9 +198,7 @@ static void close_field(struct assembler *assembler)
         }
         set_computed(assembler);
         write_field(assembler);
-        note_field(&assembler->reading, &(struct field){.form = assembler->form,
-                                                        .content = assembler->parts[0].bytes,
-                                                        .content_len = assembler->parts[0].len});
+        note_field(&assembler->reading, &(struct field){.form = assembler->form});
         assembler->form = NULL;
     }
 }

@@ -38,10 +38,16 @@ static bool parse_name(const struct number_form *form, struct token token, int64
     return false;
 }
 
+/* Whether a word stands for zeros in place of an object. */
+static bool is_zeros_word(const struct number_form *form, struct token token)
+{
+    return form->sort == OBJECT && is_word(token, ZEROS_WORD);
+}
+
 /* Whether a word is written as a number of this form. */
 static bool parse_word(const struct number_form *form, struct token token, int64_t *number)
 {
-    if (may_be_none(form) && is_word(token, NONE_WORD)) {
+    if (is_zeros_word(form, token) || (may_be_none(form) && is_word(token, NONE_WORD))) {
         *number = MOONBLEAT_NONE;
         return true;
     }
@@ -146,6 +152,22 @@ static bool is_later_keyword(const struct part_form *part, const struct number_f
     return false;
 }
 
+/* The word for zeros is judged by the sheet so far, since its number has another meaning in an older
+ * edition; before an edition came, every one may be meant. */
+static void judge_zeros(struct line *line, size_t column)
+{
+    const struct bytes *sheet = &line->assembly->sheet;
+    unsigned edition = edition_of(sheet->at, sheet->len);
+    if (edition > 0 && edition < ZEROS_EDITION) {
+        struct text sentence = {.len = 0};
+        add_text(&sentence,
+                 "object zeros comes with edition %d, and the sheet has edition %u, in which a load without an object "
+                 "keeps what its register holds",
+                 ZEROS_EDITION, edition);
+        report(line, column, &sentence);
+    }
+}
+
 /* Takes the next word as a number; 0 where it is none. */
 static uint32_t take_number(struct line *line, const struct part_form *part, const struct number_form *form,
                             const struct bounds *bounds)
@@ -158,6 +180,9 @@ static uint32_t take_number(struct line *line, const struct part_form *part, con
     if (!parse_word(form, token, &number)) {
         report_expected(line, expected(form).at, token);
         return 0;
+    }
+    if (is_zeros_word(form, token)) {
+        judge_zeros(line, token.column);
     }
     return judged(line, form, bounds, number, token.column);
 }

@@ -10,8 +10,13 @@
 #include "sheet_text.h"
 #include "show.h"
 
-/* A number of the JSON object: a name where it has one, null for none. */
-static void json_value(struct json *json, const struct value *value, const char *key)
+/* What a load starts from, by name. */
+static const char *const start_names[] = {
+    [FROM_OBJECT] = "object", [FROM_REGISTER] = "register", [FROM_ZEROS] = "zeros"};
+
+/* A number of the JSON object: a name where it has one, null for none; behind a load's object, what the
+ * load starts from. */
+static void json_value(struct json *json, const struct values *values, const struct value *value, const char *key)
 {
     const struct number_form *form = value->form;
     if (form->name_of != NULL) {
@@ -20,6 +25,9 @@ static void json_value(struct json *json, const struct value *value, const char 
         json_null(json, key);
     } else {
         json_number(json, key, number_of(form, value->raw));
+    }
+    if (form->sort == OBJECT) {
+        json_text(json, "starts_from", start_names[start_of(values)]);
     }
 }
 
@@ -42,7 +50,7 @@ static void json_field(struct json *json, const struct field *field)
         if (repeated && several && first) {
             json_open(json, NULL, '{');
         }
-        json_value(json, value, repeated && !several ? NULL : value->form->name);
+        json_value(json, &values, value, repeated && !several ? NULL : value->form->name);
         if (repeated && several && last) {
             json_close(json, '}');
         }

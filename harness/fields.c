@@ -256,6 +256,14 @@ bool is_none(const struct number_form *form, int64_t number)
     return may_be_none(form) && number == MOONBLEAT_NONE;
 }
 
+enum start start_of(const struct values *load)
+{
+    if (value_of_sort(load, OBJECT) != MOONBLEAT_NONE) {
+        return FROM_OBJECT;
+    }
+    return load->edition < ZEROS_EDITION ? FROM_REGISTER : FROM_ZEROS;
+}
+
 bool lacks_bias(const struct value *value)
 {
     return value->form->sort == BIAS && value[-1].raw == 0;
@@ -272,6 +280,12 @@ uint32_t little(const uint8_t *bytes, size_t width)
     return number;
 }
 
+unsigned edition_of(const uint8_t *sheet, size_t sheet_len)
+{
+    bool has_edition = sheet_len > HEAD_BYTES && sheet[0] == MOONBLEAT_TAG_EDITION && little(sheet + 1, 2) > 0;
+    return has_edition ? sheet[HEAD_BYTES] : 0;
+}
+
 bool field_at(const uint8_t *sheet, size_t sheet_len, size_t at, struct field *field)
 {
     if (at >= sheet_len || sheet_len - at < HEAD_BYTES) {
@@ -279,6 +293,7 @@ bool field_at(const uint8_t *sheet, size_t sheet_len, size_t at, struct field *f
     }
     size_t left = sheet_len - at - HEAD_BYTES;
     field->at = at;
+    field->edition = edition_of(sheet, sheet_len);
     field->tag = sheet[at];
     field->form = field_of_tag(field->tag);
     field->length = little(sheet + at + 1, 2);
@@ -337,6 +352,7 @@ void field_values(const struct field *field, struct values *values)
 {
     size_t at = 0;
     values->count = 0;
+    values->edition = field->edition;
     for (size_t p = 0; field->form != NULL && p < field->form->part_count; p++) {
         const struct part_form *part = &field->form->parts[p];
         uint32_t dimensions = value_of_sort(values, COUNT);

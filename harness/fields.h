@@ -28,7 +28,7 @@ enum sort {
     PERMUTED, /* one of the dimensions' numbers, each once */
     RESULT,   /* r0, a register that is written */
     REGISTER, /* r0, one that is read */
-    OBJECT,   /* r0 that is read, or none: then the result is read */
+    OBJECT,   /* r0 that is read, or none: then the result is read, or its type alone */
     LAYOUT,   /* L0 */
     VIEW,     /* V0 or none */
     ROWS,     /* the first half of 1x8 */
@@ -95,9 +95,13 @@ const struct field_form *field_of_tag(uint8_t tag);
 /* A little-endian number of 1 to 4 bytes. */
 uint32_t little(const uint8_t *bytes, size_t width);
 
+/* The edition of a sheet, which its first field has; 0 if that is no edition. */
+unsigned edition_of(const uint8_t *sheet, size_t sheet_len);
+
 /* A field of a sheet or a trace: its content may be cut short by the end. */
 struct field {
     const struct field_form *form; /* NULL: unknown tag */
+    unsigned edition;              /* of its sheet */
     size_t at;                     /* the byte of its head */
     uint8_t tag;
     size_t length; /* as its head has it */
@@ -123,6 +127,7 @@ struct value {
 struct values {
     struct value at[VALUES_MAX];
     size_t count;
+    unsigned edition; /* of the sheet */
 };
 
 void field_values(const struct field *field, struct values *values);
@@ -145,6 +150,15 @@ const char *clamp_mode_name(uint32_t mode);
 /* Whether a number may say that there is none, and whether it does. */
 bool may_be_none(const struct number_form *form);
 bool is_none(const struct number_form *form, int64_t number);
+
+/* What a load starts from, and keeps where elements are skipped: its object, what its register holds,
+ * or zeros of that register's type. */
+enum start { FROM_OBJECT, FROM_REGISTER, FROM_ZEROS };
+enum start start_of(const struct values *load);
+
+/* The edition that brought the zeros, and what may stand for them in place of an object. */
+#define ZEROS_EDITION 3
+#define ZEROS_WORD "zeros"
 
 /* Whether a number of a field is the offset of a bias that there is not: the number before it says so. */
 bool lacks_bias(const struct value *value);

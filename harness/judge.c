@@ -68,36 +68,36 @@ void add_field_name(struct text *text, const struct reading *reading, const stru
 
 /* -- Refusals 1 to 4 -------------------------------------------------------------------------- */
 
-/* Whether the sheet's edition has a field; before an edition came, every one may be meant. */
-static bool is_known(const struct reading *reading, const struct field_form *form)
+/* Whether an edition has a field; where the sheet has none, every one may be meant. */
+static bool is_known(unsigned edition, const struct field_form *form)
 {
-    return reading->edition == 0 || form->since <= reading->edition;
+    return edition == 0 || form->since <= edition;
 }
 
-static void add_known_tags(struct text *text, const struct reading *reading)
+static void add_known_tags(struct text *text, unsigned edition)
 {
     const char *before = "";
     for (size_t i = 0; i < field_form_count; i++) {
-        if (is_known(reading, &field_forms[i])) {
+        if (is_known(edition, &field_forms[i])) {
             add_text(text, "%s 0x%02X", before, (unsigned)field_forms[i].tag);
             before = ",";
         }
     }
 }
 
-static uint32_t judge_tag(const struct reading *reading, const struct field *field, struct text *sentence)
+static uint32_t judge_tag(const struct field *field, struct text *sentence)
 {
     const struct field_form *form = field->form;
-    if (form != NULL && is_known(reading, form)) {
+    if (form != NULL && is_known(field->edition, form)) {
         return 0;
     }
     add_text(sentence, "tag 0x%02X ", (unsigned)field->tag);
     if (form == NULL) {
         add_text(sentence, "is none of");
-        add_known_tags(sentence, reading);
+        add_known_tags(sentence, field->edition);
     } else {
         add_text(sentence, "(%s) comes with edition %u, and the sheet has edition %u", form->name,
-                 (unsigned)form->since, reading->edition);
+                 (unsigned)form->since, field->edition);
     }
     return MOONBLEAT_REFUSED_TAG;
 }
@@ -263,7 +263,7 @@ uint32_t judge_field(const struct reading *reading, const struct field *field, s
     *sentence = (struct text){.len = 0};
     uint32_t refusal = judge_cut(reading, field, sentence);
     if (refusal == 0) {
-        refusal = judge_tag(reading, field, sentence);
+        refusal = judge_tag(field, sentence);
     }
     if (refusal == 0) {
         refusal = judge_order(reading, field, sentence);
@@ -280,9 +280,6 @@ uint32_t judge_field(const struct reading *reading, const struct field *field, s
 void note_field(struct reading *reading, const struct field *field)
 {
     enum rank rank = field->form->rank;
-    if (rank == EDITION_RANK && reading->edition == 0 && field->content_len > 0) {
-        reading->edition = field->content[0];
-    }
     reading->counts[rank]++;
     reading->rank = rank;
 }

@@ -11,8 +11,7 @@
 /* What came before a field. */
 struct reading {
     unsigned counts[RANKS];
-    enum rank rank;   /* of the field before */
-    unsigned edition; /* 0: none came */
+    enum rank rank; /* of the field before */
 };
 
 struct range {

@@ -8,16 +8,24 @@
 #include "kinds.h"
 #include "moonbleat.h"
 
+/* Whether a number is the object of a load that starts from zeros, which its text says. */
+static bool says_zeros(const struct values *values, const struct value *value)
+{
+    return value->form->sort == OBJECT && start_of(values) == FROM_ZEROS;
+}
+
 /* Prints a number as the text form has it, without its keyword. */
-static void print_number(FILE *file, const struct value *value, uint32_t kind)
+static void print_number(FILE *file, const struct values *values, const struct value *value)
 {
     const struct number_form *form = value->form;
-    if (form->name_of != NULL) {
+    if (says_zeros(values, value)) {
+        fputs(" " ZEROS_WORD, file);
+    } else if (form->name_of != NULL) {
         fprintf(file, " %s", form->name_of(value->raw));
     } else if (form->sort == COLUMNS) {
         fprintf(file, "x%" PRIu32, value->raw);
     } else if (form->sort == VALUE) {
-        fprintf(file, " %" PRId64, element_value(kind, value->raw));
+        fprintf(file, " %" PRId64, element_value(value_of_sort(values, KIND), value->raw));
     } else if (prefix_of(form->sort) != '\0') {
         fprintf(file, " %c%" PRIu32, prefix_of(form->sort), value->raw);
     } else {
@@ -26,9 +34,10 @@ static void print_number(FILE *file, const struct value *value, uint32_t kind)
 }
 
 /* Whether a number is left out: asm computes it, or there is none. */
-static bool is_left_out(const struct value *value)
+static bool is_left_out(const struct values *values, const struct value *value)
 {
-    return is_computed(value->form->sort) || is_none(value->form, value->raw) || lacks_bias(value);
+    bool none = is_none(value->form, value->raw) && !says_zeros(values, value);
+    return none || is_computed(value->form->sort) || lacks_bias(value);
 }
 
 static void print_field(FILE *file, const struct field *field, unsigned number)
@@ -47,14 +56,14 @@ static void print_field(FILE *file, const struct field *field, unsigned number)
         if (part->word != NULL && first) {
             fprintf(file, "\n  %s", part->word);
         }
-        if (is_left_out(value)) {
+        if (is_left_out(&values, value)) {
             continue;
         }
         bool is_listed = value->form->sort == PERMUTED && value->dimension > 0;
         if (value->form->keyword != NULL && !is_listed) {
             fprintf(file, " %s", value->form->keyword);
         }
-        print_number(file, value, value_of_sort(&values, KIND));
+        print_number(file, &values, value);
     }
     fputc('\n', file);
 }

@@ -10,11 +10,25 @@
 #include "kinds.h"
 #include "moonbleat.h"
 
-static void show_number(FILE *file, const struct value *value, uint32_t kind)
+static void show_object(FILE *file, const struct values *load)
+{
+    switch (start_of(load)) {
+    case FROM_OBJECT:
+        fprintf(file, "object register %" PRIu32, value_of_sort(load, OBJECT));
+        break;
+    case FROM_REGISTER:
+        fputs("its own object", file);
+        break;
+    case FROM_ZEROS:
+        fputs("from zeros", file);
+        break;
+    }
+}
+
+static void show_number(FILE *file, const struct values *values, const struct value *value)
 {
     const struct number_form *form = value->form;
     const char *name = form->name_of == NULL ? NULL : form->name_of(value->raw);
-    bool none = is_none(form, value->raw);
     if (name != NULL) {
         fputs(name, file);
     } else if (form->sort == COUNT) {
@@ -22,13 +36,15 @@ static void show_number(FILE *file, const struct value *value, uint32_t kind)
     } else if (form->sort == SIZED && value->raw <= 1) {
         fputs(value->raw == 1 ? "of its own" : "of the layout's spans", file);
     } else if (form->sort == OBJECT) {
-        none ? fputs("its own object", file) : fprintf(file, "object register %" PRIu32, value->raw);
+        show_object(file, values);
     } else if (form->sort == VIEW) {
-        none ? fputs("no view", file) : fprintf(file, "view %" PRIu32, value->raw);
+        is_none(form, value->raw) ? fputs("no view", file) : fprintf(file, "view %" PRIu32, value->raw);
     } else if (form->sort == BIAS) {
         lacks_bias(value) ? fputs("no bias", file) : fprintf(file, "add the bias at offset %" PRIu32, value->raw);
+    } else if (form->sort == VALUE) {
+        fprintf(file, "%" PRId64, element_value(value_of_sort(values, KIND), value->raw));
     } else {
-        fprintf(file, "%" PRId64, form->sort == VALUE ? element_value(kind, value->raw) : number_of(form, value->raw));
+        fprintf(file, "%" PRId64, number_of(form, value->raw));
     }
 }
 
@@ -58,7 +74,7 @@ static void show_part(FILE *file, const struct part_form *part, const struct val
         if (value == NULL) {
             fputc('?', file);
         } else {
-            show_number(file, value, value_of_sort(values, KIND));
+            show_number(file, values, value);
         }
         at += len + 1;
     }

@@ -21,7 +21,10 @@ bool find_empty_register(const struct step *step, struct text *cause)
         bool is_read = value->form->sort == REGISTER || value->form->sort == OBJECT;
         if (is_read && is_empty(step, number)) {
             add_text(cause, "register %" PRIu32 " is empty", number);
-            add_text(cause, "%s", is_own ? ", and without an object the load starts from it" : "");
+            if (is_own) {
+                bool zeros = start_of(&step->values) == FROM_ZEROS;
+                add_text(cause, ", and without an object the load starts from %s", zeros ? "zeros of its type" : "it");
+            }
             return true;
         }
     }

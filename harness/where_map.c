@@ -139,14 +139,24 @@ static struct totals totals_of(const struct told *outcomes, unsigned count)
     return totals;
 }
 
-static void explain_sorts(const struct access *access, const struct totals *totals)
+/* What becomes of a skipped element. */
+static const char *skipped_words(const struct where *where)
 {
+    if (where->access.is_store) {
+        return "not stored";
+    }
+    bool zeros = start_of(&where->step.values) == FROM_ZEROS;
+    return zeros ? "keeps the 0 that the load starts from" : "keeps what the object has";
+}
+
+static void explain_sorts(const struct where *where, const struct totals *totals)
+{
+    const struct access *access = &where->access;
     if (totals->sorts[MOONBLEAT_SORT_BYTE] > 0) {
         explain("number", access->size > 1 ? "its first byte in memory" : "its byte in memory");
     }
     if (totals->sorts[MOONBLEAT_SORT_SKIPPED] > 0) {
-        explain(signs[MOONBLEAT_SORT_SKIPPED], "skipped: outside the clip, %s",
-                access->is_store ? "not stored" : "keeps what the object has");
+        explain(signs[MOONBLEAT_SORT_SKIPPED], "skipped: outside the clip, %s", skipped_words(where));
     }
     if (totals->sorts[MOONBLEAT_SORT_FILLED] > 0) {
         struct text fill = {.len = 0};
@@ -221,7 +231,7 @@ void print_map(const struct where *where, const struct told *outcomes)
     print_columns(where, &widths);
     print_rows(where, &widths, outcomes);
     putchar('\n');
-    explain_sorts(&where->access, &totals);
+    explain_sorts(where, &totals);
     explain_sides(&where->access, &totals);
     putchar('\n');
     print_summary(where, &totals);

@@ -4,10 +4,11 @@
  * A sheet is a short program: layouts and views that say where the elements of a matrix lie in
  * memory, and steps that fill, load, store, reduce, transpose and multiply-add matrices in four
  * registers and, from edition 2 on, multiply a vector in a register by a matrix in memory and add a
- * bias. The library reads sheets, carries them out, translates them into tapes (flat lists of
- * copies) and runs tapes. It answers what a correct device must answer, byte for byte. It also says
- * what becomes of each element of a sheet's loads and stores, and which way it was clamped, and holds
- * a device's trace, the list of what it did, to that.
+ * bias. From edition 3 on a load without an object starts from zeros. The library reads sheets,
+ * carries them out, translates them into tapes (flat lists of copies) and runs tapes. It answers what
+ * a correct device must answer, byte for byte. It also says what becomes of each element of a sheet's
+ * loads and stores, and which way it was clamped, and holds a device's trace, the list of what it did,
+ * to that.
  *
  * Link with libmoonbleat.a. The functions keep no state, allocate nothing and may be called from
  * any number of threads, each with arrays of its own.
@@ -50,8 +51,9 @@
  *        sort is not 3;                                                      byte of the head
  *        an outcome is asked of a step that is no load or store, or of an
  *        element past its matrix                                             step, element
- *    6   the edition is not 1 or 2                                           byte of the head
- *    7   a register that is read is empty                                    step
+ *    6   the edition is not 1 to 3                                           byte of the head
+ *    7   a register that is read is empty; of a load without an object, in
+ *        every edition, its own                                              step
  *    8   shapes or kinds do not fit each other; a vector step's input is not
  *        K by 1, or packed and not u32, (K + 3) / 4 by 1                     step
  *    9   the base is not a multiple of 16                                    step
@@ -105,11 +107,11 @@ extern "C" {
 /* The version of this interface: a major one may break callers, a minor one adds to it, a patch
  * changes nothing that a caller sees. */
 #define MOONBLEAT_VERSION_MAJOR 1
-#define MOONBLEAT_VERSION_MINOR 5
-#define MOONBLEAT_VERSION_PATCH 1
+#define MOONBLEAT_VERSION_MINOR 6
+#define MOONBLEAT_VERSION_PATCH 0
 
 /* The newest edition of sheets that is taken, from 1 on. */
-#define MOONBLEAT_EDITION_MAX 2
+#define MOONBLEAT_EDITION_MAX 3
 
 /* Sizes. */
 #define MOONBLEAT_MEMORY_MAX 65536        /* bytes of memory */
@@ -124,6 +126,7 @@ extern "C" {
 #define MOONBLEAT_STEPS_MAX 32            /* steps of a sheet */
 #define MOONBLEAT_SHEET_MAX 1096          /* bytes of the longest sheet that is accepted */
 #define MOONBLEAT_RECORDS_MAX 1024        /* records of a tape */
+#define MOONBLEAT_STEP_RECORDS 257        /* ... of one step at most: a load's copy or fill, and its runs */
 #define MOONBLEAT_RECORD_NUMBERS 6        /* numbers of a record */
 #define MOONBLEAT_TAPE_NUMBERS 6144       /* numbers of the longest tape */
 #define MOONBLEAT_ACCESS_BYTES 12         /* bytes of a field of a trace */
@@ -222,7 +225,10 @@ enum {
     MOONBLEAT_SIDE_ABOVE = 2   /* at or above the dimension's size */
 };
 
-/* In place of a load's object or of a view: none. */
+/* In place of a load's object or of a view: none. A load without an object goes by its own register's
+ * type. In editions 1 and 2 it also starts from what that register holds: skipped elements keep it. From
+ * edition 3 on it starts from zeros: skipped elements become 0. (A load whose object is its own register
+ * keeps the contents in every edition.) */
 #define MOONBLEAT_NONE 255
 
 /* Clamp modes of a layout: what becomes of an element outside the tensor. */
@@ -276,7 +282,10 @@ enum {
     MOONBLEAT_REFUSED_TRACE_ORDER = 26
 };
 
-/* Ops of a tape's records: the first of six numbers. */
+/* Ops of a tape's records: the first of six numbers. A load has a copy of its object, or, without an
+ * object, from edition 3 on a fill of 0 over its whole matrix, in editions 1 and 2 nothing; then its
+ * runs, takes and fills. That fill is there also where the runs leave none of its zeros, and is never
+ * joined with them. A store has its runs, puts; every other step is one whole step. */
 enum {
     MOONBLEAT_OP_COPY = 0, /* register, object, 0, 0, 0 */
     MOONBLEAT_OP_TAKE = 1, /* register, first element, count, byte, step in bytes */
@@ -317,9 +326,10 @@ uint32_t moonbleat_carry_out(const uint8_t *sheet, size_t sheet_len, uint8_t *me
 
 /*
  * Translates a sheet for a memory of some length into a tape: six numbers a record, records[0]
- * records. A room of MOONBLEAT_TAPE_NUMBERS numbers holds every tape. Running the tape with its
- * sheet on a memory of that length leaves the memory, the registers and the byte-elements that
- * carrying out the sheet leaves. Refusals 18, 1 to 15, then 16.
+ * records. A room of MOONBLEAT_TAPE_NUMBERS numbers holds every tape, and no step has more than
+ * MOONBLEAT_STEP_RECORDS records. Running the tape with its sheet on a memory of that length leaves the
+ * memory, the registers and the byte-elements that carrying out the sheet leaves. Refusals 18, 1 to 15,
+ * then 16.
  */
 uint32_t moonbleat_translate(const uint8_t *sheet, size_t sheet_len, size_t memory_len,
                              int32_t *tape, size_t tape_len, uint32_t records[1], uint32_t answer[4]);
@@ -336,9 +346,10 @@ uint32_t moonbleat_run(const uint8_t *sheet, size_t sheet_len, const int32_t *ta
 /*
  * Writes the trace that a correct device records of a sheet on a memory of some length, without a
  * memory, to the start of out[]: a field of MOONBLEAT_ACCESS_BYTES bytes for each element of each
- * load and store, by step, then by element. A load has the elements of its object's matrix, a store
- * those of its register's, row by row; other steps have none. answer[3] is the byte count. A room of
- * MOONBLEAT_TRACE_MAX bytes holds every trace. Refusals 18, 1 to 15, then 19.
+ * load and store, by step, then by element. A load has the elements of its object's matrix, or, without
+ * an object, of its own register's, a store those of its register's, row by row; other steps have none.
+ * answer[3] is the byte count. A room of MOONBLEAT_TRACE_MAX bytes holds every trace. Refusals 18, 1 to
+ * 15, then 19.
  */
 uint32_t moonbleat_trace(const uint8_t *sheet, size_t sheet_len, size_t memory_len, uint8_t *out, size_t out_len,
                          uint32_t answer[4]);

@@ -31,12 +31,6 @@ static inline bool comes_back(const struct refused *sheet)
     return same;
 }
 
-/* The edition of a sheet that is read. */
-static inline unsigned edition_of(const struct bytes *sheet)
-{
-    return sheet->at[HEAD_BYTES];
-}
-
 /* Prints how many sheets of each edition there were; whether there was one of each. */
 static inline bool print_editions(const size_t sheets[MOONBLEAT_EDITION_MAX + 1])
 {

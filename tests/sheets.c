@@ -47,7 +47,7 @@ static void try_text(const char *name, const struct bytes *sheet)
     uint32_t counts[MOONBLEAT_COUNTS], answer[MOONBLEAT_ANSWER];
     const struct refused read = {.sheet = sheet->at, .sheet_len = sheet->len, .answer = answer};
     if (moonbleat_read(sheet->at, sheet->len, counts, answer) == 0) {
-        read_sheets[edition_of(sheet)]++;
+        read_sheets[edition_of(sheet->at, sheet->len)]++;
         show_sheet(nowhere, sheet->at, sheet->len);
     } else {
         show_refused_sheet(nowhere, sheet->at, sheet->len, readable_bytes(&read), "");
