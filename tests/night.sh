@@ -133,6 +133,47 @@ put network_after 84 000
 call 1 diff network network_memory --card card7=network_after
 lines 'card7 differs: byte 84 wants C5, has 00; step 4 store r2, element 1 (1, 0), byte 0 of 4; 1 byte differs in 1 run'
 
+# A clipped load without an object, then a store. In edition 3 a card that keeps what its register held differs, by the
+# bytes and by the register; in edition 2 one that starts from zeros does. Each is right in the other edition.
+cat > keeping_text << 'END'
+edition 2
+layout L0 Undefined
+  dim size 8 stride 1 span 8
+view V0 permutation 0
+  clip columns 2 65535
+fill r0 2x4 u8 100
+load r0 L0 V0 base 16
+store r0 L0 base 32
+END
+sed 's/^edition 2/edition 3/;s/^load r0/& object zeros/' keeping_text > zeroing_text
+for card in keeping zeroing; do
+    call 0 asm "${card}_text" -o "${card}_sheet"
+    call 0 run "${card}_sheet" memory -o "$card" --registers "${card}_registers"
+done
+both='--card keeping=keeping --registers keeping=keeping_registers
+    --card zeroing=zeroing --registers zeroing=zeroing_registers'
+at='step 2 store r0, element 0 (0, 0), byte 0 of 1; 4 bytes differ in 2 runs; register 0, element 0 (0, 0) wants'
+# shellcheck disable=SC2086
+call 1 diff zeroing_sheet memory $both
+lines "keeping differs: byte 32 wants 00, has 64; $at 0, has 100; step 1 load r0; 1 register differs" 'zeroing agrees'
+# shellcheck disable=SC2086
+call 1 diff keeping_sheet memory $both
+lines 'keeping agrees' "zeroing differs: byte 32 wants 64, has 00; $at 100, has 0; step 1 load r0; 1 register differs"
+mkdir editions
+for sheet in keeping zeroing; do
+    cp "${sheet}_sheet" "editions/$sheet.sheet"
+    cp memory "editions/$sheet.memory"
+    for card in keeping zeroing; do
+        cp "$card" "editions/$sheet.$card.after"
+        cp "${card}_registers" "editions/$sheet.$card.registers"
+    done
+done
+call 1 night editions
+sed '/^$/,$d;s/;.*//' stdout > found
+printf '%s\n' 'keeping keeping agrees' 'keeping zeroing differs: byte 32 wants 64, has 00' \
+    'zeroing keeping differs: byte 32 wants 00, has 64' 'zeroing zeroing agrees' > expected
+same 'a night of two editions' found expected
+
 # Files that cannot be read, or have the wrong length, are no difference; and one card hides no other.
 cp wanted differing
 put differing 0 001

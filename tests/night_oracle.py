@@ -13,6 +13,7 @@ import random
 import sys
 
 NONE = 255
+VECTOR_EDITION, ZEROS_EDITION, LAST_EDITION = 2, 3, 3
 ROW_MAJOR, COLUMN_MAJOR = 0, 1
 PACKED_S8, PACKED_U8 = 8, 9
 NAMES = ["u8", "s8", "u16", "s16", "u32", "s32"]
@@ -138,7 +139,8 @@ class Machine:
 
     def load(self, number, register, object, layout, view, base):
         kind, rows, columns, elements = self.registers[register if object == NONE else object]
-        elements, size = list(elements), SIZES[kind]
+        from_zeros = object == NONE and self.sheet["edition"] >= ZEROS_EDITION
+        elements, size = [0] * len(elements) if from_zeros else list(elements), SIZES[kind]
         self.registers[register] = (kind, rows, columns, elements)
         for element, skipped, byte in self.addresses(register, layout, view, base, False):
             if byte is not None:
@@ -232,7 +234,7 @@ def random_step(rng, machine):
     filled = list(machine.registers)
     vectors = [register for register in filled if machine.registers[register][2] == 1]
     names = ["load", "store", "store", "transpose", "fill"]
-    if machine.sheet["edition"] == 2 and vectors:
+    if machine.sheet["edition"] >= VECTOR_EDITION and vectors:
         names += ["vector"] * 2
     name = rng.choice(names) if filled else "fill"
     if name == "vector":
@@ -253,7 +255,7 @@ def random_step(rng, machine):
 
 
 def random_sheet(rng, memory):
-    sheet = {"edition": rng.choice([1, 2]), "layouts": [random_layout(rng) for _ in range(rng.randint(1, 4))],
+    sheet = {"edition": rng.randint(1, LAST_EDITION), "layouts": [random_layout(rng) for _ in range(rng.randint(1, 4))],
              "views": [random_view(rng) for _ in range(rng.randint(0, 4))], "steps": []}
     wanted = rng.randint(1, 32)
     for _ in range(400):

@@ -30,18 +30,19 @@ refuses() {
 
 # -- The strips ----------------------------------------------------------------------------------
 
+# The files run.txt and tape.txt are what the sheet gives.
 accepted_strip() {
     call 0 run sheet memory -o out
-    same "$1: run" stdout "$strips/$1/run.txt"
+    same "$1: run" stdout run.txt
     same "$1: memory" out after
     call 0 tape sheet
-    same "$1: tape" stdout "$strips/$1/tape.txt"
+    same "$1: tape" stdout tape.txt
     rm -f out
-    call 0 run-tape sheet "$strips/$1/tape.txt" memory -o out
-    same "$1: run-tape" stdout "$strips/$1/run.txt"
+    call 0 run-tape sheet tape.txt memory -o out
+    same "$1: run-tape" stdout run.txt
     same "$1: memory of run-tape" out after
     call 0 check sheet --memory "$(wc -c < memory)"
-    tail -n 1 "$strips/$1/run.txt" > last
+    tail -n 1 run.txt > last
     same "$1: check" stdout last
     rm -f out
     call 0 trace sheet --memory "$(wc -c < memory)" -o out
@@ -71,7 +72,7 @@ accepted_strip() {
 refused_strip() {
     sed 's/^/moonbleat: /' "$strips/$1/refusal.txt" > line
     call 1 tape sheet
-    same "$1: tape" stdout "$strips/$1/tape.txt"
+    same "$1: tape" stdout tape.txt
     same "$1: the refusal of tape" stderr line
     call 1 check sheet --memory "$(wc -c < memory)"
     silent
@@ -102,6 +103,24 @@ carried_strip() {
     fi
 }
 
+# put_edition NUMBER: makes the sheet one of this edition.
+put_edition() {
+    printf '%b' "\\000$1" | dd of=sheet bs=1 seek=3 conv=notrunc status=none
+}
+
+# put_zeros STRIP: makes run.txt and tape.txt what an accepted strip gives in edition 3. A load without an object, of
+# these strips always step 1, of register 0, starts from zeros: the tape has a record of them more, and what the
+# load skips is 0.
+put_zeros() {
+    sed -n 's/^step 0: fill register 0, \([0-9]*\) by \([0-9]*\) of .*/\1 \2/p' "$strips/$1/show.txt" > sides
+    read -r rows columns < sides
+    sed "1a 3 0 0 $((rows * columns)) 0 0" "$strips/$1/tape.txt" > tape.txt
+    case $1 in
+        08-clip) sed 's/^ 99 99  \([0-9]\)  \([0-9]\)$/ 0 0 \1 \2/' "$strips/$1/run.txt" > run.txt ;;
+        15-no-object-kept) cp "$strips/15-no-object-zeros/run.txt" run.txt ;;
+    esac
+}
+
 for folder in "$strips"/*/; do
     strip=$(basename "$folder")
     "$bin/unhex" < "$folder/sheet.hex" > sheet || fail "$strip: sheet"
@@ -110,6 +129,8 @@ for folder in "$strips"/*/; do
     if [ -e "$folder/after.hex" ]; then
         "$bin/unhex" < "$folder/after.hex" > after || fail "$strip: after"
     fi
+    rm -f run.txt
+    cp "$folder"/*.txt .
     call 0 show sheet
     same "$strip: show" stdout "$folder/show.txt"
     call 0 asm "$folder/sheet.txt" -o assembled
@@ -123,10 +144,29 @@ for folder in "$strips"/*/; do
     grep -v '^#' "$folder/sheet.txt" > expected
     same "$strip: show --asm" stdout expected
     carried_strip "$strip"
-    # The same sheet in edition 2, which has all that edition 1 has.
-    printf '\002' | dd of=sheet bs=1 seek=3 conv=notrunc status=none
-    carried_strip "$strip"
+    # The same sheet in later editions, which have all that its own has.
+    for later in 2 3; do
+        if [ "$later" -gt "$(sed -n 's/^edition //p' show.txt)" ]; then
+            put_edition "$later"
+            if [ "$later" -eq 3 ] && [ -e run.txt ] && grep -q ', its own object,' show.txt; then
+                put_zeros "$strip"
+            fi
+            carried_strip "$strip"
+        fi
+    done
 done
+# The two strips of a load without an object differ in the edition alone, and a tape does what its records say.
+kept=$strips/15-no-object-kept
+zeroed=$strips/15-no-object-zeros
+"$bin/unhex" < "$zeroed/sheet.hex" > expected || fail 'strip 15: sheet'
+"$bin/unhex" < "$kept/sheet.hex" > sheet || fail 'strip 15: sheet'
+"$bin/unhex" < "$kept/memory.hex" > counted || fail 'strip 15: memory'
+call 0 run-tape sheet "$zeroed/tape.txt" counted
+same 'the tape of edition 3 in edition 2' stdout "$zeroed/run.txt"
+put_edition 3
+same 'the steps of strip 15' sheet expected
+call 0 run-tape sheet "$kept/tape.txt" counted
+same 'the tape of edition 2 in edition 3' stdout "$kept/run.txt"
 
 # -- Refusals ------------------------------------------------------------------------------------
 
@@ -220,6 +260,7 @@ reduce='23 0600 01 00 01 01 03 00'
 transpose='24 0200 01 00'
 multiply='25 0400 03 00 01 02'
 edition_2='01 0100 02'
+edition_3='01 0100 03'
 column='20 0800 00 08 01 00 00000000'
 vector='26 1300 01 05 00 00 01 02 08 00 0800 00000000 00 00000000'
 
@@ -245,8 +286,12 @@ unreadable '2 23 0' 'tag 0x26 (vector) comes with edition 2, and the sheet has e
     "$edition $layout" 26 0000
 unreadable '2 4 0' 'tag 0x26 (vector) comes with edition 2, and the sheet has edition 1' \
     "$edition $vector"
-unreadable '2 4 0' 'tag 0x27 is none of 0x01, 0x10, 0x11, 0x20, 0x21, 0x22, 0x23, 0x24, 0x25, 0x26' \
-    "$edition_2" 27 0000
+for newer in "$edition_2" "$edition_3"; do
+    unreadable '2 4 0' 'tag 0x27 is none of 0x01, 0x10, 0x11, 0x20, 0x21, 0x22, 0x23, 0x24, 0x25, 0x26' \
+        "$newer" 27 0000
+done
+unreadable '2 0 0' 'tag 0x27 is none of 0x01, 0x10, 0x11, 0x20, 0x21, 0x22, 0x23, 0x24, 0x25, 0x26' \
+    27 0200 01 00 "$edition_3"
 unreadable '3 0 0' 'the sheet has no edition' \
     ''
 unreadable '3 0 0' 'layout 0 comes before the edition' \
@@ -259,6 +304,8 @@ unreadable '3 4 0' 'edition is repeated' \
     "$edition $edition"
 unreadable '3 4 0' 'edition is repeated' \
     "$edition $edition_2"
+unreadable '3 4 0' 'edition is repeated' \
+    "$edition_3 $edition_2"
 unreadable '3 18 0' 'layout 0 comes after a view' \
     "$edition $view $layout"
 unreadable '3 15 0' 'view 0 comes after a step' \
@@ -284,12 +331,14 @@ unreadable '4 4 0' 'view 0: length 10 is not 11 or 12 or 13 or 14 or 15 or 20 or
     "$edition" 11 0A00 01 00 0000 FFFF 0000 FFFF
 unreadable '4 23 0' 'step 0 (transpose): length 3 is not 2' \
     "$edition $layout" 24 0300 01 00 00
-unreadable '4 4 0' 'step 0 (vector): length 18 is not 19' \
-    "$edition_2" 26 1200 01 05 00 00 01 02 08 00 0800 00000000 00 000000
-unreadable '6 0 0' 'edition 0 is not within 1 to 2' \
-    01 0100 00
-unreadable '6 0 0' 'edition 3 is not within 1 to 2' \
-    01 0100 03
+for newer in "$edition_2" "$edition_3"; do
+    unreadable '4 4 0' 'step 0 (vector): length 18 is not 19' \
+        "$newer" 26 1200 01 05 00 00 01 02 08 00 0800 00000000 00 000000
+done
+for number in 0 4 255; do
+    unreadable '6 0 0' "edition $number is not within 1 to 3" \
+        01 0100 "$(printf %02X "$number")"
+done
 # 5: dimension count, clamp mode, block size, dimension, offset, span.
 unreadable '5 4 0' 'layout 0: dimension count 0 is not within 1 to 5' \
     "$edition" 10 1000 00 00 00000000 0100 0800 0100 0000 0800
@@ -337,8 +386,12 @@ unreadable '5 4 0' 'step 0 (fill): value 256 is not within 0 to 255' \
     "$edition" 20 0800 00 01 08 00 00010000
 unreadable '5 15 0' 'step 1 (load): layout 0 is not given: the sheet has no layout' \
     "$edition $fill $load"
-unreadable '5 34 0' 'step 1 (load): object 4 is not within 0 to 3' \
-    "$edition $layout $fill" 21 0800 00 04 00 FF 00000000
+for each in "$edition" "$edition_2" "$edition_3"; do
+    unreadable '5 34 0' 'step 1 (load): object 4 is not within 0 to 3' \
+        "$each $layout $fill" 21 0800 00 04 00 FF 00000000
+    unreadable '5 34 0' 'step 1 (load): object 254 is not within 0 to 3' \
+        "$each $layout $fill" 21 0800 00 FE 00 FF 00000000
+done
 unreadable '5 34 0' 'step 1 (load): view 0 is not given: the sheet has no view' \
     "$edition $layout $fill" 21 0800 00 FF 00 00 00000000
 unreadable '5 34 0' 'step 1 (store): layout 1 is not 0' \
@@ -382,15 +435,27 @@ unreadable '5 4 0' 'step 0 (vector): memory layout 2 is not within 0 to 1' \
     "$edition_2" 26 1300 01 05 00 00 01 02 08 02 0800 00000000 00 00000000
 unreadable '5 4 0' 'step 0 (vector): bias 2 is not within 0 to 1' \
     "$edition_2" 26 1300 01 05 00 00 01 02 08 00 0800 00000000 02 00000000
-unreadable '5 4 0' 'step 0 (vector): bias offset 16777216 is not 0, and there is no bias' \
-    "$edition_2" 26 1300 01 05 00 00 01 02 08 00 0800 00000000 00 00000001
+for newer in "$edition_2" "$edition_3"; do
+    unreadable '5 4 0' 'step 0 (vector): bias offset 16777216 is not 0, and there is no bias' \
+        "$newer" 26 1300 01 05 00 00 01 02 08 00 0800 00000000 00 00000001
+done
 
-misstepped '7 0 0' 'load: register 0 is empty, and without an object the load starts from it' \
-    "$edition $layout $load"
+for each in "$edition" "$edition_2"; do
+    misstepped '7 0 0' 'load: register 0 is empty, and without an object the load starts from it' \
+        "$each $layout $load"
+done
+misstepped '7 0 0' 'load: register 0 is empty, and without an object the load starts from zeros of its type' \
+    "$edition_3 $layout $load"
+misstepped '7 1 0' 'load: register 2 is empty, and without an object the load starts from zeros of its type' \
+    "$edition_3 $layout $fill" 21 0800 02 FF 00 FF 00000000
 misstepped '7 0 0' 'store: register 0 is empty' \
     "$edition $layout $store"
-misstepped '7 1 0' 'load: register 1 is empty' \
-    "$edition $layout $fill" 21 0800 00 01 00 FF 00000000
+for each in "$edition" "$edition_3"; do
+    misstepped '7 1 0' 'load: register 1 is empty' \
+        "$each $layout $fill" 21 0800 00 01 00 FF 00000000
+    misstepped '7 1 0' 'load: register 1 is empty' \
+        "$each $layout $fill" 21 0800 01 01 00 FF 00000000
+done
 misstepped '7 1 0' 'reduce: register 1 is empty' \
     "$edition $fill" 23 0600 00 01 01 01 03 00
 misstepped '7 1 0' 'transpose: register 3 is empty' \
@@ -407,10 +472,12 @@ misstepped '8 3 0' 'multiply-add: A register 0 (1x8 u8), B register 1 (8x1 u8), 
     "$edition $fill $reduce $transpose" 25 0400 03 00 01 00
 misstepped '8 1 0' 'multiply-add: A register 0 (1x1 s16), B register 0 (1x1 s16), C register 0 (1x1 s16): C must be u32 or s32' \
     "$edition" 20 0800 00 01 01 03 00000000 25 0400 03 00 00 00
-misstepped '7 0 0' 'vector: register 0 is empty' \
-    "$edition_2 $vector"
-misstepped '8 1 0' 'vector: input register 0 (1x8 u8) as u8: with K 8 it must be 8x1' \
-    "$edition_2 $fill $vector"
+for newer in "$edition_2" "$edition_3"; do
+    misstepped '7 0 0' 'vector: register 0 is empty' \
+        "$newer $vector"
+    misstepped '8 1 0' 'vector: input register 0 (1x8 u8) as u8: with K 8 it must be 8x1' \
+        "$newer $fill $vector"
+done
 misstepped '8 1 0' 'vector: input register 0 (8x1 u8) as s32: with K 7 it must be 7x1' \
     "$edition_2 $column" 26 1300 01 05 00 05 01 02 07 00 0800 00000000 00 00000000
 misstepped '8 1 0' 'vector: input register 0 (2x1 s32) as packed-s8: with K 8 it must be 2x1 u32' \
@@ -449,8 +516,10 @@ misstepped '14 1 4' 'load: row 0, column 4: byte 84 does not lie in the memory o
 misstepped '14 2 4' 'store: row 0, column 4: byte 84 does not lie in the memory of 64 bytes' \
     "$edition $far $fill $fill $store"
 # 14: elements of a vector step's matrix go by row, whatever the memory layout, then those of its bias.
-misstepped '14 1 7' 'vector: matrix row 0, column 7: byte 64 does not lie in the memory of 64 bytes' \
-    "$edition_2 $column" 26 1300 01 05 00 00 01 02 08 00 0800 39000000 00 00000000
+for newer in "$edition_2" "$edition_3"; do
+    misstepped '14 1 7' 'vector: matrix row 0, column 7: byte 64 does not lie in the memory of 64 bytes' \
+        "$newer $column" 26 1300 01 05 00 00 01 02 08 00 0800 39000000 00 00000000
+done
 misstepped '14 1 15' 'vector: matrix row 1, column 7: byte 64 does not lie in the memory of 64 bytes' \
     "$edition_2 $column" 26 1300 01 05 00 00 01 02 08 00 0900 30000000 00 00000000
 misstepped '14 1 6' 'vector: matrix row 0, column 6: bytes 66 to 69 do not all lie in the memory of 64 bytes' \
@@ -473,21 +542,47 @@ misstepped '15 1 4' 'store: row 0, column 4: byte 0 has element 0 already, row 0
     "$edition $round $fill $store"
 
 # 16: as many records as a tape may have, then one more.
+# longest_tape: the sheet's tape has so many, and leaves what the sheet leaves.
+longest_tape() {
+    call 0 tape sheet
+    if [ "$(wc -l < stdout)" -eq 1024 ]; then pass; else fail 'a tape of 1024 records'; fi
+    cp stdout longest
+    call 0 run-tape sheet longest memory
+    cp stdout ran
+    call 0 run sheet memory
+    same 'the longest tape' stdout ran
+}
 zigzag='10 1000 01 04 00000000 0100 0200 0100 0000 0010'
 sixteen='20 0800 00 10 10 00 00000000'
-seven="$load $load $load $load $load $load $load"
+six="$load $load $load $load $load $load"
+seven="$six $load"
 rest='20 0800 01 0F 10 00 00000000 21 0800 01 FF 00 FF 00000000 20 0800 02 01 0A 00 00000000'
 bytes sheet "$edition $zigzag $sixteen $seven $rest" 21 0800 02 FF 00 FF 00000000
-call 0 tape sheet
-if [ "$(wc -l < stdout)" -eq 1024 ]; then pass; else fail 'a tape of 1024 records'; fi
-cp stdout longest
-call 0 run-tape sheet longest memory
-cp stdout ran
-call 0 run sheet memory
-same 'the longest tape' stdout ran
+longest_tape
 bytes sheet "$edition $zigzag $sixteen $seven $rest" 21 0800 02 00 00 FF 00000000
 refused_tape '16 0 0' 'the tape has more than 1024 records' tape sheet
 call 0 run sheet memory
+# In edition 3 the zeros of a load without an object are a record too. Six loads of 256 elements and three of 240, 64 and
+# 182, two elements a run, behind four fills: 4 + 6 * (1 + 128) + (1 + 120) + (1 + 32) + (1 + 91) = 1024.
+rest='20 0800 01 0F 10 00 00000000 21 0800 01 FF 00 FF 00000000 20 0800 02 08 08 00 00000000
+      21 0800 02 FF 00 FF 00000000 20 0800 03 0D 0E 00 00000000 21 0800 03 FF 00 FF 00000000'
+bytes sheet "$edition_3 $zigzag $sixteen $six $rest"
+longest_tape
+bytes sheet "$edition_3 $zigzag $sixteen $six $rest $fill"
+refused_tape '16 0 0' 'the tape has more than 1024 records' tape sheet
+call 0 run sheet memory
+put_edition 2
+call 0 tape sheet
+if [ "$(wc -l < stdout)" -eq 1016 ]; then pass; else fail 'the same steps in edition 2: nine records fewer'; fi
+# The most records of one step: the elements have a byte and none by turns.
+turns='10 1000 01 01 00000000 0100 0100 0100 0000 0200'
+sed -n 's/^#define MOONBLEAT_STEP_RECORDS \([0-9]*\).*/\1/p' "$root/include/moonbleat.h" > expected
+for each in "$edition_2 $turns $sixteen 21 0800 00 00 00 FF 00000000" "$edition_3 $turns $sixteen $load"; do
+    bytes sheet "$each"
+    call 0 tape sheet
+    sed 1d stdout | wc -l > count
+    same 'the most records of a step' count expected
+done
 
 # 17: each record out of range behind two good ones.
 tape_refused() {
@@ -538,17 +633,19 @@ tape_accepted '1 0 7 1 63 65535'
 tape_accepted '2 0 7 1 63 -65535' '2 0 0 8 7 -1' '2 0 0 8 0 0'
 tape_accepted '3 0 0 8 255 0' '0 3 0 0 0 0' '4 3 0 0 0 0'
 # A vector step that would get 7, 8 or 14 here; the last one is right.
-bytes sheet "$edition_2 $column" \
-    26 1300 01 05 02 00 01 02 08 00 0800 00000000 00 00000000 26 1300 01 05 00 00 01 02 07 00 0800 00000000 00 00000000 \
-    26 1300 01 05 00 08 01 02 08 00 0800 00000000 00 00000000 26 1300 01 05 00 00 01 02 08 01 0800 08000000 00 00000000 \
-    26 1300 01 05 00 00 01 02 08 00 0800 00000000 01 39000000 26 1300 01 05 00 00 01 02 08 00 0800 30000000 01 38000000
-tape_refused '17 2 0' 'whole step: step 1 (vector) cannot be done: register 2 is empty' '4 1 0 0 0 0'
-tape_refused '17 2 0' 'whole step: step 2 (vector) cannot be done: input register 0 (8x1 u8) as u8: with K 7 it must be 7x1' '4 2 0 0 0 0'
-tape_refused '17 2 0' 'whole step: step 3 (vector) cannot be done: input register 0 (8x1 u8) as packed-s8: with K 8 it must be 2x1 u32' '4 3 0 0 0 0'
-tape_refused '17 2 0' 'whole step: step 4 (vector) cannot be done: matrix row 0, column 7: byte 64 does not lie in the memory of 64 bytes' '4 4 0 0 0 0'
-tape_refused '17 2 0' 'whole step: step 5 (vector) cannot be done: bias 1: bytes 61 to 64 do not all lie in the memory of 64 bytes' '4 5 0 0 0 0'
-tape_refused '17 2 0' 'whole step: the unused number 1 is not 0' '4 6 1 0 0 0'
-tape_accepted '4 6 0 0 0 0'
+for newer in "$edition_2" "$edition_3"; do
+    bytes sheet "$newer $column" \
+        26 1300 01 05 02 00 01 02 08 00 0800 00000000 00 00000000 26 1300 01 05 00 00 01 02 07 00 0800 00000000 00 00000000 \
+        26 1300 01 05 00 08 01 02 08 00 0800 00000000 00 00000000 26 1300 01 05 00 00 01 02 08 01 0800 08000000 00 00000000 \
+        26 1300 01 05 00 00 01 02 08 00 0800 00000000 01 39000000 26 1300 01 05 00 00 01 02 08 00 0800 30000000 01 38000000
+    tape_refused '17 2 0' 'whole step: step 1 (vector) cannot be done: register 2 is empty' '4 1 0 0 0 0'
+    tape_refused '17 2 0' 'whole step: step 2 (vector) cannot be done: input register 0 (8x1 u8) as u8: with K 7 it must be 7x1' '4 2 0 0 0 0'
+    tape_refused '17 2 0' 'whole step: step 3 (vector) cannot be done: input register 0 (8x1 u8) as packed-s8: with K 8 it must be 2x1 u32' '4 3 0 0 0 0'
+    tape_refused '17 2 0' 'whole step: step 4 (vector) cannot be done: matrix row 0, column 7: byte 64 does not lie in the memory of 64 bytes' '4 4 0 0 0 0'
+    tape_refused '17 2 0' 'whole step: step 5 (vector) cannot be done: bias 1: bytes 61 to 64 do not all lie in the memory of 64 bytes' '4 5 0 0 0 0'
+    tape_refused '17 2 0' 'whole step: the unused number 1 is not 0' '4 6 1 0 0 0'
+    tape_accepted '4 6 0 0 0 0'
+done
 { cat longest; echo '4 0 0 0 0 0'; } > tape
 refused '17 0 0' 'the tape has more than 1024 records' run-tape sheet tape memory
 
@@ -981,7 +1078,7 @@ same 'signs' stdout expected
 # Vector steps: components saturate, by the register's sign and the interpretation's; packed ones are taken
 # from the lowest byte on, and those past K not at all; sums wrap at 32 bits; the result may be the input.
 bytes vectors FF 80 7F 01 FFFF 0000 FFFFFFFF 00000080 05000000 FFFFFFFF
-cat > text << 'END'
+cat > text2 << 'END'
 edition 2
 fill r0 1x1 s32 -1
 vector r1 s32 of r0 as u32 matrix u8 1x1 row-major stride 0 offset 0 bias 16
@@ -991,12 +1088,15 @@ fill r0 2x1 s16 -300
 vector r3 s32 of r0 as s8 matrix s8 2x2 column-major stride 2 offset 0
 vector r0 s32 of r0 as s16 matrix u8 2x2 row-major stride 2 offset 0 bias 16
 END
-call 0 asm text -o sheet
-call 0 run sheet vectors
 printf '%s\n' 'register 0: 2 by 1 of s32' ' -114895' '  -38401' 'register 1: 1 by 1 of s32' ' 5' \
     'register 2: 1 by 1 of u32' ' 2147483647' 'register 3: 2 by 1 of s32' ' -16128' '  16256' \
     'accepted, byte-elements: 0' > expected
-same 'vector steps' stdout expected
+sed 's/^edition 2/edition 3/' text2 > text3
+for number in 2 3; do
+    call 0 asm "text$number" -o sheet
+    call 0 run sheet vectors
+    same "vector steps in edition $number" stdout expected
+done
 cat > text << 'END'
 edition 2
 fill r0 2x1 u32 0xFF807F01
@@ -1077,6 +1177,98 @@ edition 1
 END
 same 'a cut head in words' stdout expected
 
+# -- What a load starts from ---------------------------------------------------------------------
+
+# starts LOAD COUNT KEPT RECORDS ZEROED RECORDS: register 0, eight s16 of -7, is loaded so, beside eight of 5 in
+# register 1, and COUNT elements have a byte. KEPT and the records of the load are what editions 1 and 2 give, the last
+# two words what edition 3 gives.
+starts() {
+    for number in 1 2 3; do
+        cat > text << END
+edition $number
+layout L0 Constant
+  dim size 3 stride 1 offset -2 span 8
+layout L1 Constant
+  dim size 1 stride 1 offset 1 span 8
+layout L2 Undefined
+  dim size 8 stride 0 span 8
+view V0 permutation 0
+  clip columns 1 4
+view V1 permutation 0
+  clip columns 8 65535
+fill r0 1x8 s16 -7
+fill r1 1x8 s16 5
+load r0 $1 base 16
+END
+        call 0 asm text -o sheet
+        if [ "$number" -lt 3 ]; then wanted_elements=$3 wanted_records=$4; else wanted_elements=$5 wanted_records=$6; fi
+        json ".byte_elements == $2 and .records == [[4,0,0,0,0,0],[4,1,0,0,0,0]$wanted_records]" call 0 tape sheet
+        call 0 tape sheet
+        cp stdout tape
+        for words in 'run sheet counted' 'run-tape sheet tape counted'; do
+            # shellcheck disable=SC2086
+            json ".byte_elements == $2 and .registers[0] == {kind: \"s16\", rows: 1, columns: 8,
+                elements: [[$wanted_elements]]} and .registers[1].elements == [[5,5,5,5,5,5,5,5]]" call 0 $words
+        done
+    done
+}
+whole=',[3,0,0,8,0,0]'
+# Without a view no element is skipped: the first two are filled with 0, then three have bytes, then three are filled.
+# The zeros are there, and not joined with the first run.
+elements=0,0,4368,4882,5396,0,0,0
+runs=',[3,0,0,2,0,0],[1,0,2,3,16,2],[3,0,5,3,0,0]'
+starts L0 3 "$elements" "$runs" "$elements" "$whole$runs"
+# A clip of columns 1 to 4: two are filled with 0, two have bytes, and the others are skipped.
+runs=',[3,0,1,2,0,0],[1,0,3,2,16,2]'
+starts 'L0 V0' 2 -7,0,0,4368,4882,-7,-7,-7 "$runs" 0,0,0,4368,4882,0,0,0 "$whole$runs"
+starts 'object none L0 V0' 2 -7,0,0,4368,4882,-7,-7,-7 "$runs" 0,0,0,4368,4882,0,0,0 "$whole$runs"
+# An object is copied, the register itself too, in every edition.
+for object in 0:-7 1:5; do
+    elements=${object#*:},0,0,4368,4882,${object#*:},${object#*:},${object#*:}
+    records=",[0,0,${object%:*},0,0,0]$runs"
+    starts "object r${object%:*} L0 V0" 2 "$elements" "$records" "$elements" "$records"
+done
+# All are skipped; all are filled with 0, by a record like that of the zeros; all have a byte.
+starts 'L0 V1' 0 -7,-7,-7,-7,-7,-7,-7,-7 '' 0,0,0,0,0,0,0,0 "$whole"
+starts L1 0 0,0,0,0,0,0,0,0 "$whole" 0,0,0,0,0,0,0,0 "$whole$whole"
+elements=4368,4368,4368,4368,4368,4368,4368,4368
+starts L2 8 "$elements" ',[1,0,0,8,16,0]' "$elements" "$whole,[1,0,0,8,16,0]"
+
+# The zeros are of the type that the register has then, here by a transpose; another register keeps what it has.
+cat > text << 'END'
+edition 3
+layout L0 Undefined
+  dim size 1 stride 1 span 1
+view V0 permutation 0
+  clip rows 3 65535
+fill r0 2x3 u32 4294967295
+transpose r1 of r0
+load r1 object zeros L0 V0 base 0
+END
+call 0 asm text -o sheet
+call 0 run sheet counted
+printf '%s\n' 'register 0: 2 by 3 of u32' ' 4294967295 4294967295 4294967295' ' 4294967295 4294967295 4294967295' \
+    'register 1: 3 by 2 of u32' ' 0 0' ' 0 0' ' 0 0' 'register 2: empty' 'register 3: empty' \
+    'accepted, byte-elements: 0' > expected
+same 'zeros of another type' stdout expected
+call 0 tape sheet
+printf '%s\n' '4 0 0 0 0 0' '4 1 0 0 0 0' '3 1 0 6 0 0' > expected
+same 'the record of zeros of another type' stdout expected
+
+# In words and in JSON.
+for number in 1 2 3; do
+    bytes sheet "01 0100 0$number $layout $fill $load" 21 0800 00 00 00 FF 10000000
+    if [ "$number" -lt 3 ]; then words='its own object' name=register; else words='from zeros' name=zeros; fi
+    call 0 show sheet
+    tail -n 2 stdout > part
+    printf '%s\n' "step 1: load register 0, $words, layout 0, no view, base 0" \
+        'step 2: load register 0, object register 0, layout 0, no view, base 16' > expected
+    same "loads in words, in edition $number" part expected
+    json ".fields[3] == {field: \"load\", byte: 34, register: 0, object: null, starts_from: \"$name\", layout: 0, view: null,
+            base: 0} and .fields[4].object == 0 and .fields[4].starts_from == \"object\" and
+        ([.fields[] | has(\"starts_from\")] == [false, false, false, true, true])" call 0 show sheet
+done
+
 # -- The text form -------------------------------------------------------------------------------
 
 # assembles TEXT HEX..: the text must give these bytes, and these bytes come back from their text.
@@ -1118,15 +1310,43 @@ assembles "${head}view V0 permutation 1 0\n  clip columns 2 3\n  dim size 8 stri
     "$edition $repeat" 11 1400 02 01 01 00 0800 0100 0900 0200 0000 FFFF 0200 0300
 assembles "${head}fill r3 16x1 s8 -1\nfill r0 1x1 s32 -2147483648\nfill r0 1x1 s16 65535\n" \
     "$edition $repeat" 20 0800 03 10 01 01 FF000000 20 0800 00 01 01 05 00000080 20 0800 00 01 01 03 FFFF0000
-assembles "${head}load r1 object r0 L0 base 0x10\nload r1 L0 base 0\nload r1 object none L0 none base 0\n" \
-    "$edition $repeat" 21 0800 01 00 00 FF 10000000 21 0800 01 FF 00 FF 00000000 21 0800 01 FF 00 FF 00000000
 assembles "${head}view V0 permutation 0\nstore r0 L0 V0 base 4294967295\nreduce r1 of r2 3x4 2x2 xor\n" \
     "$edition $repeat $view" 22 0700 00 00 00 FFFFFFFF 23 0600 01 02 03 04 04 05
 assembles 'edition 1\ntranspose r1 of r0\nmultiply-add r3 A r0 B r1 C r2\n' "$edition $transpose $multiply"
 assembles 'bytes 01 0100 01\nbytes 20\nbytes 080000010800 00000000' "$edition $fill"
 
+# What the text says of a load without an object: nothing in editions 1 and 2, from edition 3 on its zeros.
+loads='load r1 object r0 L0 base 0x10\nload r1 L0 base 0\nload r1 object none L0 none base 0\nload r1 object r1 L0 base 0\n'
+first='21 0800 01 00 00 FF 10000000'
+without='21 0800 01 FF 00 FF 00000000'
+itself='21 0800 01 01 00 FF 00000000'
+repeat_text='layout L0 Repeat\n  dim size 8 stride 1 span 8\n'
+for number in 1 2 3; do
+    assembles "edition $number\n$repeat_text$loads" "01 0100 0$number $repeat $first $without $without $itself"
+    if [ "$number" -lt 3 ]; then object=; else object=' object zeros'; fi
+    sed -n 's/^load //p' text > part
+    printf '%s\n' 'r1 object r0 L0 base 16' "r1$object L0 base 0" "r1$object L0 base 0" 'r1 object r1 L0 base 0' > expected
+    same "the text of loads in edition $number" part expected
+done
+assembles "edition 3\n${repeat_text}view V0 permutation 0\nload r1 object zeros L0 base 0\nload r1 object zeros L0 V0 base 16\n" \
+    "$edition_3 $repeat $view $without" 21 0800 01 FF 00 00 10000000
+assembles "bytes $edition_3\n${repeat_text}load r1 object zeros L0 base 0\n" "$edition_3 $repeat $without"
+for number in 1 2; do
+    wrong_zeros="object zeros comes with edition 3, and the sheet has edition $number, in which a load without an object keeps what its register holds"
+    misspelt "edition $number\n${repeat_text}load r1 object zeros L0 base 0\n" "text:4:16: $wrong_zeros"
+    misspelt "bytes 01 0100 0$number\n${repeat_text}load r1 object zeros L0 base 0\n" "text:4:16: $wrong_zeros"
+    misspelt "allow refused\nedition $number\n${repeat_text}load r1 object zeros L0 base 0\n" "text:5:16: $wrong_zeros"
+done
+misspelt "${repeat_text}load r1 object zeros L0 base 0\n" 'text:1:1: layout 0 comes before the edition' \
+    'text:3:1: step 0 (load) comes before the edition' 'text:3:1: the sheet has no edition'
+misspelt "edition 3\n${repeat_text}load r1 object zero L0 base 0\nload r1 L0 zeros base 0\nstore r1 object zeros L0 base 0\n" \
+    "text:4:16: expected the object as r0, not 'zero'" "text:5:12: expected 'base' and a number, not 'zeros'" \
+    "text:6:10: expected the layout as L0, not 'object'" "text:6:17: expected 'base' and a number, not 'zeros'"
+
 weights='matrix s8 2x8 row-major stride 8 offset 0'
-assembles "edition 2\nvector r1 s32 of r0 as u8 $weights\n" "$edition_2 $vector"
+for number in 2 3; do
+    assembles "edition $number\nvector r1 s32 of r0 as u8 $weights\n" "01 0100 0$number $vector"
+done
 assembles 'edition 2\nvector r1 5 of r0 as 0 matrix 1 2x8 0 stride 0x8 offset 0x0\n' "$edition_2 $vector"
 assembles "edition 2\nvector r3 u32 of r2 as packed-u8 matrix u16 16x1 column-major stride 65535 offset 4294967295 bias 0\n" \
     "$edition_2" 26 1300 03 04 02 09 02 10 01 01 FFFF FFFFFFFF 01 00000000
@@ -1159,7 +1379,9 @@ misspelt "edition 2\nvector r1 s32 from r0 as u8 $weights bais 8\n" \
 misspelt "edition 2\nvector r1 s32 of r0 as u8 $weights bias 4294967296\n" \
     'text:2:74: bias offset 4294967296 is not within 0 to 4294967295'
 misspelt 'fill r0 1x8 u8 0\n' 'text:1:1: step 0 (fill) comes before the edition' 'text:1:1: the sheet has no edition'
-misspelt 'edition 3\n' 'text:1:9: edition 3 is not within 1 to 2'
+for number in 0 4 255; do
+    misspelt "edition $number\n" "text:1:9: edition $number is not within 1 to 3"
+done
 misspelt 'edition 1 1\nedition 1\n' "text:1:11: expected the end of the line, not '1'" \
     'text:2:1: edition is repeated'
 misspelt 'edition\n' 'text:1:8: expected the edition, a number'
@@ -1246,6 +1468,11 @@ call 0 asm text -o sheet
 says 'text: warning: refusal 2 at byte 4: tag 0x26 (vector) comes with edition 2, and the sheet has edition 1'
 bytes expected "$edition" 26 1300 05 00 04 07 FF 00 FF 09 0000 00000000 01 01000000
 same 'a vector step that is refused, of a text' sheet expected
+printf 'allow refused\nedition 4\nload r1 object zeros L0 base 0\n' > text
+call 0 asm text -o sheet
+says 'text: warning: refusal 6 at byte 0: edition 4 is not within 1 to 3'
+bytes expected 01 0100 04 "$without"
+same 'a load from zeros of an edition that is refused' sheet expected
 
 # Standard input and output, and texts that are too long.
 printf 'edition 1\n' > text

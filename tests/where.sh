@@ -201,6 +201,40 @@ row 0  0
 1 element: 1 with a byte; none outside
 END
 
+# Strip 15: the same load in editions 2 and 3 skips the same elements, which are then what the register held, or 0.
+clipped_load() {
+    shows 1 << END
+step 1: load register 0, $1, layout 0, view 0, base 16
+matrix 2 by 4 of u8, clamp mode Undefined
+
+col     0  1  2  3
+row 0   .  . 16 17
+row 1   .  . 20 21
+
+  number  its byte in memory
+  .       skipped: outside the clip, keeps $2
+
+8 elements: 4 with a byte, 4 skipped; none outside
+END
+}
+strip 15-no-object-kept
+clipped_load 'its own object' 'what the object has'
+strip 15-no-object-zeros
+clipped_load 'from zeros' 'the 0 that the load starts from'
+# With an object, also the register itself, nothing depends on the edition.
+for edition in 1 2 3; do
+    for object in 0 1; do
+        sed "s/^edition .*/edition $edition/;s/^load r0 object zeros/load r0 object r$object/
+            s/^fill r0 .*/&\\nfill r1 2x4 u8 7/" "$root/strips/15-no-object-zeros/sheet.txt" > edited
+        text < edited
+        call 0 where sheet 2
+        grep -e '^step' -e 'skipped: ' stdout > part
+        printf '%s\n' "step 2: load register 0, object register $object, layout 0, view 0, base 16" \
+            '  .       skipped: outside the clip, keeps what the object has' > expected
+        same "where, edition $edition, object $object" part expected
+    done
+done
+
 # -- The strips: ways ----------------------------------------------------------------------------
 
 # way WORD..: the lines behind the first two, which are the map's, must be standard input.
@@ -327,6 +361,19 @@ rule 5: coordinate / block * stride: 4 / 1 * 1 = 4
 rule 5: base + tensor index * element size: 0 + 4 * 1 = 4
 outcome: byte 4; inside in every dimension
 END
+
+# That an element is skipped does not depend on the edition; what the load starts from is said before the way.
+for edition in kept:'its own object' zeros:'from zeros'; do
+    strip "15-no-object-${edition%%:*}"
+    shows 1 --element 1,0 << END
+step 1: load register 0, ${edition#*:}, layout 0, view 0, base 16
+matrix 2 by 4 of u8, clamp mode Undefined
+element 4: row 1, column 0
+rule 1: outside the clip: column 0 is below column offset 2
+rules 2 to 5: do not apply
+outcome: skipped
+END
+done
 
 strip 10-stride-zero-single
 way 1 --element 0 << 'END'
@@ -674,9 +721,11 @@ json '.command == "where" and .accepted and .refusal == null and .memory == 16 a
 json '(has("outcomes") | not) and .outcome == {element: 7, sort: "filled", byte: null, bits: 9, dimension: 0,
     side: "above"} and (.way | length) == 7 and .way[0] == "element 7: row 0, column 7" and
     .way[6] == "outcome: filled with 9; dimension 0 is the first outside, above"' call 0 where sheet 1 --element 7
-strip 08-clip
-json '.outcomes[0] == {element: 0, sort: "skipped", byte: null, bits: null, dimension: null, side: "inside"}' \
-    call 0 where sheet 1
+for name in 08-clip 15-no-object-zeros; do
+    strip "$name"
+    json '.outcomes[0] == {element: 0, sort: "skipped", byte: null, bits: null, dimension: null, side: "inside"}' \
+        call 0 where sheet 1
+done
 strip 06-clamped-store
 json '.outcomes[0] == {element: 0, sort: "discarded", byte: null, bits: null, dimension: 0, side: "below"}' \
     call 0 where sheet 2
