@@ -1,4 +1,4 @@
-//! The strips of the scope and three beside them: sheets and memories from the files under `strips/`, and what the
+//! The strips of the scope and five beside them: sheets and memories from the files under `strips/`, and what the
 //! scope says that they give.
 
 use crate::jobs::{Answer, Jobs, OutcomeRow, State, AGREES};
@@ -34,7 +34,7 @@ macro_rules! strip {
     };
 }
 
-/// Every strip, in the scope's order; the last three are none of the scope's.
+/// Every strip, in the scope's order; the last five are none of the scope's.
 pub fn strips() -> Vec<Strip> {
     use Expected::*;
     vec![
@@ -57,6 +57,8 @@ pub fn strips() -> Vec<Strip> {
             Memory(80, &[0xF4, 0x01, 0, 0, 0xC5, 0x03, 0, 0, 0x48, 0xF4, 0xFF, 0xFF])
         ),
         strip!("14-spans-of-one", Register(0, [2, 4], &[0, 1, 2, 4, 5, 6, 0, 1])),
+        strip!("15-no-object-kept", Register(0, [2, 4], &[100, 100, 16, 17, 100, 100, 20, 21])),
+        strip!("15-no-object-zeros", Register(0, [2, 4], &[0, 0, 16, 17, 0, 0, 20, 21])),
     ]
 }
 
@@ -292,6 +294,6 @@ mod tests {
 
     #[test]
     fn the_reference_gives_what_the_scope_says() {
-        assert_eq!(check_strips(&Reference::default()), Ok(16));
+        assert_eq!(check_strips(&Reference::default()), Ok(18));
     }
 }

@@ -177,8 +177,8 @@ fn show_order() {
 fn show_contents() {
     let long = [0x01u8, 0x02, 0x00, 0x01, 0x00];
     show(b"an edition of two bytes: ", &long);
-    let next = [0x01u8, 0x01, 0x00, 0x03];
-    show(b"edition 3: ", &next);
+    let next = [0x01u8, 0x01, 0x00, 0x04];
+    show(b"edition 4: ", &next);
     let wide = [
         0x01u8,
         0x01,

@@ -1,5 +1,5 @@
--- Document 01's strips 1 to 11, one of blocks of 2, and document 02's network of vector steps, as one list: sheets as bytes, each with a memory, what is
--- asked and what is wanted.
+-- Document 01's strips 1 to 11, one of blocks of 2, and document 02's: a network of vector steps, and a load without an object in two editions. One list:
+-- sheets as bytes, each with a memory, what is asked and what is wanted.
 use Prim.Native.Nat.{ℕ, zero, suc, _/_, _%_}
 use mathlib.Core.Path.{_≡_, refl}
 use mathlib.Core.List.{List, [], _∷_, _++_, map}
