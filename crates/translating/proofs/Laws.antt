@@ -47,23 +47,6 @@ object-few register Kept t = omega arith
 object-few register Zeros t = omega arith
 object-few register (Register object) t = omega arith
 
--- the most records of a step: its object's, and a run for each element
-abbrev pub recordsMost : ℕ
-recordsMost = matrixPlaces + 2
-
-pub step-few : (tensors : Tensors) (ts : List MatrixType) (len k : ℕ) (st : Step) → Sized ts → length (stepRecords tensors ts len k st) ≤ recordsMost
-unfolding stepRecords
-step-few tensors ts len k Nothing s = omega arith
-step-few tensors ts len k (Load register object window) s =
-    let t = theType ts (objectRegister register object) in
-    let a = accessOf tensors true window t len in
-    rw (length-append (objectRecords register object t) (accessRecords a register))
-    (omega (arith, object-few register object t, access-few a register, sized-places t (s .each (objectRegister register object))))
-step-few tensors ts len k (Store register window) s =
-    let t = theType ts register in
-    omega (arith, access-few (accessOf tensors false window t len) register, sized-places t (s .each register))
-step-few tensors ts len k (Whole whole) s = omega arith
-
 -- how many records a step becomes does not depend on its number
 pub step-records : (tensors : Tensors) (ts : List MatrixType) (len k : ℕ) (st : Step) → length (stepRecords tensors ts len k st) ≡ length (stepRecords tensors ts len 0 st)
 unfolding stepRecords
@@ -109,6 +92,22 @@ module _ (tensors : Tensors) (ts : List MatrixType) (len k register : ℕ) (wind
       pub runs-room : (tape₁ : List ℤ) {at₁ : ℕ} → length tape₁ ≡ length tape → at₁ ≡ at + length (objectRecords register object objectType)
           → Room tape₁ at₁ (accessRecords loadAccess register)
       runs-room tape₁ e f = omega (arith, room, load-length, e, f)
+
+-- the most records of a step: its object's, and a run for each element
+abbrev pub recordsMost : ℕ
+recordsMost = matrixPlaces + 1
+
+pub step-few : (tensors : Tensors) (ts : List MatrixType) (len k : ℕ) (st : Step) → Sized ts → length (stepRecords tensors ts len k st) ≤ recordsMost
+unfolding stepRecords
+step-few tensors ts len k Nothing s = omega arith
+step-few tensors ts len k (Load register object window) s =
+    let t = theType ts (objectRegister register object) in
+    let few = access-few (accessOf tensors true window t len) register in
+    omega (arith, load-length tensors ts len k register window object, object-few register object t, few, sized-places t (s .each (objectRegister register object)))
+step-few tensors ts len k (Store register window) s =
+    let t = theType ts register in
+    omega (arith, access-few (accessOf tensors false window t len) register, sized-places t (s .each register))
+step-few tensors ts len k (Whole whole) s = omega arith
 
 -- ---- the answer
 

@@ -5,18 +5,21 @@ use mathlib.Core.Bool.{Bool}
 use mathlib.Core.List.{List, _++_}
 use native.Mathlib.Numerals.{add-one}
 use native.Mathlib.Omega.{arith}
+use lib.Dec.{eqb}
 use lib.IntN.{ℤ}
 use lib.ListN.{length, length-append}
 use lib.Seq.{sets, length-sets}
+use Rattle.numbers.specs.Laws.Choice.{pick-case}
 use Rattle.numbers.specs.Lists.{each}
 use Rattle.numbers.specs.Laws.Lists.{each-more, each-fits, length-each-more, puts-after}
 use Rattle.outcomes.specs.declared.Outcome.{Outcome}
+use Rattle.outcomes.specs.declared.Outcome.the-variants.{Skipped, Filled, Discarded, Placed}
 use Rattle.records.specs.Records.{recordLength, tapeNumbers}
 use Rattle.records.specs.Laws.Records.{length-tape, tape-append}
 use Rattle.runs.specs.declared.Run.{Run}
 use Rattle.runs.specs.declared.Run.the-variants.{Idle, Bytes, Fills}
 use Rattle.runs.specs.declared.Progress.{Progress}
-use Rattle.runs.specs.Runs.{next, emit, held, ending, ended, runs, runRecords, endedRecords, runsRecords}
+use Rattle.runs.specs.Runs.{meetByte, meetFill, next, emit, held, ending, ended, runs, runRecords, endedRecords, runsRecords}
 
 -- ---- the open run
 
@@ -68,11 +71,29 @@ emit-one Idle = omega arith
 emit-one (Bytes e m b u d) = omega arith
 emit-one (Fills e m v) = omega arith
 
--- so that a count fits
-pub count-few : (f : ℕ → Outcome) (k : ℕ) → length (ended f k) ≤ k
-unfolding each
+-- an element makes one run more at most
+abbrev Few : ℕ → Progress → Type 0
+Few n p = length (emit (p .done)) + length (emit (p .held)) ≤ n + 1
+
+next-few : (r : Run) (k : ℕ) (o : Outcome) → Few (length (emit r)) (next r k o)
+unfolding next meetByte meetFill
+next-few r k Skipped = omega arith
+next-few r k Discarded = omega arith
+next-few Idle k (Placed b) = omega arith
+next-few (Fills e m v) k (Placed b) = omega arith
+next-few (Bytes e m b u d) k (Placed b′) =
+    pick-case (Few 1) (eqb m 1) _ _ (λ q. omega arith)
+    (λ q. pick-case (Few 1) (eqb (b′ + m * d) (b + m * u)) _ _ (λ p. omega arith) (λ p. omega arith))
+next-few Idle k (Filled v) = omega arith
+next-few (Bytes e m b u d) k (Filled v) = omega arith
+next-few (Fills e m v) k (Filled v′) = pick-case (Few 1) (eqb v′ v) _ _ (λ q. omega arith) (λ q. omega arith)
+
+-- so there are no more runs than elements, the open one among them
+pub count-few : (f : ℕ → Outcome) (k : ℕ) → length (ended f k) + length (emit (held f k)) ≤ k
+unfolding each held
 count-few f zero = omega arith
-count-few f (suc k) = rw (length-append (ended f k) (emit (ending f k))) (omega (arith, count-few f k, emit-one (ending f k)))
+count-few f (suc k) =
+    rw (length-append (ended f k) (emit (ending f k))) (omega (arith, count-few f k, next-few (held f k) k (f k)))
 
 pub count-all : (f : ℕ → Outcome) (n : ℕ) → length (runs f n) ≡ length (ended f n) + length (emit (held f n))
 unfolding runs

@@ -1,0 +1,4 @@
+pub mod Objects
+pub mod Examples
+pub mod Laws
+pub mod Theorems
