@@ -38,7 +38,7 @@ use Rattle.records.specs.declared.Record.{Record}
 use Rattle.records.specs.declared.Record.the-variants.{Copy, Fill}
 use Rattle.access_tapes.specs.Accesses.{accessRecords}
 use Rattle.translating.specs.Tapes.{stepRecords}
-use Rattle.objects.specs.Objects.{startOf, loadedBits}
+use Rattle.objects.specs.Objects.{startOf, loadedBits, loadOn}
 use Rattle.objects.specs.Laws.{elements-loaded, object-element, before-formed}
 
 -- ---- what 255 means in an edition
@@ -66,11 +66,6 @@ module _ (sh : Sheet) (w : Within sh) (k : ℕ) (l : k < sh .steps) (register : 
   zeros-from e = leb-true zerosEdition (sh .edition) (object-ok Zeros e)
 
 -- ---- what a load leaves in each element
-
--- the matrix that a load of a register makes on a machine, and where its elements lie
-abbrev pub loadOn : Tensors → ℕ → Object → Window → Machine → Access
-loadOn tensors register object window m =
-    accessOf tensors true window (theType (m .registers .types) (objectRegister register object)) (length (m .memory))
 
 -- Each element of a load holds what its outcome says, and where it is skipped what the load started from.
 pub load-element : (tensors : Tensors) (register : ℕ) (object : Object) (window : Window) (m : Machine) (edition layouts views : ℕ)

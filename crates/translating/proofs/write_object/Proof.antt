@@ -42,7 +42,7 @@ same-length : tie.Need-same-length
 same-length c = search needs
 
 returns-2 : tie.Need-returns-2
-returns-2 c = rw (c .before .before .before .before .enum-told2 .given .1, ← c .before .before .before .element-count .ensures .0) (c .before .write-record .ensures)
+returns-2 c = rw (c .before .before .before .before .enum-told2 .given .1) (rw (c .before .before .before .element-count .ensures .0) at (c .before .write-record .ensures))
 
 same-length-2 : tie.Need-same-length-2
 same-length-2 c = search needs
