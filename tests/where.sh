@@ -690,7 +690,9 @@ fill r0 1x1 u8 0
 END
 refuses 'refusal 5 at step 0, element 0: fill is no load or store; loads and stores: none' 0
 refuses 'refusal 5 at step 1, element 0: the sheet has 1 step, from 0 on; loads and stores: none' 1
-echo 'edition 1' | text
+text << 'END'
+edition 1
+END
 refuses 'refusal 5 at step 0, element 0: the sheet has no steps' 0
 
 # Where a number of the sheet is out of its range, the place is a byte, also where a step of that number is asked for.
