@@ -19,7 +19,7 @@
 #   make check      lint, test, text-test and compare: all but the proofs
 #   make memcheck   the tool's tests with sanitizers, then with each third call (of diff and night:
 #                   each ninth) under valgrind, then 500 sheets of each edition of the comparison
-#                   under it: some nine minutes
+#                   under it: some 13 minutes
 #
 # The archive is made by `rt staticlib moonbleat`, which proves what is not proved yet: some
 # minutes the first time. ARCHIVE=path names another one.
