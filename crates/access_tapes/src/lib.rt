@@ -1,14 +1,16 @@
-// The records of one load or store: counted, and written.
+// The records of one load or store, counted and written, and its mask.
 ghost use mathlib.Core.Path.{_≡_};
 ghost use Prim.Native.Nat.{_<_, _≤_};
 ghost use lib.ListN.{length};
-ghost use Rattle.sheet.specs.Sizes.{registerCount, matrixPlaces};
+ghost use lib.Seq.{sets};
+ghost use Rattle.sheet.specs.Sizes.{registerCount, stepPlaces, matrixPlaces};
 ghost use Rattle.addressing.specs.Rules.{elementsOf};
 ghost use Rattle.transfers.specs.Transfers.{outcomeOf};
 ghost use Rattle.checking.specs.Steps.{accessOf};
 ghost use Rattle.accepted.specs.Accepted.{ClearWindow, entriesOutcome};
 ghost use Rattle.runs.specs.Runs.{runs, runsRecords};
-ghost use Rattle.access_tapes.specs.Accesses.{accessRecords};
+ghost use Rattle.masks.specs.Masks.{maskArea, maskPlace, bitOf, maskOf};
+ghost use Rattle.access_tapes.specs.Accesses.{accessOutcomes, accessRecords};
 ghost use Rattle.access_tapes.specs.Writing.{Room, Wrote};
 use registers::MatrixType;
 use runs::Run;
@@ -79,11 +81,13 @@ pub fn count_window(
     count_runs(entries, o.count, o.fill)
 }
 
-// Writes them from record `at` of a tape on: the next record's number.
+// Writes them from record `at` of a tape on, and the mask of step `k`, of the same survey: the next record's number.
 pub fn write_window(
     tape: &mut [i32],
+    masks: &mut [u8],
     entries: &mut [u32; PLACES],
     at: usize,
+    k: usize,
     tensors: Tensors,
     load: bool,
     register: u8,
@@ -92,10 +96,13 @@ pub fn write_window(
     memory: usize,
 ) -> usize
     requires { ⌜ ClearWindow tensors load window t memory × (length (now entries) ≡ matrixPlaces) ⌝ }
+    requires { ⌜ (k < stepPlaces) × (maskArea ≤ length (now masks)) ⌝ }
     requires { ⌜ (register < registerCount) × Room (now tape) at (accessRecords (accessOf tensors load window t memory) register) ⌝ }
     ensures { λ _. ⌜ length (now (entries .exit)) ≡ matrixPlaces ⌝ }
     ensures { λ r. ⌜ Wrote (now (tape .entry)) (now (tape .exit)) at (accessRecords (accessOf tensors load window t memory) register) r ⌝ }
+    ensures { λ _. ⌜ now (masks .exit) ≡ sets (now (masks .entry)) (maskPlace k) (maskOf (bitOf (accessOutcomes (accessOf tensors load window t memory)))) ⌝ }
 {
     let o = accepted::survey_window(entries, tensors, load, window, t, memory);
+    masks::put_mask(masks, k, entries, o.count);
     write_runs(tape, entries, o.count, o.fill, at, load, register)
 }

@@ -1,8 +1,6 @@
 -- Request T-06: what becomes of an element of a load or a store, and beside it the first dimension in which it is not inside.
 use Prim.Native.Nat.{ℕ, _/_, _%_}
-use mathlib.Core.List.{List, []}
-use lib.Dec.{ltb}
-use Rattle.numbers.specs.Choice.{pick}
+use mathlib.Core.List.{List}
 use Rattle.outcomes.specs.declared.Outside.{Outside}
 use Rattle.outcomes.specs.declared.Outside.the-variants.{Nowhere}
 use Rattle.outcomes.specs.declared.Explained.{Explained}
@@ -10,7 +8,6 @@ use Rattle.sheet.specs.declared.Layout.{Layout}
 use Rattle.sheet.specs.declared.Tensors.{Tensors}
 use Rattle.sheet.specs.declared.Sheet.{Sheet}
 use Rattle.sheet.specs.declared.Step.{Step}
-use Rattle.sheet_ranges.specs.Steps.{theStep}
 use Rattle.registers.specs.declared.MatrixType.{MatrixType}
 use Rattle.spans.specs.Spans.{spanCoordinates}
 use Rattle.clamps.specs.Sides.{firstOutside}
@@ -19,8 +16,7 @@ use Rattle.addressing.specs.declared.Access.{Access}
 use Rattle.addressing.specs.declared.Indexed.{Indexed}
 use Rattle.addressing.specs.declared.Indexed.the-variants.{Skipped, Index}
 use Rattle.transfers.specs.Transfers.{outcomeOf}
-use Rattle.accepted.specs.Passes.{typesAt}
-use Rattle.accepted.specs.Elements.{ofStep}
+use Rattle.accepted.specs.Elements.{ofStep, atStep}
 
 -- for what rules 1 and 2 give: a skipped element has none
 abbrev pub outsideAt : Layout → Indexed → Outside
@@ -40,6 +36,5 @@ abbrev pub stepExplained : Tensors → List MatrixType → ℕ → ℕ → Step 
 stepExplained tensors ts len k step = ofStep (λ (n : ℕ). explained) tensors ts len k step
 
 -- those of step k of a sheet; a step past the last has none
-unfoldable pub sheetExplained : Sheet → ℕ → ℕ → List Explained
-sheetExplained sh len k =
-    pick (ltb k (sh .steps)) (stepExplained (sh .tensors) (typesAt sh len k) len k (theStep (sh .step) k)) []
+abbrev pub sheetExplained : Sheet → ℕ → ℕ → List Explained
+sheetExplained sh len k = atStep (λ (n : ℕ). explained) sh len k

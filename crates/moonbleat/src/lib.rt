@@ -1,13 +1,15 @@
-// The C interface of include/moonbleat.h: the ten public routines, with rows of numbers in place of structs.
+// The C interface of include/moonbleat.h: the eleven public routines, with rows of numbers in place of structs.
 ghost use mathlib.Core.Path.{_≡_};
 ghost use mathlib.Core.List.{[], _∷_};
 ghost use lib.ListN.{length};
+ghost use Rattle.numbers.specs.Choice.{pick};
 ghost use Rattle.sheet_reader.specs.Reading.{readSheet};
 ghost use Rattle.checking.specs.Checking.{checkedSheet};
 ghost use Rattle.carrying.specs.Carrying.{carried, carriedMemory};
 ghost use Rattle.dividing.specs.Dividing.{counted};
 ghost use Rattle.explaining.specs.Explaining.{explainedSheet};
-ghost use Rattle.translating.specs.Translating.{translated, translatedRoom};
+ghost use Rattle.masks.specs.Masks.{touched};
+ghost use Rattle.translating.specs.Translating.{translated, translatedRoom, translatedMasks};
 ghost use Rattle.running.specs.Running.{runTape, ranMemory};
 ghost use Rattle.tracing.specs.Tracing.{traced, tracedRoom};
 ghost use Rattle.replaying.specs.Replaying.{replayed};
@@ -127,23 +129,36 @@ pub extern "C" fn moonbleat_carry_out(
     rows::put_answer(answer, done.refusal, done.counts.placed)
 }
 
-// Translates a sheet for a memory of a length into the lent room.
+// Translates a sheet for a memory of a length into the lent tape and mask area.
 #[no_mangle]
 pub extern "C" fn moonbleat_translate(
     sheet: &[u8],
     memory_len: usize,
     tape: &mut [i32],
+    masks: &mut [u8],
     records: &mut [u32; 1],
     answer: &mut [u32; ANSWER],
 ) -> u32
-    ensures { λ r. ⌜ r ≡ translated (now (sheet .entry)) «memory_len» (length (now (tape .entry))) .refusal .number ⌝ }
-    ensures { λ _. ⌜ now (tape .exit) ≡ translatedRoom (now (sheet .entry)) «memory_len» (now (tape .entry)) ⌝ }
-    ensures { λ _. ⌜ now (records .exit) ≡ translated (now (sheet .entry)) «memory_len» (length (now (tape .entry))) .records ∷ [] ⌝ }
-    ensures { λ _. ⌜ now (answer .exit) ≡ answerRow (translated (now (sheet .entry)) «memory_len» (length (now (tape .entry))) .refusal) (translated (now (sheet .entry)) «memory_len» (length (now (tape .entry))) .count) ⌝ }
+    ensures { λ r. ⌜ r ≡ translated (now (sheet .entry)) «memory_len» (length (now (tape .entry))) (length (now (masks .entry))) .refusal .number ⌝ }
+    ensures { λ _. ⌜ now (tape .exit) ≡ translatedRoom (now (sheet .entry)) «memory_len» (now (tape .entry)) (length (now (masks .entry))) ⌝ }
+    ensures { λ _. ⌜ now (masks .exit) ≡ translatedMasks (now (sheet .entry)) «memory_len» (length (now (tape .entry))) (now (masks .entry)) ⌝ }
+    ensures { λ _. ⌜ now (records .exit) ≡ translated (now (sheet .entry)) «memory_len» (length (now (tape .entry))) (length (now (masks .entry))) .records ∷ [] ⌝ }
+    ensures { λ _. ⌜ now (answer .exit) ≡ answerRow (translated (now (sheet .entry)) «memory_len» (length (now (tape .entry))) (length (now (masks .entry))) .refusal) (translated (now (sheet .entry)) «memory_len» (length (now (tape .entry))) (length (now (masks .entry))) .count) ⌝ }
 {
-    let made = translating::translate(sheet, memory_len, tape);
+    let made = translating::translate(sheet, memory_len, tape, masks);
     *records = [made.records as u32];
     rows::put_answer(answer, made.refusal, made.count)
+}
+
+// Did a step touch an element, by its mask? 1 or 0.
+#[no_mangle]
+pub extern "C" fn moonbleat_touched(masks: &[u8], step: u32, element: u32) -> u32
+    ensures { λ r. ⌜ r ≡ pick (touched (now (masks .entry)) «step» «element») 1 0 ⌝ }
+{
+    if masks::touched(masks, step as usize, element as usize) {
+        return 1;
+    }
+    0
 }
 
 // Runs a tape with its sheet on the lent memory.

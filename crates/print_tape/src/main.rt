@@ -5,6 +5,7 @@ ghost use Rattle.sheet.specs.Sizes.{recordPlaces};
 use libc::STDERR_FILENO;
 use libc::STDIN_FILENO;
 use libc::STDOUT_FILENO;
+use masks::MASKS;
 use records::NUMBERS;
 use sheet::sizes::RECORDS;
 
@@ -77,7 +78,8 @@ fn main() {
         }
     }
     let mut tape = [0i32; RECORDS * NUMBERS];
-    let r = translating::translate(&input[..n], MEMORY, &mut tape);
+    let mut masks = [0u8; MASKS];
+    let r = translating::translate(&input[..n], MEMORY, &mut tape, &mut masks);
     let f = r.refusal;
     if 0 < f.number {
         print_refusal(f.number, f.place, f.element);

@@ -1,14 +1,17 @@
--- What translating keeps to: the records of a step, and the answer.
-use Prim.Native.Nat.{ℕ, _+_, _*_, _<_, _≤_}
+-- What translating keeps to: the records and the mask of a step, and the answer.
+use Prim.Native.Nat.{ℕ, _+_, _-_, _*_, _<_, _≤_}
 use mathlib.Core.Path.{_≡_, refl, sym, ap, _∙_}
 use mathlib.Core.Bool.{Bool, true, false}
-use mathlib.Core.List.{List, _++_}
+use mathlib.Core.List.{List, [], _++_}
 use native.Mathlib.Omega.{arith}
-use borrow.Author.Tests.{eq-eqb, ne-eqb}
+use borrow.Author.Tests.{eq-eqb, ne-eqb, leb-true}
+use lib.Dec.{leb}
 use lib.IntN.{ℤ}
 use lib.ListN.{length, length-append}
 use lib.Seq.{sets}
-use Rattle.numbers.specs.Choice.{pick}
+use Rattle.numbers.specs.Choice.{pick, both}
+use Rattle.numbers.specs.Lists.{each}
+use Rattle.numbers.specs.Laws.Choice.{taken, left, stop, pass, both-left, both-right}
 use Rattle.refusals.specs.Refusals.{tapeTooLong, refusalAt, notRefused}
 use Rattle.sheet.specs.Sizes.{matrixPlaces}
 use Rattle.sheet.specs.declared.Object.{Object}
@@ -34,11 +37,14 @@ use Rattle.records.specs.Records.{recordLength, tapeNumbers}
 use Rattle.records.specs.Room.{recordsFit}
 use Rattle.runs.specs.Runs.{runs}
 use Rattle.runs.specs.Laws.Writing.{count-records}
-use Rattle.access_tapes.specs.Accesses.{accessRecords}
+use Rattle.accepted.specs.Elements.{ofStep}
+use Rattle.masks.specs.Masks.{maskArea, maskPlace, bitOf, maskOf, emptyMasks}
+use Rattle.access_tapes.specs.Accesses.{accessOutcomes, accessRecords}
 use Rattle.access_tapes.specs.Writing.{Room}
 use Rattle.access_tapes.specs.Laws.Few.{access-few}
 use Rattle.translating.specs.Tapes.{objectRecords, stepRecords, tapeOf}
-use Rattle.translating.specs.Translating.{translateAnswer, fitsRoom, translated, translatedRoom}
+use Rattle.translating.specs.Masks.{stepOutcomes, sheetMasks}
+use Rattle.translating.specs.Translating.{translateAnswer, fitsRoom, translated, translates, translatedRoom, translatedMasks}
 
 -- ---- the records of a step
 
@@ -109,47 +115,87 @@ step-few tensors ts len k (Store register window) s =
     omega (arith, access-few (accessOf tensors false window t len) register, sized-places t (s .each register))
 step-few tensors ts len k (Whole whole) s = omega arith
 
+-- ---- the mask of a step
+
+module _ (tensors : Tensors) (ts : List MatrixType) (len k register : ℕ) (window : Window) where
+  pub load-outcomes : (object : Object) → stepOutcomes tensors ts len k (Load register object window) ≡ accessOutcomes (loadAccess tensors ts len k register window object)
+  unfolding ofStep
+  load-outcomes object = refl
+
+  pub store-outcomes : stepOutcomes tensors ts len k (Store register window) ≡ accessOutcomes (accessOf tensors false window (theType ts register) len)
+  unfolding ofStep
+  store-outcomes = refl
+
+-- a step without outcomes has an empty mask
+pub empty-step : (tensors : Tensors) (ts : List MatrixType) (len k : ℕ) (st : Step) (masks : List ℕ) {out : List ℕ} → stepOutcomes tensors ts len k st ≡ []
+    → out ≡ sets masks (maskPlace k) (emptyMasks (k + 1 - k)) → out ≡ sets masks (maskPlace k) (maskOf (bitOf (stepOutcomes tensors ts len k st)))
+unfolding each
+empty-step tensors ts len k st masks none e =
+    let one : k + 1 - k ≡ 1 = omega arith in rw none (rw one at e)
+
 -- ---- the answer
 
 module _ (s : List ℕ) (len : ℕ) where
   module _ {c : CheckAnswer} (is : c ≡ checkedSheet s len) where
     -- refused by the check
-    pub refused-answer : (room : ℕ) → 0 < c .refusal .number → translateAnswer (c .refusal) 0 0 ≡ translated s len room
-    unfolding translated pick
-    refused-answer room n = rw (← is, ne-eqb (c .refusal .number) 0 (λ e. omega arith)) refl
-
-    pub refused-room : (tape : List ℤ) → 0 < c .refusal .number → tape ≡ translatedRoom s len tape
-    unfolding translatedRoom pick
-    refused-room tape n = rw (← is, ne-eqb (c .refusal .number) 0 (λ e. omega arith)) refl
-
-    module _ (fine : c .refusal .number ≡ 0) where
-      -- 16
-      pub long-answer : (room : ℕ) → fitsRoom s len room ≡ false → translateAnswer (refusalAt tapeTooLong 0 0) 0 0 ≡ translated s len room
+    module _ (room area : ℕ) (n : 0 < c .refusal .number) where
+      pub refused-answer : translateAnswer (c .refusal) 0 0 ≡ translated s len room area
       unfolding translated pick
-      long-answer room e = rw (← is, eq-eqb (c .refusal .number) 0 fine, e) refl
+      refused-answer = rw (← is, ne-eqb (c .refusal .number) 0 (λ e. omega arith)) refl
 
-      pub long-room : (tape : List ℤ) → fitsRoom s len (length tape) ≡ false → tape ≡ translatedRoom s len tape
-      unfolding translatedRoom pick
-      long-room tape e = rw (← is, eq-eqb (c .refusal .number) 0 fine, e) refl
+      pub refused-not : translates s len room area ≡ false
+      unfolding translates
+      refused-not = rw (← is) (sym (stop (fitsRoom s len room area) (ne-eqb (c .refusal .number) 0 (λ e. omega arith))))
+
+    module _ (fine : c .refusal .number ≡ 0) (room area : ℕ) where
+      -- 16
+      pub long-answer : fitsRoom s len room area ≡ false → translateAnswer (refusalAt tapeTooLong 0 0) 0 0 ≡ translated s len room area
+      unfolding translated pick
+      long-answer e = rw (← is, eq-eqb (c .refusal .number) 0 fine, e) refl
 
       -- the tape
-      pub tape-answer : (room : ℕ) → fitsRoom s len room ≡ true
-          → translateAnswer notRefused (c .count) (length (tapeOf (readSheet s .sheet) len)) ≡ translated s len room
+      pub tape-answer : fitsRoom s len room area ≡ true
+          → translateAnswer notRefused (c .count) (length (tapeOf (readSheet s .sheet) len)) ≡ translated s len room area
       unfolding translated pick
-      tape-answer room e = rw (← is, eq-eqb (c .refusal .number) 0 fine, e) refl
+      tape-answer e = rw (← is, eq-eqb (c .refusal .number) 0 fine, e) refl
 
-      pub tape-room : (tape : List ℤ) → fitsRoom s len (length tape) ≡ true
-          → sets tape 0 (tapeNumbers (tapeOf (readSheet s .sheet) len)) ≡ translatedRoom s len tape
-      unfolding translatedRoom pick
-      tape-room tape e = rw (← is, eq-eqb (c .refusal .number) 0 fine, e) refl
+      -- by its room alone
+      pub fine-room : {b : Bool} → fitsRoom s len room area ≡ b → translates s len room area ≡ b
+      unfolding translates
+      fine-room e = rw (← is) (sym (pass (eq-eqb (c .refusal .number) 0 fine) (sym e)))
 
-  -- the numbers of a tape that fits
-  pub fits-room : (room : ℕ) → fitsRoom s len room ≡ true → length (tapeOf (readSheet s .sheet) len) * recordLength ≤ room
-  unfolding fitsRoom
-  fits-room room e = fit-room _ _ _ e
+  -- both rooms as they were
+  pub tape-kept : (tape : List ℤ) (area : ℕ) → translates s len (length tape) area ≡ false → tape ≡ translatedRoom s len tape area
+  unfolding translatedRoom
+  tape-kept tape area e = left _ e refl
+
+  pub masks-kept : (room : ℕ) (masks : List ℕ) → translates s len room (length masks) ≡ false → masks ≡ translatedMasks s len room masks
+  unfolding translatedMasks
+  masks-kept room masks e = left _ e refl
+
+  -- both written
+  pub tape-room : (tape : List ℤ) (area : ℕ) → translates s len (length tape) area ≡ true
+      → sets tape 0 (tapeNumbers (tapeOf (readSheet s .sheet) len)) ≡ translatedRoom s len tape area
+  unfolding translatedRoom
+  tape-room tape area e = taken _ e refl
+
+  pub masks-room : (room : ℕ) (masks : List ℕ) → translates s len room (length masks) ≡ true
+      → sets masks 0 (sheetMasks (readSheet s .sheet) len) ≡ translatedMasks s len room masks
+  unfolding translatedMasks
+  masks-room room masks e = taken _ e refl
+
+  -- the numbers of a tape that fits, and the area that holds the masks
+  module _ (room area : ℕ) (e : fitsRoom s len room area ≡ true) where
+    pub fits-room : length (tapeOf (readSheet s .sheet) len) * recordLength ≤ room
+    unfolding fitsRoom
+    fits-room = fit-room _ _ _ (both-left _ _ e)
+
+    pub fits-area : maskArea ≤ area
+    unfolding fitsRoom
+    fits-area = leb-true _ _ (both-right (recordsFit (readSheet s .sheet .edition) room (length (tapeOf (readSheet s .sheet) len))) _ e)
 
   -- whether it fits, of the sheet that was read and the records that were counted
-  pub room-tested : {model : Sheet} {n : ℕ} {b : Bool} (room : ℕ) → model ≡ readSheet s .sheet → n ≡ length (tapeOf model len)
-      → b ≡ recordsFit (model .edition) room n → b ≡ fitsRoom s len room
+  pub room-tested : {model : Sheet} {n : ℕ} {b : Bool} (room area : ℕ) → model ≡ readSheet s .sheet → n ≡ length (tapeOf model len)
+      → b ≡ both (recordsFit (model .edition) room n) (leb maskArea area) → b ≡ fitsRoom s len room area
   unfolding fitsRoom
-  room-tested room e f g = g ∙ rw (f, e) refl
+  room-tested room area e f g = g ∙ rw (f, e) refl

@@ -1,10 +1,12 @@
-// Translating a sheet: the check, the number of records, then the records themselves.
+// Translating a sheet: the check, the number of records, then the records themselves and, of the same surveys, the masks.
 ghost use mathlib.Core.Path.{_≡_};
 ghost use mathlib.Core.Bool.{false};
 ghost use mathlib.Core.List.{[], _∷_};
 ghost use Prim.Native.Nat.{ℕ, _*_, _<_, _≤_};
+ghost use lib.Dec.{leb};
 ghost use lib.ListN.{length};
 ghost use lib.Seq.{sets};
+ghost use Rattle.numbers.specs.Choice.{both};
 ghost use Rattle.sheet.specs.Sizes.{registerCount, stepPlaces, matrixPlaces, memoryLimit};
 ghost use Rattle.sheet_ranges.specs.Laws.Within.{Within};
 ghost use Rattle.registers.specs.Types.{isEmpty};
@@ -15,9 +17,13 @@ ghost use Rattle.accepted.specs.Accepted.{ClearStep};
 ghost use Rattle.records.specs.Records.{recordLength, tapeNumbers};
 ghost use Rattle.records.specs.Ranges.{InRange};
 ghost use Rattle.access_tapes.specs.Writing.{Room, Wrote};
+ghost use Rattle.records.specs.Room.{recordsFit};
+ghost use Rattle.masks.specs.Masks.{maskArea, maskPlace, bitOf, maskOf};
 ghost use Rattle.translating.specs.Tapes.{objectRecords, stepRecords, tapeOf};
-ghost use Rattle.translating.specs.Translating.{translateAnswer, translated, translatedRoom};
+ghost use Rattle.translating.specs.Masks.{stepOutcomes, sheetMasks};
+ghost use Rattle.translating.specs.Translating.{translateAnswer, translated, translatedRoom, translatedMasks};
 use checking::checks;
+use masks::MASKS;
 use records::Record;
 use refusals::Refusal;
 use refusals::TAPE_TOO_LONG;
@@ -28,6 +34,7 @@ use sheet::Step;
 use sheet::Tensors;
 use sheet::sizes::PLACES;
 use sheet::sizes::REGISTERS;
+use sheet::sizes::STEPS;
 
 // The answer of translating: a refusal, or how many elements of loads and stores have a byte and how many records were written.
 pub struct TranslateAnswer {
@@ -114,9 +121,10 @@ fn count_step(
     }
 }
 
-// Writes the records of step k from record `at` of a tape on: the next record's number.
+// Writes the records of step k from record `at` of a tape on, and the step's mask: the next record's number.
 fn write_step(
     tape: &mut [i32],
+    masks: &mut [u8],
     entries: &mut [u32; PLACES],
     at: usize,
     tensors: Tensors,
@@ -126,12 +134,17 @@ fn write_step(
     step: Step,
 ) -> usize
     requires { ⌜ ClearStep tensors types memory step × (length (now entries) ≡ matrixPlaces) ⌝ }
+    requires { ⌜ maskArea ≤ length (now masks) ⌝ }
     requires { ⌜ (k < stepPlaces) × Room (now tape) at (stepRecords tensors types memory k step) ⌝ }
     ensures { λ _. ⌜ length (now (entries .exit)) ≡ matrixPlaces ⌝ }
     ensures { λ r. ⌜ Wrote (now (tape .entry)) (now (tape .exit)) at (stepRecords tensors types memory k step) r ⌝ }
+    ensures { λ _. ⌜ now (masks .exit) ≡ sets (now (masks .entry)) (maskPlace k) (maskOf (bitOf (stepOutcomes tensors types memory k step))) ⌝ }
 {
     match step {
-        Step::Nothing => at,
+        Step::Nothing => {
+            masks::clear_masks(masks, k, k + 1);
+            at
+        }
         Step::Load {
             register,
             object,
@@ -141,8 +154,10 @@ fn write_step(
             let next = write_object(tape, at, register, object, t);
             access_tapes::write_window(
                 tape,
+                masks,
                 entries,
                 next,
+                k,
                 tensors,
                 true,
                 register,
@@ -155,8 +170,10 @@ fn write_step(
             let t = registers::the_type(types, register);
             access_tapes::write_window(
                 tape,
+                masks,
                 entries,
                 at,
+                k,
                 tensors,
                 false,
                 register,
@@ -166,6 +183,7 @@ fn write_step(
             )
         }
         Step::Whole(_) => {
+            masks::clear_masks(masks, k, k + 1);
             let whole = Record::Whole { step: k };
             write_record(tape, at, whole)
         }
@@ -195,11 +213,19 @@ fn count_tape(entries: &mut [u32; PLACES], sheet: Sheet, memory: usize) -> usize
     records
 }
 
-// Writes the tape of an accepted sheet from the start of the room on.
-fn write_tape(tape: &mut [i32], entries: &mut [u32; PLACES], sheet: Sheet, memory: usize)
+// Writes the tape of an accepted sheet from the start of the room on, and the masks of all steps: those past the last are empty.
+fn write_tape(
+    tape: &mut [i32],
+    masks: &mut [u8],
+    entries: &mut [u32; PLACES],
+    sheet: Sheet,
+    memory: usize,
+)
     requires { ⌜ Within sheet × (memory ≤ memoryLimit) × (checked sheet memory .refusal .number ≡ 0) × (length (now entries) ≡ matrixPlaces) ⌝ }
     requires { ⌜ length (tapeOf sheet memory) * recordLength ≤ length (now tape) ⌝ }
+    requires { ⌜ maskArea ≤ length (now masks) ⌝ }
     ensures { λ _. ⌜ now (tape .exit) ≡ sets (now (tape .entry)) 0 (tapeNumbers (tapeOf sheet memory)) ⌝ }
+    ensures { λ _. ⌜ now (masks .exit) ≡ sets (now (masks .entry)) 0 (sheetMasks sheet memory) ⌝ }
 {
     let none = registers::no_type();
     let tensors = sheet.tensors;
@@ -210,11 +236,22 @@ fn write_tape(tape: &mut [i32], entries: &mut [u32; PLACES], sheet: Sheet, memor
     while k < steps {
         let c = sheet.step[k];
         let step = c.step;
-        at = write_step(tape, entries, at, tensors, types, memory, k, step);
+        at = write_step(tape, masks, entries, at, tensors, types, memory, k, step);
         let after = checks::step_types(types, step);
         types = after;
         k += 1;
     }
+    masks::clear_masks(masks, steps, STEPS);
+}
+
+// Refusal 16: the records fit and, after them, the masks.
+fn room_fits(edition: u8, room: usize, records: usize, area: usize) -> bool
+    ensures { λ r. ⌜ r ≡ both (recordsFit edition room records) (leb maskArea area) ⌝ }
+{
+    if !records::records_fit(edition, room, records) {
+        return false;
+    }
+    MASKS <= area
 }
 
 fn translate_refused(refusal: Refusal) -> TranslateAnswer
@@ -227,10 +264,16 @@ fn translate_refused(refusal: Refusal) -> TranslateAnswer
     }
 }
 
-// Translates a sheet for a memory of a length into the lent room. Refused: the room is unchanged.
-pub fn translate(sheet: &[u8], memory_len: usize, tape: &mut [i32]) -> TranslateAnswer
-    ensures { λ r. ⌜ r ≡ translated (now (sheet .entry)) «memory_len» (length (now (tape .entry))) ⌝ }
-    ensures { λ _. ⌜ now (tape .exit) ≡ translatedRoom (now (sheet .entry)) «memory_len» (now (tape .entry)) ⌝ }
+// Translates a sheet for a memory of a length into the lent tape and mask area. Refused: both are unchanged.
+pub fn translate(
+    sheet: &[u8],
+    memory_len: usize,
+    tape: &mut [i32],
+    masks: &mut [u8],
+) -> TranslateAnswer
+    ensures { λ r. ⌜ r ≡ translated (now (sheet .entry)) «memory_len» (length (now (tape .entry))) (length (now (masks .entry))) ⌝ }
+    ensures { λ _. ⌜ now (tape .exit) ≡ translatedRoom (now (sheet .entry)) «memory_len» (now (tape .entry)) (length (now (masks .entry))) ⌝ }
+    ensures { λ _. ⌜ now (masks .exit) ≡ translatedMasks (now (sheet .entry)) «memory_len» (length (now (tape .entry))) (now (masks .entry)) ⌝ }
 {
     let judged = checking::judge(sheet, memory_len);
     let found = judged.answer;
@@ -241,10 +284,10 @@ pub fn translate(sheet: &[u8], memory_len: usize, tape: &mut [i32]) -> Translate
     let model = judged.sheet;
     let mut entries = accesses::no_entries();
     let records = count_tape(&mut entries, model, memory_len);
-    if !records::records_fit(model.edition, tape.len(), records) {
+    if !room_fits(model.edition, tape.len(), records, masks.len()) {
         return translate_refused(refusals::refusal_at(TAPE_TOO_LONG, 0, 0));
     }
-    write_tape(tape, &mut entries, model, memory_len);
+    write_tape(tape, masks, &mut entries, model, memory_len);
     TranslateAnswer {
         refusal: refusals::not_refused(),
         count: found.count,

@@ -1,10 +1,12 @@
--- A load or a store has its matrix's elements, and a sheet within Sizes has few.
+-- A load or a store has its matrix's elements, a sheet within Sizes has few, and those of one step alone.
 use Prim.Native.Nat.{ℕ, zero, suc, _+_, _*_, _<_, _≤_}
 use mathlib.Core.Path.{_≡_, refl, _∙_}
 use mathlib.Core.Bool.{true, false}
-use mathlib.Core.List.{List}
+use mathlib.Core.List.{List, []}
 use native.Mathlib.Omega.{arith}
 use lib.ListN.{length, getD, length-append}
+use borrow.Author.Tests.{lt-ltb, le-ltb}
+use Rattle.numbers.specs.Choice.{pick}
 use Rattle.numbers.specs.Laws.Joins.{length-each, each-at}
 use Rattle.sheet.specs.Sizes.{stepPlaces, matrixPlaces}
 use Rattle.sheet.specs.declared.Tensors.{Tensors}
@@ -23,8 +25,8 @@ use Rattle.addressing.specs.declared.Access.{Access}
 use Rattle.checking.specs.Steps.{accessOf, objectRegister, checkedStep}
 use Rattle.checking.specs.Laws.Steps.{check-sized}
 use Rattle.checking.specs.Laws.Turns.{within-step}
-use Rattle.accepted.specs.Passes.{passFrom}
-use Rattle.accepted.specs.Elements.{ofAccess, ofStep, ofTurn, ofSheet}
+use Rattle.accepted.specs.Passes.{typesAt, passFrom}
+use Rattle.accepted.specs.Elements.{ofAccess, ofStep, ofTurn, ofSheet, atStep}
 
 pub access-count : {A : Type 0} (f : Access → ℕ → A) (a : Access) → length (ofAccess f a) ≡ elementsOf a
 unfolding ofAccess
@@ -35,6 +37,15 @@ unfolding ofAccess
 access-at f a e d h = each-at (elementsOf a) (f a) e d h
 
 module _ {A : Type 0} (f : ℕ → Access → ℕ → A) where
+  module _ (sh : Sheet) (len k : ℕ) where
+    pub at-step : k < sh .steps → atStep f sh len k ≡ ofTurn f sh len (typesAt sh len k) k (theStep (sh .step) k)
+    unfolding atStep pick
+    at-step h = rw (lt-ltb k (sh .steps) h) refl
+
+    pub at-past : sh .steps ≤ k → atStep f sh len k ≡ []
+    unfolding atStep pick
+    at-past h = rw (le-ltb k (sh .steps) h) refl
+
   step-few : (tensors : Tensors) (ts : List MatrixType) (len k : ℕ) (step : Step) → Sized ts → length (ofStep f tensors ts len k step) ≤ matrixPlaces
   unfolding ofStep
   step-few tensors ts len k Nothing s = omega arith

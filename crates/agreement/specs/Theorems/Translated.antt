@@ -28,12 +28,12 @@ use Rattle.running.specs.Running.{runRefusal, runTape, ranMemory}
 use Rattle.agreement.specs.Agreement.{NumbersAgree, RunsAsCarried}
 use Rattle.agreement.specs.Theorems.Agreement.{agreement-numbers}
 
-module _ (s memory : List ℕ) (room : List ℤ) (h : translated s (length memory) (length room) .refusal .number ≡ 0) where
+module _ (s memory : List ℕ) (room : List ℤ) (area : ℕ) (h : translated s (length memory) (length room) area .refusal .number ≡ 0) where
   abbrev sh : Sheet
   sh = readSheet s .sheet
 
   abbrev numbers : List ℤ
-  numbers = translatedRoom s (length memory) room
+  numbers = translatedRoom s (length memory) room area
 
   abbrev written : List ℤ
   written = tapeNumbers (tapeOf sh (length memory))
@@ -42,23 +42,23 @@ module _ (s memory : List ℕ) (room : List ℤ) (h : translated s (length memor
   abbrev rest : List ℤ
   rest = drop (length written) room
 
-  translation : Translated s (length memory) (length room) (translated s (length memory) (length room))
-  translation = told s (length memory) room h
+  translation : Translated s (length memory) (length room) area (translated s (length memory) (length room) area)
+  translation = told s (length memory) (length room) area h
 
   accepted : Readable s (length memory)
   accepted = sheet-readable s (length memory) (translation .accepted)
 
   few : length (tapeOf sh (length memory)) ≤ limits (sh .edition) .records
   unfolding fitsRoom recordsFit
-  few = leb-true _ _ (both-left _ _ (translation .fits))
+  few = leb-true _ _ (both-left _ _ (both-left _ _ (translation .fits)))
 
   long : length written ≤ length room
   unfolding fitsRoom
-  long = rw (length-tape (tapeOf sh (length memory))) (fit-room _ _ _ (translation .fits))
+  long = rw (length-tape (tapeOf sh (length memory))) (fit-room _ _ _ (both-left _ _ (translation .fits)))
 
   numbers-are : numbers ≡ written ++ rest
   numbers-are =
-      room-is s (length memory) room h ∙ sets-eq written room 0 (rw (zero-add (length written)) long) ∙ rw (zero-add (length written))
+      room-is s (length memory) room area h ∙ sets-eq written room 0 (rw (zero-add (length written)) long) ∙ rw (zero-add (length written))
 
   agrees : NumbersAgree sh memory (length (tapeOf sh (length memory))) numbers
   agrees = agreement-numbers sh (accepted .within) memory (accepted .clear) (accepted .few) few numbers rest numbers-are
@@ -78,5 +78,5 @@ module _ (s memory : List ℕ) (room : List ℤ) (h : translated s (length memor
       }
 
   -- Where translating is not refused, what it wrote runs as the sheet is carried out.
-  pub translated-runs : RunsAsCarried s memory (translatedRoom s (length memory) room) (translated s (length memory) (length room) .records)
+  pub translated-runs : RunsAsCarried s memory (translatedRoom s (length memory) room area) (translated s (length memory) (length room) area .records)
   translated-runs = rw (translation .records) runs-as-carried

@@ -1,7 +1,10 @@
 use mathlib.Core.Path.{sym}
 use Rattle.sheet_ranges.specs.Laws.Within.{within-places}
 use Rattle.accepted.specs.Laws.Rests.{rest-step}
-use Rattle.explaining.specs.Laws.Asking.{sheet-past, sheet-step}
+use Rattle.explaining.specs.Laws.Asking.{sheet-past}
+use Rattle.accepted.specs.Laws.Elements.{at-step}
+use Rattle.explaining.specs.Elements.{explained}
+use Prim.Native.Nat.{ℕ}
 use native.Mathlib.Omega.{arith}
 use borrow.Author.Needs.{needs}
 use Rattle.explaining.proofs.explain_sheet.Statement.{statement}
@@ -27,7 +30,7 @@ explain-step-requires c κs =
 returns-2 : tie.Need-returns-2
 returns-2 c =
     let a = c .before .before .before .before .before .args in
-    rw (sheet-step (a .t1) (a .memory) (a .step) (c .before .before .before .before .if1 .left), ← c .before .before .before .types-at .ensures .0) (c .explain-step .ensures (a .step))
+    rw (at-step (λ (n : ℕ). explained) (a .t1) (a .memory) (a .step) (c .before .before .before .before .if1 .left), ← c .before .before .before .types-at .ensures .0) (c .explain-step .ensures (a .step))
 
 pub explain-sheet-spec : {M : Type 1} → statement M
 explain-sheet-spec =

@@ -10,17 +10,15 @@ use Rattle.numbers.specs.Choice.{pick}
 use Rattle.numbers.specs.Laws.Choice.{by-test}
 use Rattle.outcomes.specs.declared.Explained.{Explained}
 use Rattle.sheet.specs.declared.Sheet.{Sheet}
-use Rattle.sheet_ranges.specs.Steps.{theStep}
 use Rattle.addressing.specs.Rules.{elementsOf, reached, indexed, located}
 use Rattle.addressing.specs.declared.Access.{Access}
 use Rattle.addressing.specs.declared.Indexed.the-variants.{Index}
 use Rattle.accesses.specs.Refusals.{elementOutcome, accessRefusal}
 use Rattle.accesses.specs.Laws.Accepted.{element-accepted}
-use Rattle.accepted.specs.Passes.{typesAt}
 use Rattle.accepted.specs.Elements.{ofAccess}
-use Rattle.accepted.specs.Laws.Elements.{access-count, access-at}
+use Rattle.accepted.specs.Laws.Elements.{access-count, access-at, at-past}
 use Rattle.explaining.specs.declared.Asked.the-variants.{Nothing, Element}
-use Rattle.explaining.specs.Elements.{explained, stepExplained, sheetExplained}
+use Rattle.explaining.specs.Elements.{explained, sheetExplained}
 use Rattle.explaining.specs.Explaining.{nothingExplained, asked}
 
 -- there is none past the last
@@ -43,12 +41,7 @@ module _ (a : Access) (e : ℕ) where
 -- a step past the last has none
 module _ (sh : Sheet) (len k : ℕ) where
   pub sheet-past : sh .steps ≤ k → (e : ℕ) → asked (sheetExplained sh len k) e ≡ Nothing
-  unfolding sheetExplained pick
-  sheet-past h e = rw (le-ltb k (sh .steps) h) (asked-none [] e (omega arith))
-
-  pub sheet-step : k < sh .steps → sheetExplained sh len k ≡ stepExplained (sh .tensors) (typesAt sh len k) len k (theStep (sh .step) k)
-  unfolding sheetExplained pick
-  sheet-step h = rw (lt-ltb k (sh .steps) h) refl
+  sheet-past h e = rw (at-past (λ (n : ℕ). explained) sh len k h) (asked-none [] e (omega arith))
 
 -- an element that is not refused has an index of 32 bits
 reached-small : (a : Access) (i : ℕ) → reached a i .refusal ≡ 0 → i < 2 ^ 32

@@ -1,11 +1,11 @@
--- Laws of `each`, lists joined one after the other: alike, with one more, and how long.
+-- Laws of `each`, lists joined one after the other: alike, with one more, how long, in two parts, and what stands where.
 use Prim.Native.Nat.{ℕ, zero, suc, _+_, _*_, _<_, _≤_}
 use mathlib.Core.Path.{_≡_, refl, sym, _∙_}
-use mathlib.Core.List.{List, [], _∷_, _++_}
-use native.Mathlib.Nat.{suc-mul, not-suc-le-zero}
+use mathlib.Core.List.{List, [], _∷_, _++_, append-assoc, append-nil}
+use native.Mathlib.Nat.{add-zero, suc-mul, mul-le-mul-right, not-suc-le-zero}
 use native.Mathlib.Omega.{arith}
 use lib.ListN.{length, getD, set, length-append, List·getD-append}
-use lib.Seq.{getD-set-same, getD-set-other, getD-at}
+use lib.Seq.{getD-set-same, getD-set-other, getD-append-add}
 use Rattle.numbers.specs.Lists.{each}
 use Rattle.numbers.specs.Laws.Choice.{by-order}
 use Rattle.numbers.specs.Laws.Lists.{each-more}
@@ -44,14 +44,31 @@ module _ {B : Type 0} where
   each-long zero f h = omega arith
   each-long (suc n) f h = omega (arith, length-append (each n f) (f n), each-long n f h, h n)
 
+  -- the first m, and the others
+  pub each-join : (m n : ℕ) (f : ℕ → List B) → each (m + n) f ≡ each m f ++ each n (λ (k : ℕ). f (m + k))
+  unfolding each
+  each-join m zero f = rw (add-zero m) (sym (append-nil (each m f)))
+  each-join m (suc n) f =
+      let e : m + suc n ≡ suc (m + n) = omega arith in
+      rw (e, each-join m n f) (append-assoc (each m f) (each n (λ (k : ℕ). f (m + k))) (f (m + n)))
+
+-- place j of list i of n lists of one length
+pub each-part : {A : Type 0} (w n : ℕ) (f : ℕ → List A) (i j : ℕ) (d : A) → ((k : ℕ) → k < n → length (f k) ≡ w) → i < n → j < w
+    → getD (each n f) (i * w + j) d ≡ getD (f i) j d
+unfolding each
+each-part w zero f i j d long h l = absurd (not-suc-le-zero h)
+each-part w (suc n) f i j d long h l =
+    let before : length (each n f) ≡ n * w = length-each w n f (λ k q. long k (omega arith)) in
+    by-order i n
+    (λ q.
+    let most : suc i * w ≤ n * w = mul-le-mul-right w q in
+    List·getD-append (each n f) (f n) d (i * w + j) (rw before (omega (arith, most, suc-mul i w, l))) ∙ each-part w n f i j d (λ k g. long k (omega arith)) q l)
+    (λ q.
+    let e : i ≡ n = omega arith in
+    rw (e, ← before) (getD-append-add (each n f) (f n) j d))
+
 -- element i of n lists of one element
 pub each-at : {A : Type 0} (n : ℕ) (f : ℕ → A) (i : ℕ) (d : A) → i < n → getD (each n (λ (k : ℕ). f k ∷ [])) i d ≡ f i
-unfolding each
-each-at zero f i d h = absurd (not-suc-le-zero h)
-each-at (suc n) f i d h =
-    let before = each n (λ (k : ℕ). f k ∷ []) in
-    let long : length before ≡ n = length-each 1 n (λ (k : ℕ). f k ∷ []) (λ k l. refl) ∙ omega arith in
-    by-order i n (λ l. List·getD-append before (f n ∷ []) d i (omega arith) ∙ each-at n f i d l)
-    (λ l.
-    let e : i ≡ n = omega arith in
-    rw e (getD-at before (f n) [] d n long))
+each-at n f i d h =
+    let e : i * 1 + 0 ≡ i = omega arith in
+    rw e at (each-part 1 n (λ (k : ℕ). f k ∷ []) i 0 d (λ k l. refl) h (omega arith))

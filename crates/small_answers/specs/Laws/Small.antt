@@ -63,7 +63,7 @@ use Rattle.addressing.specs.Sound.{Sound}
 use Rattle.accesses.specs.Laws.Accepted.{element-sound}
 use Rattle.transfers.specs.Transfers.{outcomeOf}
 use Rattle.accepted.specs.Passes.{typesAt}
-use Rattle.accepted.specs.Elements.{ofAccess, ofStep}
+use Rattle.accepted.specs.Elements.{ofAccess, ofStep, atStep}
 use Rattle.explaining.specs.Elements.{explained, stepExplained, sheetExplained}
 use Rattle.explaining.specs.Explaining.{asked, answeredBy, explainedSheet}
 use Rattle.explaining.specs.Laws.Asking.{asked-none, access-past, access-asked}
@@ -233,12 +233,12 @@ counted-small s len =
 abbrev pub SmallTranslate : TranslateAnswer → Type 0
 SmallTranslate r = (r .records < 2 ^ 32) × Small (r .refusal) (r .count)
 
-pub translated-small : (s : List ℕ) (len room : ℕ) → SmallTranslate (translated s len room)
+pub translated-small : (s : List ℕ) (len room area : ℕ) → SmallTranslate (translated s len room area)
 unfolding translated fitsRoom
-translated-small s len room =
+translated-small s len room area =
     let c = check-small s len in
     pick-case SmallTranslate (eqb (checkedSheet s len .refusal .number) 0) _ _
-    (λ e. pick-case SmallTranslate (fitsRoom s len room) _ _ (λ f. (omega (arith, fit-few _ _ _ f), (omega arith, omega arith, c .2)))
+    (λ e. pick-case SmallTranslate (fitsRoom s len room area) _ _ (λ f. (omega (arith, fit-few _ _ _ (both-left _ _ f)), (omega arith, omega arith, c .2)))
     (λ f. (omega arith, (omega arith, omega arith, omega arith))))
     (λ e. (omega arith, (c .0, c .1, omega arith)))
 
@@ -318,7 +318,7 @@ step-told tensors ts len k (Store register window) e h = access-told (accessOf t
 step-told tensors ts len k (Whole whole) e h = none-small e
 
 sheet-told : (sh : Sheet) (len k e : ℕ) → len < 2 ^ 32 → SmallAsked (asked (sheetExplained sh len k) e)
-unfolding sheetExplained
+unfolding atStep
 sheet-told sh len k e h =
     pick-case (λ (xs : List Explained). SmallAsked (asked xs e)) (ltb k (sh .steps)) _ []
     (λ t. step-told (sh .tensors) (typesAt sh len k) len k (theStep (sh .step) k) e h) (λ t. none-small e)

@@ -1,0 +1,16 @@
+-- The bits of a load's or a store's mask as the code makes them: of the entries of its survey.
+use Prim.Native.Nat.{ℕ}
+use mathlib.Core.List.{List}
+use lib.Dec.{ltb}
+use lib.ListN.{getD}
+use Rattle.numbers.specs.Choice.{pick}
+use Rattle.accesses.specs.Refusals.{placedOne}
+use Rattle.accesses.specs.Entries.{entryOutcome}
+
+-- 1 for an entry of an element with a byte; what filled elements take does not matter
+abbrev pub entryOne : ℕ → ℕ
+entryOne entry = placedOne (entryOutcome 0 entry)
+
+-- of n elements with these entries; past them there is none
+unfoldable pub entryBit : List ℕ → ℕ → ℕ → ℕ
+entryBit entries n e = pick (ltb e n) (entryOne (getD entries e 0)) 0

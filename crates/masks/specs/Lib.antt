@@ -1,0 +1,5 @@
+pub mod Masks
+pub mod Entries
+pub mod Laws
+pub mod Examples
+pub mod Theorems
