@@ -10,7 +10,7 @@ use lib.Dec.{eqb, ltb, leb}
 use lib.IntN.{ℤ}
 use lib.ListN.{length}
 use Rattle.numbers.specs.Choice.{pick}
-use Rattle.numbers.specs.Laws.Choice.{pick-case, by-order}
+use Rattle.numbers.specs.Laws.Choice.{pick-case, both-left, by-order}
 use Rattle.sheet_ranges.specs.Sheets.{emptySheet, noTensors, writable}
 use Rattle.sheet_ranges.specs.Steps.{theStep, stepOk}
 use Rattle.refusals.specs.declared.Refusal.{Refusal}
