@@ -1,3 +1,4 @@
+/* tape: a sheet's tape, and the masks beside it. */
 #include <inttypes.h>
 #include <stdio.h>
 #include <stdlib.h>
@@ -5,8 +6,10 @@
 #include "answers.h"
 #include "command.h"
 #include "files.h"
+#include "outputs.h"
 #include "result.h"
 #include "tape_text.h"
+#include "translation.h"
 
 /* A refusal is also a line of three numbers, as the program print_tape has it. */
 static int refuse(const struct request *request, const struct refused *refused)
@@ -17,49 +20,66 @@ static int refuse(const struct request *request, const struct refused *refused)
     return answer_refusal(&tape_command, request, refused);
 }
 
-static void print_json(const struct refused *translated, const int32_t *numbers, size_t records)
+static void json_records(struct json *json, const struct translation *translation)
+{
+    json_open(json, "records", '[');
+    for (size_t i = 0; i < translation->records[0]; i++) {
+        json_open(json, NULL, '[');
+        for (size_t n = 0; n < MOONBLEAT_RECORD_NUMBERS; n++) {
+            json_number(json, NULL, translation->tape[MOONBLEAT_RECORD_NUMBERS * i + n]);
+        }
+        json_close(json, ']');
+    }
+    json_close(json, ']');
+}
+
+static void json_masks(struct json *json, const struct translation *translation)
+{
+    json_open(json, "masks", '[');
+    for (uint32_t step = 0; step < MOONBLEAT_STEPS_MAX; step++) {
+        json_mask(json, NULL, translation->masks, step);
+    }
+    json_close(json, ']');
+}
+
+static void print_json(const struct refused *translated, const struct translation *translation)
 {
     struct json json = {false};
     open_answer(&json, &tape_command, translated);
     json_number(&json, "memory", (int64_t)translated->memory_len);
     json_number(&json, BYTE_ELEMENTS, translated->answer[MOONBLEAT_BYTE_ELEMENTS]);
-    json_open(&json, "records", '[');
-    for (size_t i = 0; i < records; i++) {
-        json_open(&json, NULL, '[');
-        for (size_t n = 0; n < MOONBLEAT_RECORD_NUMBERS; n++) {
-            json_number(&json, NULL, numbers[MOONBLEAT_RECORD_NUMBERS * i + n]);
-        }
-        json_close(&json, ']');
-    }
-    json_close(&json, ']');
+    json_records(&json, translation);
+    json_masks(&json, translation);
     close_answer(&json);
 }
 
-static int print_records(const struct request *request, const struct refused *translated, const int32_t *numbers,
-                         size_t records)
+/* The masks are written, then the records printed. */
+static int give_tape(const struct request *request, const struct refused *translated,
+                     const struct translation *translation)
 {
-    if (request->words[OPTION_JSON] == NULL) {
-        print_tape(numbers, records);
-    } else {
-        print_json(translated, numbers, records);
+    const struct output masks = {request->words[OPTION_MASKS], translation->masks, sizeof translation->masks, NULL};
+    if (!write_outputs(&masks, 1)) {
+        return FAILED;
+    }
+    if (request->words[OPTION_JSON] != NULL) {
+        print_json(translated, translation);
+    } else if (!is_standard_output(masks.name)) {
+        print_tape(translation->tape, translation->records[0]);
     }
     return DONE;
 }
 
 static int do_tape(const struct request *request)
 {
-    static int32_t numbers[MOONBLEAT_TAPE_NUMBERS];
+    static struct translation translation;
     struct bytes sheet;
     if (!read_sheet(request->files[0], &sheet)) {
         return FAILED;
     }
-    uint32_t records[1] = {0};
-    uint32_t answer[MOONBLEAT_ANSWER] = {0};
     const struct refused translated = {.sheet = sheet.at, .sheet_len = sheet.len, .memory_len = request->memory,
-                                       .answer = answer};
-    uint32_t number = moonbleat_translate(sheet.at, sheet.len, request->memory, numbers, MOONBLEAT_TAPE_NUMBERS,
-                                          records, answer);
-    int status = number == 0 ? print_records(request, &translated, numbers, records[0]) : refuse(request, &translated);
+                                       .answer = translation.answer};
+    int status = translate(&sheet, request->memory, &translation) ? give_tape(request, &translated, &translation)
+                                                                   : refuse(request, &translated);
     free(sheet.at);
     return status;
 }
@@ -69,8 +89,11 @@ const struct command tape_command = {
     .files = "SHEET",
     .files_min = 1,
     .files_max = 1,
-    .takes = SET(OPTION_MEMORY) | SET(OPTION_JSON),
+    .takes = SET(OPTION_MEMORY) | SET(OPTION_MASKS) | SET(OPTION_JSON),
     .summary = "print the sheet's tape for a memory of N bytes",
-    .details = "One record a line, six decimal numbers; a refusal is one line of three, its number and place.\n",
+    .details = "One record a line, six decimal numbers; a refusal is one line of three, its number and place.\n"
+               "The masks beside the tape say which elements each step touched: those of its load or store that\n"
+               "have a byte. --masks writes them: 34 bytes a step, 1,088 for any sheet. Element E of step S is bit\n"
+               "E mod 8, lowest first, of byte 34 * S + E / 8; bytes 32 and 33 of a step count its set bits.\n",
     .perform = do_tape,
 };

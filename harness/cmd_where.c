@@ -21,16 +21,6 @@ struct question {
 
 /* -- The question ------------------------------------------------------------------------------ */
 
-static bool parse_index(const char *text, size_t len, uint32_t *index)
-{
-    uint64_t number;
-    if (!parse_number(text, len, &number) || number > UINT32_MAX) {
-        return false;
-    }
-    *index = (uint32_t)number;
-    return true;
-}
-
 static bool parse_element(const char *word, struct question *question)
 {
     const char *comma = strchr(word, ',');
@@ -65,6 +55,11 @@ static void open_json(struct json *json, const struct where *where)
     json_number(json, "step", where->number);
     json_number(json, "rows", where->access.rows);
     json_number(json, "columns", where->access.columns);
+    if (has_masks(where)) {
+        json_mask(json, "mask", where->translation->masks, where->number);
+    } else {
+        json_null(json, "mask");
+    }
 }
 
 static void print_map_json(const struct where *where, const struct told *outcomes)
@@ -117,6 +112,11 @@ static void print_way_json(const struct where *where, unsigned element, const st
     struct json json = {false};
     open_json(&json, where);
     json_outcome(&json, "outcome", element, told);
+    if (has_masks(where)) {
+        json_flag(&json, "touched", is_touched(where->translation->masks, where->number, element));
+    } else {
+        json_null(&json, "touched");
+    }
     json_open(&json, "way", '[');
     for (size_t i = 0; i < way->count; i++) {
         json_text(&json, NULL, way->lines[i].at);
@@ -184,8 +184,10 @@ static int answer_question(const struct request *request, const struct bytes *sh
         asked.of_question = is_accepted(&asked);
         return answer_refusal(&where_command, request, &asked);
     }
+    static struct translation translation;
     struct where where;
-    if (!find_where(&asked, question->step, &where)) {
+    translate(sheet, request->memory, &translation);
+    if (!find_where(&asked, &translation, question->step, &where)) {
         struct text fault = {.len = 0};
         add_text(&fault, "step %" PRIu32 ": a fault in this tool: it finds no load or store", question->step);
         return fail(&fault);
@@ -222,8 +224,10 @@ const struct command where_command = {
                "outside: <0 is below in dimension 0, >1 above in dimension 1. A clamped element of a load has both:\n"
                "  col      0   1   2   3   4   5   6   7\n"
                "  row 0    2<0 1<0 0   1   2   3   2>0 1>0\n"
+               "Below it stands the step's mask, as tape --masks writes it: the bytes that have the matrix's\n"
+               "elements, and how many are set. These are the elements with a byte.\n"
                "With --element the way of one element is told instead, by rules 1 to 5 of docs/SHEETS.md, with\n"
-               "every number on it. The outcome is the library's; where the tool's own numbers come to another\n"
-               "one, that is a fault in the tool, which says so, and the exit status is 3.\n",
+               "every number on it, and its bit in the mask. The outcome is the library's; where the tool's own\n"
+               "numbers come to another one, that is a fault in the tool, which says so, and the exit status is 3.\n",
     .perform = do_where,
 };

@@ -11,8 +11,9 @@
 
 #include "options.h"
 
-/* Exit statuses. Where cards are compared, 1 says that they differ, so a refused sheet or trace gets 4. */
-enum { DONE = 0, REFUSED = 1, DIFFER = 1, WRONG_USE = 2, FAILED = 3, INPUT_REFUSED = 4 };
+/* Exit statuses. Where 1 is an answer, that cards differ or that an element was not touched, a refused sheet
+ * or trace gets 4. */
+enum { DONE = 0, REFUSED = 1, DIFFER = 1, UNTOUCHED = 1, WRONG_USE = 2, FAILED = 3, INPUT_REFUSED = 4 };
 
 struct command {
     const char *name;
@@ -27,7 +28,8 @@ struct command {
 };
 
 extern const struct command asm_command, show_command, check_command, run_command, tape_command, run_tape_command,
-    trace_command, replay_command, divisions_command, where_command, diff_command, night_command, help_command;
+    trace_command, replay_command, divisions_command, where_command, touched_command, diff_command, night_command,
+    help_command;
 
 /* All commands in the help's order, NULL behind the last. */
 extern const struct command *const commands[];

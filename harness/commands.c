@@ -5,7 +5,7 @@
 const struct command *const commands[] = {
     &asm_command,      &show_command,  &check_command,  &run_command,       &tape_command,
     &run_tape_command, &trace_command, &replay_command, &divisions_command, &where_command,
-    &diff_command,     &night_command, &help_command,   NULL,
+    &touched_command,  &diff_command,  &night_command,  &help_command,      NULL,
 };
 
 const struct command *find_command(const char *name)

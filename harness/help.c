@@ -28,7 +28,7 @@ static const struct section sections[] = {
     {"EXIT STATUS",
      "0 accepted; 1 refused, with number, place and sentence on standard error (with --json in the\n"
      "object); 2 wrong use; 3 a file could not be read or written, or a line of it is wrong.\n"
-     "replay, diff and night: see there.\n"},
+     "replay, touched, diff and night: see there.\n"},
 };
 
 enum { SECTIONS = sizeof sections / sizeof sections[0] };

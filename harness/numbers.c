@@ -34,6 +34,16 @@ bool parse_number(const char *text, size_t len, uint64_t *number)
     return hex ? parse_digits(text + 2, len - 2, 16, number) : parse_digits(text, len, 10, number);
 }
 
+bool parse_index(const char *text, size_t len, uint32_t *index)
+{
+    uint64_t number;
+    if (!parse_number(text, len, &number) || number > UINT32_MAX) {
+        return false;
+    }
+    *index = (uint32_t)number;
+    return true;
+}
+
 bool parse_hex_byte(const char *text, uint8_t *byte)
 {
     uint64_t number;

@@ -18,6 +18,7 @@ const struct option_form option_forms[OPTIONS] = {
                     "write what comes out to OUT: the memory afterwards, the sheet of asm, the trace, or the report of "
                     "night"},
     [OPTION_REGISTERS] = {"--registers", "FILE", "write the registers to FILE: 16 type bytes, then 1024 elements"},
+    [OPTION_MASKS] = {"--masks", "FILE", "write the masks to FILE: 34 bytes for each of 32 steps"},
     [OPTION_JSON] = {"--json", NULL, "print one JSON object in place of text"},
     [OPTION_ASM] = {"--asm", NULL, "print the text form, which asm takes"},
     [OPTION_MAN] = {"--man", NULL, "print the manual page"},
@@ -145,7 +146,7 @@ static size_t standard_inputs(const struct request *request)
 /* How much of what is asked for goes to standard output that can be nothing but itself. */
 static size_t standard_outputs(const struct request *request)
 {
-    static const enum option outputs[] = {OPTION_OUT, OPTION_REGISTERS};
+    static const enum option outputs[] = {OPTION_OUT, OPTION_REGISTERS, OPTION_MASKS};
     size_t count = request->words[OPTION_JSON] != NULL;
     for (size_t i = 0; i < sizeof outputs / sizeof outputs[0]; i++) {
         const char *word = request->words[outputs[i]];
@@ -169,7 +170,7 @@ static int check_request(const struct command *command, const struct request *re
         return wrong_use(command, "standard input can be read only once");
     }
     if (standard_outputs(request) > 1) {
-        return wrong_use(command, "standard output can take only one of -o, --registers and --json");
+        return wrong_use(command, "standard output can take only one of -o, --registers, --masks and --json");
     }
     return DONE;
 }

@@ -11,6 +11,7 @@ enum option {
     OPTION_ELEMENT,
     OPTION_OUT,
     OPTION_REGISTERS,
+    OPTION_MASKS,
     OPTION_JSON,
     OPTION_ASM,
     OPTION_MAN,

@@ -43,11 +43,8 @@ void add_fill(struct text *text, uint32_t kind, uint32_t bits)
 static void add_sort(struct text *text, uint32_t kind, const struct told *told)
 {
     uint32_t sort = told->numbers[MOONBLEAT_OUTCOME_SORT], value = told->numbers[MOONBLEAT_OUTCOME_VALUE];
-    const char *name = sort_name(sort);
-    add_text(text, "%s", name == NULL ? "of no known sort" : name);
-    if (sort == MOONBLEAT_SORT_BYTE) {
-        add_text(text, " %" PRIu32, value);
-    } else if (sort == MOONBLEAT_SORT_FILLED) {
+    add_sort_words(text, sort, value);
+    if (sort == MOONBLEAT_SORT_FILLED) {
         add_text(text, " with ");
         add_fill(text, kind, value);
     }

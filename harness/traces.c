@@ -32,6 +32,15 @@ const char *sort_name(uint32_t sort)
     return sort < sizeof names / sizeof names[0] ? names[sort] : NULL;
 }
 
+void add_sort_words(struct text *text, uint32_t sort, uint32_t byte)
+{
+    const char *name = sort_name(sort);
+    add_text(text, "%s", name == NULL ? "of no known sort" : name);
+    if (sort == MOONBLEAT_SORT_BYTE) {
+        add_text(text, " %" PRIu32, byte);
+    }
+}
+
 void add_entry(struct text *text, const struct refused *traced, const struct entry *entry)
 {
     struct step step;
@@ -39,10 +48,8 @@ void add_entry(struct text *text, const struct refused *traced, const struct ent
     if (find_step(traced, entry->step, &step)) {
         add_text(text, " (%s)", step.field.form->name);
     }
-    add_text(text, ", element %" PRIu32 ": %s", entry->element, sort_name(entry->sort));
-    if (entry->sort == MOONBLEAT_SORT_BYTE) {
-        add_text(text, " %" PRIu32, entry->byte);
-    }
+    add_text(text, ", element %" PRIu32 ": ", entry->element);
+    add_sort_words(text, entry->sort, entry->byte);
 }
 
 void json_entry(struct json *json, const char *key, const struct entry *entry)

@@ -26,6 +26,9 @@ struct entry entry_at(const uint8_t *trace, size_t index);
 /* The name of a sort, as "skipped"; NULL if it has none. */
 const char *sort_name(uint32_t sort);
 
+/* Adds what becomes of an element: "byte 340", or the name of its sort. */
+void add_sort_words(struct text *text, uint32_t sort, uint32_t byte);
+
 /* Adds "step 3 (load), element 17: byte 340"; a step that the sheet lacks has no name. */
 void add_entry(struct text *text, const struct refused *traced, const struct entry *entry);
 

@@ -4,14 +4,31 @@
 #include <stdio.h>
 
 #include "kinds.h"
+#include "refusals.h"
 #include "show.h"
 
-bool find_where(const struct refused *asked, uint32_t number, struct where *where)
+bool find_where(const struct refused *asked, const struct translation *translation, uint32_t number,
+                struct where *where)
 {
     where->asked = asked;
+    where->translation = translation;
     where->number = number;
     return find_step(asked, number, &where->step) && is_access(&where->step) && find_types(asked, &where->step) &&
            find_access(asked, &where->step, &where->access);
+}
+
+bool has_masks(const struct where *where)
+{
+    return where->translation->answer[MOONBLEAT_NUMBER] == 0;
+}
+
+struct text no_mask(const struct where *where)
+{
+    struct refused translated = *where->asked;
+    struct text text = {.len = 0};
+    translated.answer = where->translation->answer;
+    add_text(&text, "none, %s", refusal_line(&translated).at);
+    return text;
 }
 
 unsigned element_count(const struct where *where)

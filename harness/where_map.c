@@ -1,5 +1,6 @@
 /* The map of a load or a store. */
 #include <inttypes.h>
+#include <limits.h>
 #include <stdarg.h>
 #include <stdio.h>
 
@@ -182,7 +183,7 @@ static void explain_sides(const struct access *access, const struct totals *tota
     }
 }
 
-/* -- The summary -------------------------------------------------------------------------------- */
+/* -- The summary and the mask -------------------------------------------------------------------- */
 
 /* Adds a count to a list, behind a comma if it is not the first; 0 is left out. */
 static void add_count(struct text *list, unsigned count, const char *what)
@@ -223,6 +224,26 @@ static void print_summary(const struct where *where, const struct totals *totals
            sides.len > 0 ? sides.at : "none outside");
 }
 
+/* The bytes of the masks that have the matrix's elements, and the mask's count. */
+static void print_mask(const struct where *where)
+{
+    const uint8_t *masks = where->translation->masks;
+    uint32_t first = MOONBLEAT_MASK_BYTES * where->number, last = first + (element_count(where) - 1) / CHAR_BIT;
+    if (!has_masks(where)) {
+        printf("mask: %s\n", no_mask(where).at);
+        return;
+    }
+    printf("mask, byte%s %" PRIu32, plural(last - first + 1), first);
+    if (last > first) {
+        printf(" to %" PRIu32, last);
+    }
+    putchar(':');
+    for (uint32_t i = first; i <= last; i++) {
+        printf(" %02X", masks[i]);
+    }
+    printf("; %" PRIu32 " set\n", little(masks + first + MOONBLEAT_MASK_COUNT, 2));
+}
+
 void print_map(const struct where *where, const struct told *outcomes)
 {
     struct widths widths = cell_widths(where, outcomes);
@@ -235,4 +256,5 @@ void print_map(const struct where *where, const struct told *outcomes)
     explain_sides(&where->access, &totals);
     putchar('\n');
     print_summary(where, &totals);
+    print_mask(where);
 }

@@ -1,5 +1,6 @@
 /* The way of an element, rule by rule. */
 #include <inttypes.h>
+#include <limits.h>
 
 #include "where.h"
 
@@ -142,6 +143,19 @@ static void tell_byte(const struct access *access, const struct place *place, st
              access->base, place->tensor_index, access->size, place->byte);
 }
 
+static void tell_mask(const struct where *where, unsigned element, struct text *line)
+{
+    uint32_t step = where->number;
+    add_text(line, "mask: ");
+    if (!has_masks(where)) {
+        add_text(line, "%s", no_mask(where).at);
+        return;
+    }
+    add_text(line, "byte %d * %" PRIu32 " + %u / %d = %" PRIu32 ", bit %u mod %d = %u: %s", MOONBLEAT_MASK_BYTES, step,
+             element, CHAR_BIT, MOONBLEAT_MASK_BYTES * step + element / CHAR_BIT, element, CHAR_BIT, element % CHAR_BIT,
+             is_touched(where->translation->masks, step, element) ? "set" : "not set");
+}
+
 void tell_way(const struct where *where, unsigned element, const struct place *place, const struct told *told,
               struct way *way)
 {
@@ -158,7 +172,8 @@ void tell_way(const struct where *where, unsigned element, const struct place *p
         tell_coordinates(access, place, way);
         tell_byte(access, place, way);
     }
-    struct text *last = add_line(way);
-    add_text(last, "outcome: ");
-    add_outcome(last, access->kind, told);
+    struct text *outcome = add_line(way);
+    add_text(outcome, "outcome: ");
+    add_outcome(outcome, access->kind, told);
+    tell_mask(where, element, add_line(way));
 }

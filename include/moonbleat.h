@@ -5,18 +5,18 @@
  * memory, and steps that fill, load, store, reduce, transpose and multiply-add matrices in four
  * registers and, from edition 2 on, multiply a vector in a register by a matrix in memory and add a
  * bias. From edition 3 on a load without an object starts from zeros. The library reads sheets,
- * carries them out, translates them into tapes (flat lists of copies) and runs tapes. It answers what
- * a correct device must answer, byte for byte. It also says what becomes of each element of a sheet's
- * loads and stores, and which way it was clamped, and holds a device's trace, the list of what it did,
- * to that.
+ * carries them out, translates them into tapes (flat lists of copies) with masks (which elements each
+ * load and store touched) and runs tapes. It answers what a correct device must answer, byte for byte.
+ * It also says what becomes of each element of a sheet's loads and stores, and which way it was
+ * clamped, and holds a device's trace, the list of what it did, to that.
  *
  * Link with libmoonbleat.a. The functions keep no state, allocate nothing and may be called from
  * any number of threads, each with arrays of its own.
  *
  * Answers
  * -------
- * Every function returns the refusal's number, 0 if the input is accepted, and fills a row of
- * four numbers:
+ * Every function but moonbleat_touched, which refuses nothing, returns the refusal's number, 0 if the
+ * input is accepted, and fills a row of four numbers:
  *
  *   answer[0]  the same number
  *   answer[1]  its place (a byte of the sheet or of the trace, a step or a record, by the table
@@ -28,8 +28,8 @@
  *              many elements loads and stores have, with a byte or without, for counted divisions
  *              their number, for a read sheet and an outcome 0
  *
- * A refused input changes nothing: memory and the rooms of a tape, a sheet and a trace are as
- * before, counts, records, types, elements, the verdict and the outcome are all 0, and so is
+ * A refused input changes nothing: memory and the rooms of a tape, its masks, a sheet and a trace are
+ * as before, counts, records, types, elements, the verdict and the outcome are all 0, and so is
  * answer[3]. Of an accepted input, what lies past the bytes or numbers written is as before.
  *
  * Refusals
@@ -65,7 +65,8 @@
  *        row * K + column for its matrix's elements, M * K + i for its
  *        bias's                                                              step, element
  *   15   a store puts a later element where an earlier one is                step, element
- *   16   the tape has more than 1,024 records or more than the room holds    0
+ *   16   the tape has more than 1,024 records or more than the room holds;
+ *        the room for its masks is shorter than MOONBLEAT_MASKS bytes        0
  *   17   a record is out of range, or a whole step would get 7, 8 or 14;
  *        a record count is above 1,024 or goes past the tape                 record, or 0
  *   18   the memory is longer than 65,536 bytes                              0
@@ -74,17 +75,17 @@
  *        before (a later step, or a later element of the same step)          byte of the head
  *
  * If several apply, 18 comes first, then the sheet's fields one by one (each 1, 2, 3, 4, 6, 5),
- * then its steps one by one (each 7 to 11, then 12 to 14 element by element, then 15), then 16, 17
- * or 19, or what is asked for (5), or the trace's fields one by one (each 1, 2, 4, 5, 26). The
- * elements of a vector step go by row, whatever its memory layout, then the bias. A byte of the head
- * is one of the sheet, or of the trace where the sheet itself is accepted; one past 2^32 - 1 is given
- * as 2^32 - 1.
+ * then its steps one by one (each 7 to 11, then 12 to 14 element by element, then 15), then 16 (the
+ * records, then the masks), 17 or 19, or what is asked for (5), or the trace's fields one by one (each
+ * 1, 2, 4, 5, 26). The elements of a vector step go by row, whatever its memory layout, then the bias.
+ * A byte of the head is one of the sheet, or of the trace where the sheet itself is accepted; one past
+ * 2^32 - 1 is given as 2^32 - 1.
  *
  * Pointers
  * --------
- * Arrays that are passed to one call must not overlap. A sheet, a memory, a tape, a trace and a room
- * may be NULL where their length is 0; answer, counts, records, types, elements, verdict and outcome
- * may never be.
+ * Arrays that are passed to one call must not overlap. A sheet, a memory, a tape, masks, a trace and a
+ * room may be NULL where their length is 0; answer, counts, records, types, elements, verdict and
+ * outcome may never be.
  *
  * Stack
  * -----
@@ -92,7 +93,7 @@
  * edition and their tapes and traces, and tested, not proved: moonbleat_carry_out took 24,040 bytes,
  * every other function less. What a thread needs for itself comes on top.
  *
- * docs/SHEETS.md describes sheets, tapes and traces field by field.
+ * docs/SHEETS.md describes sheets, tapes, masks and traces field by field.
  */
 #ifndef MOONBLEAT_H
 #define MOONBLEAT_H
@@ -106,8 +107,8 @@ extern "C" {
 
 /* The version of this interface: a major one may break callers, a minor one adds to it, a patch
  * changes nothing that a caller sees. */
-#define MOONBLEAT_VERSION_MAJOR 1
-#define MOONBLEAT_VERSION_MINOR 6
+#define MOONBLEAT_VERSION_MAJOR 2
+#define MOONBLEAT_VERSION_MINOR 0
 #define MOONBLEAT_VERSION_PATCH 0
 
 /* The newest edition of sheets that is taken, from 1 on. */
@@ -129,6 +130,8 @@ extern "C" {
 #define MOONBLEAT_STEP_RECORDS 257        /* ... of one step at most: a load's copy or fill, and its runs */
 #define MOONBLEAT_RECORD_NUMBERS 6        /* numbers of a record */
 #define MOONBLEAT_TAPE_NUMBERS 6144       /* numbers of the longest tape */
+#define MOONBLEAT_MASK_BYTES 34           /* bytes of a step's mask */
+#define MOONBLEAT_MASKS 1088              /* ... of all steps' masks: the room that they need */
 #define MOONBLEAT_ACCESS_BYTES 12         /* bytes of a field of a trace */
 #define MOONBLEAT_TRACE_MAX 98304         /* bytes that hold every sheet's trace */
 #define MOONBLEAT_COUNTS 3                /* layouts, views, steps */
@@ -157,6 +160,11 @@ enum {
     MOONBLEAT_OUTCOME_VALUE = 1,
     MOONBLEAT_OUTCOME_DIMENSION = 2,
     MOONBLEAT_OUTCOME_SIDE = 3
+};
+
+/* The place of the count in a step's mask, behind the bits. */
+enum {
+    MOONBLEAT_MASK_COUNT = 32
 };
 
 /* Places in a register's type; the fourth byte is 0. An empty register has four zeros. */
@@ -325,14 +333,41 @@ uint32_t moonbleat_carry_out(const uint8_t *sheet, size_t sheet_len, uint8_t *me
                              uint8_t types[16], uint32_t elements[1024], uint32_t answer[4]);
 
 /*
- * Translates a sheet for a memory of some length into a tape: six numbers a record, records[0]
- * records. A room of MOONBLEAT_TAPE_NUMBERS numbers holds every tape, and no step has more than
- * MOONBLEAT_STEP_RECORDS records. Running the tape with its sheet on a memory of that length leaves the
- * memory, the registers and the byte-elements that carrying out the sheet leaves. Refusals 18, 1 to 15,
- * then 16.
+ * Translates a sheet for a memory of some length into a tape, and masks beside it. Refusals 18, 1 to
+ * 15, then 16.
+ *
+ * The tape has six numbers a record, records[0] records. A room of MOONBLEAT_TAPE_NUMBERS numbers holds
+ * every tape, and no step has more than MOONBLEAT_STEP_RECORDS records. Running the tape with its sheet
+ * on a memory of that length leaves the memory, the registers and the byte-elements that carrying out
+ * the sheet leaves.
+ *
+ * The masks say which elements each step touched: those of its load or store that have a byte
+ * (MOONBLEAT_SORT_BYTE), not the skipped, filled and discarded ones. Step s has the
+ * MOONBLEAT_MASK_BYTES bytes from 34 * s on:
+ *
+ *   bytes 0 to 31    element e is bit e mod 8, lowest first, of byte e / 8; set if it was touched
+ *   bytes 32 and 33  how many are set, little-endian
+ *
+ * A step that is no load or store (a vector step is none) has 34 zeros, and so have the places past
+ * the last step: whatever the sheet, the first MOONBLEAT_MASKS bytes of masks[] are written, and a
+ * shorter room gets 16. The counts add up to answer[3].
  */
 uint32_t moonbleat_translate(const uint8_t *sheet, size_t sheet_len, size_t memory_len,
-                             int32_t *tape, size_t tape_len, uint32_t records[1], uint32_t answer[4]);
+                             int32_t *tape, size_t tape_len, uint8_t *masks, size_t masks_len,
+                             uint32_t records[1], uint32_t answer[4]);
+
+/*
+ * Asks masks whether a step touched an element: 1 if its bit is set, else 0. A step above 31, an
+ * element above 255, and one whose bit lies past masks_len bytes, get 0 too. The masks may be any
+ * bytes; their counts are not looked at. Nothing is refused, so there is no answer row.
+ *
+ *   uint8_t masks[MOONBLEAT_MASKS];
+ *   if (moonbleat_translate(sheet, sheet_len, memory_len, tape, MOONBLEAT_TAPE_NUMBERS, masks,
+ *                           sizeof masks, records, answer) == 0 &&
+ *       moonbleat_touched(masks, sizeof masks, 1, 5) == 1)
+ *       puts("step 1 touches element 5");
+ */
+uint32_t moonbleat_touched(const uint8_t *masks, size_t masks_len, uint32_t step, uint32_t element);
 
 /*
  * Runs the first `records` records of a tape with its sheet on a memory, from empty registers;
