@@ -17,8 +17,8 @@
 #   make night-speed  time a night of NIGHT sheets with eight cards
 #   make lint       cppcheck, warnings as errors, and the header as C++
 #   make check      lint, test, text-test and compare: all but the proofs
-#   make memcheck   the tool's tests with sanitizers, then with each third call (of diff and night:
-#                   each ninth) under valgrind, then 500 sheets of each edition of the comparison
+#   make memcheck   the tool's tests with sanitizers, then with each third call (of masks, diff and
+#                   night: each ninth) under valgrind, then 500 sheets of each edition of the comparison
 #                   under it: some 13 minutes
 #
 # The archive is made by `rt staticlib moonbleat`, which proves what is not proved yet: some
@@ -133,12 +133,14 @@ demo: all
 tool-test: all
 	tests/tool.sh $(TOOL)
 	tests/where.sh $(TOOL)
+	tests/masks.sh $(TOOL)
 	tests/examples.sh $(TOOL)
 	tests/night.sh $(TOOL)
 
-test: tool-test $(addprefix $(TOOL)/test-,null outcome where stack) $(SHEET_FILES)
+test: tool-test $(addprefix $(TOOL)/test-,null outcome masks where stack) $(SHEET_FILES)
 	$(TOOL)/test-null
 	$(TOOL)/test-outcome
+	$(TOOL)/test-masks
 	$(TOOL)/test-where
 	$(TOOL)/test-stack $(SHEET_FILES)/00???-*.sheet
 	tests/install.sh
@@ -147,6 +149,7 @@ memcheck: all
 	$(MAKE) $(SANITIZED) tool-test
 	RUNNER='$(VALGRIND) $(LEAKS)' EVERY=3 tests/tool.sh $(TOOL)
 	RUNNER='$(VALGRIND) $(LEAKS)' EVERY=3 tests/where.sh $(TOOL)
+	RUNNER='$(VALGRIND) $(LEAKS)' EVERY=9 tests/masks.sh $(TOOL)
 	RUNNER='$(VALGRIND) $(LEAKS)' EVERY=9 tests/night.sh $(TOOL)
 	CARGO_TARGET_X86_64_UNKNOWN_LINUX_GNU_RUNNER='$(VALGRIND)' $(CARGO) run $(CARGO_WORDS) -- --sheets 500
 
@@ -158,9 +161,10 @@ $(SHEET_FILES): $(ARCHIVE) $(wildcard compare/src/*.rs compare/src/reference/*.r
 	mv $@.part $@
 
 text-test: $(SHEET_FILES)
-	$(MAKE) $(SANITIZED) $(addprefix target/sanitized/test-,sheets fuzz_text null outcome where)
+	$(MAKE) $(SANITIZED) $(addprefix target/sanitized/test-,sheets fuzz_text null outcome masks where)
 	target/sanitized/test-null
 	target/sanitized/test-outcome
+	target/sanitized/test-masks
 	target/sanitized/test-where
 	target/sanitized/test-sheets $(SHEET_FILES)
 	target/sanitized/test-fuzz_text $(TEXTS) strips/*/sheet.txt

@@ -96,6 +96,12 @@ absent() {
     pass
 }
 
+# bits FILE: STEP ELEMENT of each bit that is set in masks.
+bits() {
+    od -An -v -tu1 -w34 "$1" |
+        awk '{ for (e = 0; e < 256; e++) if (int($(int(e / 8) + 1) / 2 ^ (e % 8)) % 2) print NR - 1, e }'
+}
+
 # contains TEXT FILE: a file must have this text on one of its lines.
 contains() {
     if grep -q -F -e "$1" "$2"; then

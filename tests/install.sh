@@ -47,7 +47,7 @@ expect 'the version' prints "$version" pkg-config --modversion moonbleat
 # shellcheck disable=SC2046
 expect 'the consumer' cc -o "$work/consumer" "$work/consumer.c" $(pkg-config --cflags --libs moonbleat)
 expect 'the consumer runs' prints ' 12 11 10 11 12 13 12 11
-8 elements came from memory' "$work/consumer"
+12 elements had a byte; stored: 2 3 4 5' "$work/consumer"
 
 # The manual page has every command and option that the help has, and the formatter no complaint.
 page=$prefix/share/man/man1/moonbleat.1
@@ -76,6 +76,8 @@ expect 'completion of commands' prints 'run run-tape' complete_words ru
 expect 'completion of help' prints 'tape' complete_words help ta
 expect 'completion of options' prints '--memory' complete_words check --m
 expect 'completion of where' prints '--memory --element --json --help' complete_words where sheet 1 -
+expect 'completion of tape' prints '--memory --masks --json --help' complete_words tape sheet -
+expect 'completion of touched' prints 'touched' complete_words to
 expect 'completion of --help' prints '-o --registers --json --help' complete_words run -
 touch "$work/sheet-file"
 expect 'completion of files' prints "$work/sheet-file" complete_words check "$work/sheet-f"

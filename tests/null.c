@@ -9,6 +9,8 @@
 struct result {
     uint32_t returned;
     uint32_t counts[MOONBLEAT_COUNTS];
+    int32_t tape[MOONBLEAT_TAPE_NUMBERS];
+    uint8_t masks[MOONBLEAT_MASKS];
     uint32_t records[1];
     uint32_t verdict[MOONBLEAT_VERDICT];
     uint32_t outcome[MOONBLEAT_OUTCOME];
@@ -72,14 +74,28 @@ static void carry_out_on_nothing(uint8_t *nothing, int32_t *no_numbers, struct r
 
 static void translate_nothing(uint8_t *nothing, int32_t *no_numbers, struct result *result)
 {
-    result->returned = moonbleat_translate(nothing, 0, 0, no_numbers, 0, result->records, result->answer);
+    result->returned =
+        moonbleat_translate(nothing, 0, 0, no_numbers, 0, nothing, 0, result->records, result->answer);
 }
 
 static void translate_to_nothing(uint8_t *nothing, int32_t *no_numbers, struct result *result)
 {
     (void)nothing;
-    result->returned =
-        moonbleat_translate(fill_sheet, sizeof fill_sheet, 0, no_numbers, 0, result->records, result->answer);
+    result->returned = moonbleat_translate(fill_sheet, sizeof fill_sheet, 0, no_numbers, 0, result->masks,
+                                           sizeof result->masks, result->records, result->answer);
+}
+
+static void translate_with_no_masks(uint8_t *nothing, int32_t *no_numbers, struct result *result)
+{
+    (void)no_numbers;
+    result->returned = moonbleat_translate(load_sheet, sizeof load_sheet, LOAD_MEMORY, result->tape,
+                                           MOONBLEAT_TAPE_NUMBERS, nothing, 0, result->records, result->answer);
+}
+
+static void touched_by_nothing(uint8_t *nothing, int32_t *no_numbers, struct result *result)
+{
+    (void)no_numbers;
+    result->returned = moonbleat_touched(nothing, 0, 0, 0);
 }
 
 static void run_nothing(uint8_t *nothing, int32_t *no_numbers, struct result *result)
@@ -154,7 +170,7 @@ static void outcome_of_nothing(uint8_t *nothing, int32_t *no_numbers, struct res
 static const struct {
     const char *name;
     call *call;
-    uint32_t refusal;
+    uint32_t returned;
 } cases[] = {
     {"read nothing", read_nothing, MOONBLEAT_REFUSED_ORDER},
     {"rewrite nothing", rewrite_nothing, MOONBLEAT_REFUSED_ORDER},
@@ -164,6 +180,8 @@ static const struct {
     {"carry out on nothing", carry_out_on_nothing, 0},
     {"translate nothing", translate_nothing, MOONBLEAT_REFUSED_ORDER},
     {"translate to nothing", translate_to_nothing, MOONBLEAT_REFUSED_TAPE_LENGTH},
+    {"translate with no masks", translate_with_no_masks, MOONBLEAT_REFUSED_TAPE_LENGTH},
+    {"touched by nothing", touched_by_nothing, 0},
     {"run nothing", run_nothing, MOONBLEAT_REFUSED_ORDER},
     {"run on nothing", run_on_nothing, 0},
     {"run records of nothing", run_records_of_nothing, MOONBLEAT_REFUSED_RECORD},
@@ -189,7 +207,7 @@ static bool holds(size_t i)
     memset(&with_another, GARBAGE, sizeof with_another);
     cases[i].call(NULL, NULL, &with_null);
     cases[i].call(&byte, &number, &with_another);
-    return memcmp(&with_null, &with_another, sizeof with_null) == 0 && with_null.returned == cases[i].refusal;
+    return memcmp(&with_null, &with_another, sizeof with_null) == 0 && with_null.returned == cases[i].returned;
 }
 
 static const char *name_of(size_t i)

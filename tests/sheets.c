@@ -5,6 +5,8 @@
  *   - every sheet is shown;
  *   - of a refused sheet the cause is found, and of an accepted one's tape with one number changed and
  *     its trace with one byte changed or the end cut off;
+ *   - an accepted sheet's masks are those that its trace gives, and say of each of its elements what the
+ *     trace has;
  *   - of some elements of an accepted sheet's loads and stores the way is told, to the library's outcome,
  *     which has what the trace has.
  *
@@ -14,6 +16,7 @@
 
 #include <dirent.h>
 #include <inttypes.h>
+#include <limits.h>
 #include <stdbool.h>
 #include <stdio.h>
 #include <stdlib.h>
@@ -30,6 +33,7 @@
 static size_t sheets, failed, refused[MOONBLEAT_REFUSED_RECORD + 1], refused_traces[MOONBLEAT_REFUSED_TRACE_ORDER + 1];
 static size_t read_sheets[MOONBLEAT_EDITION_MAX + 1]; /* by edition */
 static size_t sorts[MOONBLEAT_SORT_BYTE + 1], sides[MOONBLEAT_SIDE_ABOVE + 1]; /* of outcomes */
+static size_t masked[2]; /* elements by masks: not touched, touched */
 static FILE *nowhere;
 
 /* The refusals of a trace's own fields. */
@@ -74,20 +78,20 @@ static void expect_cause(const char *name, const struct refused *input, size_t *
 }
 
 /* Runs the tape of an accepted sheet with some number of it changed, another one for each sheet. */
-static void try_tape(const char *name, const struct bytes *sheet, size_t memory_len)
+static void try_tape(const char *name, const struct bytes *sheet, size_t memory_len,
+                     const struct translation *translation)
 {
     static const int32_t others[] = {-1, 0, 1, 4, 5, 17, 256, 65535, 65536, INT32_MIN, INT32_MAX};
     static struct tape tape;
     static uint8_t memory[MOONBLEAT_MEMORY_MAX];
     static uint32_t elements[MOONBLEAT_ELEMENTS];
     uint8_t types[MOONBLEAT_TYPES];
-    uint32_t records[1], answer[MOONBLEAT_ANSWER];
-    if (moonbleat_translate(sheet->at, sheet->len, memory_len, tape.numbers, MOONBLEAT_TAPE_NUMBERS, records,
-                            answer) != 0 ||
-        records[0] == 0) {
+    uint32_t answer[MOONBLEAT_ANSWER];
+    tape.records = translation->records[0];
+    if (tape.records == 0) {
         return;
     }
-    tape.records = records[0];
+    memcpy(tape.numbers, translation->tape, sizeof translation->tape);
     size_t numbers = MOONBLEAT_RECORD_NUMBERS * tape.records;
     size_t sheet_number = strtoul(name, NULL, 10);
     tape.numbers[sheet_number * 7919 % numbers] = others[sheet_number % (sizeof others / sizeof others[0])];
@@ -123,14 +127,55 @@ static void try_trace(const char *name, const struct bytes *sheet, size_t memory
     expect_cause(name, &replayed, refused_traces);
 }
 
-static void try_way(const char *name, const struct refused *accepted, const struct entry *entry)
+/* The masks that a trace gives: a bit for each access with a byte, and how many there are. */
+static void masks_of(const uint8_t *trace, size_t count, uint8_t masks[MOONBLEAT_MASKS])
+{
+    memset(masks, 0, MOONBLEAT_MASKS);
+    for (size_t i = 0; i < count; i++) {
+        struct entry entry = entry_at(trace, i);
+        if (entry.sort == MOONBLEAT_SORT_BYTE) {
+            uint8_t *mask = masks + (size_t)MOONBLEAT_MASK_BYTES * entry.step;
+            mask[entry.element / CHAR_BIT] |= (uint8_t)(1u << entry.element % CHAR_BIT);
+            if (++mask[MOONBLEAT_MASK_COUNT] == 0) {
+                mask[MOONBLEAT_MASK_COUNT + 1]++;
+            }
+        }
+    }
+}
+
+static void try_masks(const char *name, const struct refused *accepted, const struct translation *translation)
+{
+    static uint8_t trace[MOONBLEAT_TRACE_MAX];
+    uint8_t masks[MOONBLEAT_MASKS];
+    uint32_t answer[MOONBLEAT_ANSWER];
+    if (translation->answer[MOONBLEAT_NUMBER] != 0) {
+        return;
+    }
+    moonbleat_trace(accepted->sheet, accepted->sheet_len, accepted->memory_len, trace, sizeof trace, answer);
+    size_t count = answer[MOONBLEAT_BYTE_ELEMENTS] / MOONBLEAT_ACCESS_BYTES;
+    masks_of(trace, count, masks);
+    if (memcmp(translation->masks, masks, sizeof masks) != 0) {
+        fail(name, "the trace gives other masks");
+    }
+    for (size_t i = 0; i < count; i++) {
+        struct entry entry = entry_at(trace, i);
+        bool touched = is_touched(translation->masks, entry.step, entry.element);
+        masked[touched]++;
+        if (touched != (entry.sort == MOONBLEAT_SORT_BYTE)) {
+            fail(name, "the trace has another answer than the masks");
+        }
+    }
+}
+
+static void try_way(const char *name, const struct refused *accepted, const struct translation *translation,
+                    const struct entry *entry)
 {
     static struct way way;
     struct where where;
     struct told told;
     struct place place;
     struct text fault = {.len = 0};
-    if (!find_where(accepted, entry->step, &where) ||
+    if (!find_where(accepted, translation, entry->step, &where) ||
         !find_outcome(&where, entry->element, &told, &place, &fault)) {
         fail(name, fault.len > 0 ? fault.at : "no load or store is found");
         return;
@@ -147,7 +192,7 @@ static void try_way(const char *name, const struct refused *accepted, const stru
 }
 
 /* Some elements of an accepted sheet: about so many, from all over its trace. */
-static void try_ways(const char *name, const struct refused *accepted)
+static void try_ways(const char *name, const struct refused *accepted, const struct translation *translation)
 {
     enum { TRIED = 16 };
     static uint8_t trace[MOONBLEAT_TRACE_MAX];
@@ -156,19 +201,22 @@ static void try_ways(const char *name, const struct refused *accepted)
     size_t count = answer[MOONBLEAT_BYTE_ELEMENTS] / MOONBLEAT_ACCESS_BYTES;
     for (size_t i = 0; i < count; i += 1 + count / TRIED) {
         struct entry entry = entry_at(trace, i);
-        try_way(name, accepted, &entry);
+        try_way(name, accepted, translation, &entry);
     }
 }
 
 static void try_diagnosis(const char *name, const struct bytes *sheet, size_t memory_len)
 {
+    static struct translation translation;
     uint32_t answer[MOONBLEAT_ANSWER];
     const struct refused checked = {.sheet = sheet->at, .sheet_len = sheet->len, .memory_len = memory_len,
                                     .answer = answer};
     if (moonbleat_check(sheet->at, sheet->len, memory_len, answer) == 0) {
-        try_tape(name, sheet, memory_len);
+        translate(sheet, memory_len, &translation);
+        try_tape(name, sheet, memory_len, &translation);
         try_trace(name, sheet, memory_len);
-        try_ways(name, &checked);
+        try_masks(name, &checked, &translation);
+        try_ways(name, &checked, &translation);
     } else {
         expect_cause(name, &checked, refused);
     }
@@ -241,6 +289,10 @@ int main(int argc, char **argv)
         if (sides[side] == 0) {
             fail(argv[1], "a side was not met");
         }
+    }
+    printf("\nelements by masks: touched:%zu not touched:%zu", masked[true], masked[false]);
+    if (masked[true] == 0 || masked[false] == 0) {
+        fail(argv[1], "an answer of masks was not met");
     }
     printf("\n%zu failed\n", failed);
     return failed != 0;

@@ -23,6 +23,7 @@ static struct {
     uint8_t memory[MOONBLEAT_MEMORY_MAX];
     uint8_t out[MOONBLEAT_SHEET_MAX];
     int32_t tape[MOONBLEAT_TAPE_NUMBERS];
+    uint8_t masks[MOONBLEAT_MASKS];
     uint32_t records[1];
     uint8_t trace[MOONBLEAT_TRACE_MAX];
     size_t trace_len;
@@ -58,7 +59,7 @@ static void do_carry_out(void)
 static void do_translate(void)
 {
     moonbleat_translate(lent.sheet.at, lent.sheet.len, sizeof lent.memory, lent.tape, MOONBLEAT_TAPE_NUMBERS,
-                        lent.records, lent.answer);
+                        lent.masks, sizeof lent.masks, lent.records, lent.answer);
 }
 
 /* The tape that the function above made of the same sheet. */
@@ -66,6 +67,12 @@ static void do_run(void)
 {
     moonbleat_run(lent.sheet.at, lent.sheet.len, lent.tape, MOONBLEAT_TAPE_NUMBERS, lent.records[0], lent.memory,
                   sizeof lent.memory, lent.types, lent.elements, lent.answer);
+}
+
+/* The last element of the masks that were made with it. */
+static void do_touched(void)
+{
+    moonbleat_touched(lent.masks, sizeof lent.masks, MOONBLEAT_STEPS_MAX - 1, MOONBLEAT_REGISTER_ELEMENTS - 1);
 }
 
 static void do_trace(void)
@@ -106,8 +113,9 @@ static struct {
     {"moonbleat_read", do_read, 0},           {"moonbleat_rewrite", do_rewrite, 0},
     {"moonbleat_check", do_check, 0},         {"moonbleat_carry_out", do_carry_out, 0},
     {"moonbleat_translate", do_translate, 0}, {"moonbleat_run", do_run, 0},
-    {"moonbleat_trace", do_trace, 0},         {"moonbleat_replay", do_replay, 0},
-    {"moonbleat_divisions", do_divisions, 0}, {"moonbleat_outcome", do_outcome, 0},
+    {"moonbleat_touched", do_touched, 0},     {"moonbleat_trace", do_trace, 0},
+    {"moonbleat_replay", do_replay, 0},       {"moonbleat_divisions", do_divisions, 0},
+    {"moonbleat_outcome", do_outcome, 0},
 };
 
 enum { FUNCTIONS = sizeof functions / sizeof functions[0] };

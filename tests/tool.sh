@@ -35,7 +35,7 @@ accepted_strip() {
     call 0 run sheet memory -o out
     same "$1: run" stdout run.txt
     same "$1: memory" out after
-    call 0 tape sheet
+    call 0 tape sheet --masks masks
     same "$1: tape" stdout tape.txt
     rm -f out
     call 0 run-tape sheet tape.txt memory -o out
@@ -56,8 +56,11 @@ accepted_strip() {
         grep -v '^#' "$strips/$1/divisions.txt" > expected
         same "$1: divisions" stdout expected
     fi
-    # The outcomes of where are those of the trace.
+    # The outcomes of where are those of the trace, and the masks have those of its elements that have a byte.
     call 0 trace sheet --memory "$(wc -c < memory)" --json
+    jq -r '.accesses[] | select(.sort == "byte") | "\(.step) \(.element)"' stdout > expected
+    bits masks > elements
+    same "$1: masks" elements expected
     jq -c '.accesses[] | [.step, .element, .sort, .byte]' stdout > expected
     for step in $(jq '[.accesses[].step] | unique | .[]' stdout); do
         tool where sheet "$step" --memory "$(wc -c < memory)" --json
@@ -71,7 +74,7 @@ accepted_strip() {
 
 refused_strip() {
     sed 's/^/moonbleat: /' "$strips/$1/refusal.txt" > line
-    call 1 tape sheet
+    call 1 tape sheet --masks out
     same "$1: tape" stdout tape.txt
     same "$1: the refusal of tape" stderr line
     call 1 check sheet --memory "$(wc -c < memory)"
@@ -93,6 +96,9 @@ refused_strip() {
     call 4 replay sheet memory --memory "$(wc -c < memory)"
     silent
     same "$1: the refusal of replay" stderr line
+    call 4 touched sheet 1 0 --memory "$(wc -c < memory)"
+    silent
+    same "$1: the refusal of touched" stderr line
 }
 
 carried_strip() {
@@ -180,9 +186,9 @@ refused() {
     refuses "$three" "$cause"
 }
 
-# refused_replay 'NUMBER FIRST SECOND' CAUSE WORD..: the same with exit status 4, since 1 says that a card
-# differs.
-refused_replay() {
+# refused_input 'NUMBER FIRST SECOND' CAUSE WORD..: the same with exit status 4, since 1 says that a card
+# differs, or that an element was not touched.
+refused_input() {
     three=$1
     cause=$2
     shift 2
@@ -221,11 +227,12 @@ unreadable() {
     refused "$wanted_place" "$wanted_cause" check sheet --memory 64
     refused "$wanted_place" "$wanted_cause" run sheet memory -o out
     refused "$wanted_place" "$wanted_cause" run-tape sheet tape memory -o out
-    refused_tape "$wanted_place" "$wanted_cause" tape sheet
+    refused_tape "$wanted_place" "$wanted_cause" tape sheet --masks out
     refused "$wanted_place" "$wanted_cause" trace sheet -o out
-    refused_replay "$wanted_place" "$wanted_cause" replay sheet no_trace
+    refused_input "$wanted_place" "$wanted_cause" replay sheet no_trace
     refused "$wanted_place" "$wanted_cause" divisions sheet
     refused "$wanted_place" "$wanted_cause" where sheet 0
+    refused_input "$wanted_place" "$wanted_cause" touched sheet 0 0
     absent out
 }
 
@@ -238,11 +245,12 @@ misstepped() {
     call 0 show sheet
     refused "$wanted_place" "$wanted_cause" check sheet --memory 64
     refused "$wanted_place" "$wanted_cause" run sheet memory -o out
-    refused_tape "$wanted_place" "$wanted_cause" tape sheet --memory 64
+    refused_tape "$wanted_place" "$wanted_cause" tape sheet --memory 64 --masks out
     refused "$wanted_place" "$wanted_cause" trace sheet --memory 64 -o out
-    refused_replay "$wanted_place" "$wanted_cause" replay sheet no_trace --memory 64
+    refused_input "$wanted_place" "$wanted_cause" replay sheet no_trace --memory 64
     refused "$wanted_place" "$wanted_cause" divisions sheet --memory 64
     refused "$wanted_place" "$wanted_cause" where sheet 1 --element 1 --memory 64
+    refused_input "$wanted_place" "$wanted_cause" touched sheet 1 1 --memory 64
     absent out
 }
 
@@ -662,13 +670,14 @@ for hex in "$edition $fill" 01; do
     refused '18 0 0' 'the memory is longer than 65536 bytes' check sheet --memory 18446744073709551615
     refused '18 0 0' 'the memory is longer than 65536 bytes' run sheet memory -o out
     refused '18 0 0' 'the memory is longer than 65536 bytes' run-tape sheet tape memory -o out
-    refused_tape '18 0 0' 'the memory is longer than 65536 bytes' tape sheet --memory 65537
+    refused_tape '18 0 0' 'the memory is longer than 65536 bytes' tape sheet --memory 65537 --masks out
     refused '18 0 0' 'the memory is longer than 65536 bytes' trace sheet --memory 65537 -o out
-    refused_replay '18 0 0' 'the memory is longer than 65536 bytes' replay sheet no_trace --memory 65537
+    refused_input '18 0 0' 'the memory is longer than 65536 bytes' replay sheet no_trace --memory 65537
     refused '18 0 0' 'the memory is longer than 65536 bytes' divisions sheet --memory 65537
     refused '18 0 0' 'the memory is longer than 65536 bytes' divisions sheet --memory 18446744073709551615
     refused '18 0 0' 'the memory is longer than 65536 bytes' where sheet 7 --memory 65537
     refused '18 0 0' 'the memory is longer than 65536 bytes' where sheet 7 --memory 18446744073709551615
+    refused_input '18 0 0' 'the memory is longer than 65536 bytes' touched sheet 7 0 --memory 65537
     absent out
 done
 
@@ -747,7 +756,7 @@ wrong 'run takes SHEET MEMORY' run sheet
 wrong 'run takes SHEET MEMORY, and tape is one more' run sheet memory tape
 wrong '-o needs a word after it' run sheet memory -o
 wrong '--registers needs a word after it' run sheet memory --registers
-wrong 'standard output can take only one of -o, --registers and --json' run sheet memory -o - --registers -
+wrong 'standard output can take only one of -o, --registers, --masks and --json' run sheet memory -o - --registers -
 wrong '-o is given twice' run sheet memory -o out -o out
 wrong 'run does not take --memory' run sheet memory -o out --memory 64
 wrong 'run does not take --output' run sheet memory --output out
@@ -758,13 +767,17 @@ wrong 'standard input can be read only once' run-tape - tape -
 wrong 'tape takes SHEET' tape
 wrong 'tape does not take -x' tape sheet -x
 wrong 'tape does not take -o' tape sheet -o out
+wrong '--masks needs a word after it' tape sheet --masks
+wrong '--masks is given twice' tape sheet --masks out --masks out
+wrong 'standard output can take only one of -o, --registers, --masks and --json' tape sheet --masks - --json
+wrong 'run does not take --masks' run sheet memory --masks out
 wrong 'trace takes SHEET' trace
 wrong 'trace takes SHEET, and tape is one more' trace sheet tape
 wrong 'trace does not take --asm' trace sheet --asm
 wrong '-o needs a word after it' trace sheet -o
 wrong '--memory needs a word after it' trace sheet -o out --memory
 wrong '--memory x: not a length in bytes' trace sheet -o out --memory x
-wrong 'standard output can take only one of -o, --registers and --json' trace sheet -o - --json
+wrong 'standard output can take only one of -o, --registers, --masks and --json' trace sheet -o - --json
 wrong 'replay takes SHEET TRACE' replay
 wrong 'replay takes SHEET TRACE' replay sheet
 wrong 'replay takes SHEET TRACE, and tape is one more' replay sheet no_trace tape
@@ -794,6 +807,17 @@ wrong '--element needs a word after it' where sheet 1 --element
 wrong '--element is given twice' where sheet 1 --element 0 --element 0
 wrong 'check does not take --element' check sheet --element 0
 wrong '--memory 12x: not a length in bytes' where sheet 1 --memory 12x
+wrong 'touched takes SHEET STEP ELEMENT' touched
+wrong 'touched takes SHEET STEP ELEMENT' touched sheet 1
+wrong 'touched takes SHEET STEP ELEMENT, and memory is one more' touched sheet 1 0 memory
+wrong 'touched does not take --masks' touched sheet 1 0 --masks out
+wrong 'touched does not take -1' touched sheet -1 0
+for word in load 1x '' 0x 1,0 4294967296; do
+    wrong "$word: not the number of a step" touched sheet "$word" 0
+    wrong "$word: not the number of an element" touched sheet 1 "$word"
+done
+wrong '--memory 12x: not a length in bytes' touched sheet 1 0 --memory 12x
+wrong '--json takes no word after it' touched sheet 1 0 --json=1
 wrong 'show takes SHEET' show
 wrong 'show does not take --memory' show sheet --memory 64
 
@@ -837,6 +861,7 @@ broken "nowhere: $gone" replay nowhere no_trace
 broken "nowhere: $gone" replay sheet nowhere
 broken "nowhere: $gone" divisions nowhere
 broken "nowhere: $gone" where nowhere 1
+broken "nowhere: $gone" touched nowhere 1 0
 broken '.: Is a directory' check . --memory 64
 broken '.: Is a directory' run sheet . -o out
 broken '.: Is a directory' run-tape sheet . memory -o out
@@ -844,6 +869,7 @@ broken '.: Is a directory' trace . -o out
 broken '.: Is a directory' replay sheet .
 broken '.: Is a directory' divisions .
 broken '.: Is a directory' where . 1
+broken '.: Is a directory' touched . 1 0
 broken 'sheet/inside: Not a directory' show sheet/inside
 absent out
 
@@ -1056,7 +1082,8 @@ if [ "$(ls -A folder)" = out ]; then pass; else fail "left on a full disk: $(ls 
 if [ -c /dev/full ]; then
     tool trace sheet -o trace
     for words in 'run sheet memory' 'tape sheet' 'show sheet' 'check sheet --memory 64' 'trace sheet' \
-        'trace sheet -o -' 'replay sheet trace' 'divisions sheet' 'where sheet 1' 'where sheet 1 --element 0' '--help'; do
+        'trace sheet -o -' 'replay sheet trace' 'divisions sheet' 'where sheet 1' 'where sheet 1 --element 0' \
+        'tape sheet --masks -' 'touched sheet 1 0' 'touched sheet 0 0' '--help'; do
         # shellcheck disable=SC2086
         tool $words > /dev/full 2> stderr
         if [ $? -eq 3 ]; then pass; else fail "$words to a full device"; fi
@@ -1722,7 +1749,7 @@ edited "2s/.*/$(access 1 0 3 0)/;3s/.*/31 0000/"
 refused_trace '26 12' 'access 1: step 1, element 0 is not after step 1, element 0 of the access before'
 # The sheet comes first.
 bytes trace FF
-refused_replay '14 4 2' 'store: row 0, column 2: bytes 34 to 35 do not all lie in the memory of 35 bytes' \
+refused_input '14 4 2' 'store: row 0, column 2: bytes 34 to 35 do not all lie in the memory of 35 bytes' \
     replay sheet trace --memory 35
 refused '14 4 2' 'store: row 0, column 2: bytes 34 to 35 do not all lie in the memory of 35 bytes' \
     trace sheet --memory 35
@@ -1877,7 +1904,7 @@ divides $((31 * 1159)) --memory 4
 
 # The examples, and what README.md says that they print.
 ${RUNNER:-} "$bin/example" > stdout 2> stderr
-printf '%s\n' ' 12 11 10 11 12 13 12 11' '8 elements came from memory' > expected
+printf '%s\n' ' 12 11 10 11 12 13 12 11' '12 elements had a byte; stored: 2 3 4 5' > expected
 same 'the example' stdout expected
 ${RUNNER:-} "$bin/readme" > stdout 2> stderr
 echo '1 by 4, first element 7' > expected

@@ -9,6 +9,7 @@
 enum { LOAD = 1, STORE = 2 };
 
 static const struct refused asked = {.sheet = sheet, .sheet_len = sizeof sheet, .memory_len = MEMORY};
+static const struct translation no_translation; /* faults are told without masks */
 
 static void change_base(struct access *access)
 {
@@ -67,7 +68,7 @@ static bool holds(size_t i)
     struct told told;
     struct place place;
     struct text fault = {.len = 0};
-    if (!find_where(&asked, cases[i].step, &where) ||
+    if (!find_where(&asked, &no_translation, cases[i].step, &where) ||
         !find_outcome(&where, cases[i].element, &told, &place, &fault)) {
         return false;
     }

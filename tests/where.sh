@@ -56,6 +56,7 @@ row 0  #<0 #<0 0   1   2   3   #>0 #>0
   >0      above in dimension 0, the first outside: past 3
 
 8 elements: 4 with a byte, 4 filled; 2 below in dimension 0, 2 above in dimension 0
+mask, byte 34: 3C; 4 set
 END
 
 strip 02-clamp-to-edge
@@ -71,6 +72,7 @@ row 0  0<0 0<0 0   1   2   3   3>0 3>0
   >0      above in dimension 0, the first outside: past 3
 
 8 elements: 8 with a byte; 2 below in dimension 0, 2 above in dimension 0
+mask, byte 34: FF; 8 set
 END
 
 strip 03-repeat
@@ -86,6 +88,7 @@ row 0  2<0 3<0 0   1   2   3   0>0 1>0
   >0      above in dimension 0, the first outside: past 3
 
 8 elements: 8 with a byte; 2 below in dimension 0, 2 above in dimension 0
+mask, byte 34: FF; 8 set
 END
 
 strip 04-mirror-repeat
@@ -101,6 +104,7 @@ row 0  2<0 1<0 0   1   2   3   2>0 1>0
   >0      above in dimension 0, the first outside: past 3
 
 8 elements: 8 with a byte; 2 below in dimension 0, 2 above in dimension 0
+mask, byte 34: FF; 8 set
 END
 
 strip 04-mirror-repeat-of-one
@@ -116,6 +120,7 @@ row 0  0<0 0<0 0   0>0 0>0 0>0 0>0 0>0
   >0      above in dimension 0, the first outside: past 0
 
 8 elements: 8 with a byte; 2 below in dimension 0, 5 above in dimension 0
+mask, byte 34: FF; 8 set
 END
 
 # A refused strip shows its refusal, whatever is asked.
@@ -142,6 +147,7 @@ row 0  16<0 16<0 16   17   18   19   19>0 19>0
   >0      above in dimension 0, the first outside: past 3
 
 8 elements: 8 with a byte; 2 below in dimension 0, 2 above in dimension 0
+mask, byte 34: FF; 8 set
 END
 shows 2 << 'END'
 step 2: store register 0, layout 0, no view, base 0
@@ -156,6 +162,7 @@ row 0  x<0 x<0 0   1   2   3   x>0 x>0
   >0      above in dimension 0, the first outside: past 3
 
 8 elements: 4 with a byte, 4 discarded; 2 below in dimension 0, 2 above in dimension 0
+mask, byte 68: 3C; 4 set
 END
 
 strip 07-permuted-view
@@ -171,6 +178,7 @@ row 2  2 5
   number  its byte in memory
 
 6 elements: 6 with a byte; none outside
+mask, byte 34: 3F; 6 set
 END
 
 strip 08-clip
@@ -186,6 +194,7 @@ row 1  . . 4 5
   .       skipped: outside the clip, keeps what the object has
 
 8 elements: 4 with a byte, 4 skipped; none outside
+mask, byte 34: CC; 4 set
 END
 
 strip 10-stride-zero-single
@@ -199,6 +208,7 @@ row 0  0
   number  its byte in memory
 
 1 element: 1 with a byte; none outside
+mask, byte 34: 01; 1 set
 END
 
 # Strip 15: the same load in editions 2 and 3 skips the same elements, which are then what the register held, or 0.
@@ -215,6 +225,7 @@ row 1   .  . 20 21
   .       skipped: outside the clip, keeps $2
 
 8 elements: 4 with a byte, 4 skipped; none outside
+mask, byte 34: CC; 4 set
 END
 }
 strip 15-no-object-kept
@@ -237,11 +248,16 @@ done
 
 # -- The strips: ways ----------------------------------------------------------------------------
 
-# way WORD..: the lines behind the first two, which are the map's, must be standard input.
+# way WORD..: the lines behind the first two, which are the map's, must be standard input and where the element's bit is
+# in the mask, which has it if its outcome is a byte.
 way() {
+    cat > rules
+    element=$(sed -n 's/^element \([0-9]*\):.*/\1/p' rules)
+    if grep -q '^outcome: byte' rules; then bit='set'; else bit='not set'; fi
     {
         tool where sheet "$1" --memory "$length" | head -n 2
-        cat
+        cat rules
+        echo "mask: byte 34 * $1 + $element / 8 = $((34 * $1 + element / 8)), bit $element mod 8 = $((element % 8)): $bit"
     } > way
     shows "$@" < way
 }
@@ -372,6 +388,7 @@ element 4: row 1, column 0
 rule 1: outside the clip: column 0 is below column offset 2
 rules 2 to 5: do not apply
 outcome: skipped
+mask: byte 34 * 1 + 4 / 8 = 34, bit 4 mod 8 = 4: not set
 END
 done
 
@@ -418,6 +435,7 @@ row 3   #>0  #>0  #>0  #>0
   >1      above in dimension 1, the first outside: past 1
 
 16 elements: 4 with a byte, 12 filled; 4 below in dimension 0, 4 above in dimension 0, 2 below in dimension 1, 2 above in dimension 1
+mask, bytes 34 to 35: 60 06; 4 set
 END
 shows 2 << 'END'
 step 2: store register 1, layout 0, no view, base 0
@@ -437,6 +455,7 @@ row 3  x>0 x>0 x>0 x>0
   >1      above in dimension 1, the first outside: past 1
 
 16 elements: 4 with a byte, 12 discarded; 4 below in dimension 0, 4 above in dimension 0, 2 below in dimension 1, 2 above in dimension 1
+mask, bytes 68 to 69: 60 06; 4 set
 END
 way 1 --element 3,0 << 'END'
 element 12: row 3, column 0
@@ -495,6 +514,7 @@ row 3   .    .    .    .
   <1      below in dimension 1, the first outside: under 0
 
 16 elements: 4 with a byte, 12 skipped; 1 above in dimension 0, 1 below in dimension 1
+mask, bytes 34 to 35: 60 06; 4 set
 END
 shows 2 << 'END'
 step 2: store register 0, layout 1, view 0, base 64
@@ -513,6 +533,7 @@ row 3   .    .    .    .
   <1      below in dimension 1, the first outside: under 0
 
 16 elements: 2 with a byte, 2 discarded, 12 skipped; 1 above in dimension 0, 1 below in dimension 1
+mask, bytes 68 to 69: 40 02; 2 set
 END
 way 1 --element 0x2,0x2 << 'END'
 element 10: row 2, column 2
@@ -622,12 +643,13 @@ row 0  61440   61456   61472   61488   61504   61520   61536   61552   61568   6
 row 1  61696   61712   61728   61744   61760   61776   61792   61808   61824   61840   61856   61872   61888   61904   61920   61920>1
 END
 same 'the largest map, its first rows' part expected
-sed -n '20p;$p' stdout > part
+{ sed -n 20p stdout && tail -n 2 stdout; } > part
 cat > expected << 'END'
 row 15 65280   65296   65312   65328   65344   65360   65376   65392   65408   65424   65440   65456   65472   65488   65504   65504>1
 256 elements: 256 with a byte; 16 above in dimension 1
+mask, bytes 34 to 65: FF FF FF FF FF FF FF FF FF FF FF FF FF FF FF FF FF FF FF FF FF FF FF FF FF FF FF FF FF FF FF FF; 256 set
 END
-same 'the largest map, its last row and summary' part expected
+same 'the largest map, its last row, summary and mask' part expected
 
 # A column's number may be wider than its bytes.
 text << 'END'
@@ -713,7 +735,7 @@ done
 
 strip 01-constant
 json '.command == "where" and .accepted and .refusal == null and .memory == 16 and .step == 1 and .rows == 1 and
-    .columns == 8 and (has("way") | not) and ([.outcomes[].element] == [range(8)]) and
+    .columns == 8 and .mask == [2, 3, 4, 5] and (has("touched") | not) and (has("way") | not) and ([.outcomes[].element] == [range(8)]) and
     ([.outcomes[].sort] | . == ["filled", "filled", "byte", "byte", "byte", "byte", "filled", "filled"]) and
     ([.outcomes[].byte] == [null, null, 0, 1, 2, 3, null, null]) and
     ([.outcomes[].bits] == [9, 9, null, null, null, null, 9, 9]) and
@@ -721,8 +743,10 @@ json '.command == "where" and .accepted and .refusal == null and .memory == 16 a
     ([.outcomes[].side] == ["below", "below", "inside", "inside", "inside", "inside", "above", "above"])' \
     call 0 where sheet 1 --memory 16
 json '(has("outcomes") | not) and .outcome == {element: 7, sort: "filled", byte: null, bits: 9, dimension: 0,
-    side: "above"} and (.way | length) == 7 and .way[0] == "element 7: row 0, column 7" and
-    .way[6] == "outcome: filled with 9; dimension 0 is the first outside, above"' call 0 where sheet 1 --element 7
+    side: "above"} and .mask == [2, 3, 4, 5] and .touched == false and (.way | length) == 8 and
+    .way[0] == "element 7: row 0, column 7" and
+    .way[6] == "outcome: filled with 9; dimension 0 is the first outside, above" and
+    .way[7] == "mask: byte 34 * 1 + 7 / 8 = 34, bit 7 mod 8 = 7: not set"' call 0 where sheet 1 --element 7
 for name in 08-clip 15-no-object-zeros; do
     strip "$name"
     json '.outcomes[0] == {element: 0, sort: "skipped", byte: null, bits: null, dimension: null, side: "inside"}' \
