@@ -3,7 +3,8 @@
 # the `run`, `tape`, `trace`, `divisions` or `refusal` behind it must be what the tool prints for it, on
 # a memory of 256 bytes in which byte i holds i; `hex` must be the bytes of the sheet before it that has
 # a run. A `recorded` is a card's trace in hex, and the `replay` behind it what the tool says of it. A `where`
-# names its step, and the element if it is the way of one.
+# names its step, and the element if it is the way of one, each line of `touched` both. `masks` are those of the
+# first steps in hex; the others are zeros.
 #
 #   tests/examples.sh FOLDER      FOLDER has the programs moonbleat and unhex
 
@@ -45,6 +46,25 @@ places() {
         $(sed -n 's/^step \([0-9]*\): .*/\1/p;s/^element \([0-9]*\): .*/--element \1/p' "$1")
 }
 
+# answers NAME: touched, asked for the step and the element that each line of the block names, must print the block.
+answers() {
+    while read -r line; do
+        question=$(echo "$line" | sed 's/.*touched: step \([0-9]*\), element \([0-9]*\): .*/\1 \2/')
+        # shellcheck disable=SC2086
+        "$bin/moonbleat" touched sheet --memory 256 $question
+    done < "$1" > touched_lines 2>&1
+    gives "$1" cat touched_lines
+}
+
+# masks NAME: tape must write the block's bytes, and zeros behind them: 1088 bytes.
+masks() {
+    "$bin/unhex" < "$1" > steps || fail "docs/SHEETS.md, block $1: hex"
+    zeros rest 1088
+    cat steps rest | head -c 1088 > expected
+    "$bin/moonbleat" tape sheet --memory 256 --masks written > printed
+    same "docs/SHEETS.md, block $1" written expected
+}
+
 for block in [0-9]*; do
     case $block in
         *.sheet) assembles "$block" ;;
@@ -53,6 +73,8 @@ for block in [0-9]*; do
         *.trace) gives "$block" "$bin/moonbleat" trace sheet --memory 256 ;;
         *.divisions) gives "$block" "$bin/moonbleat" divisions sheet --memory 256 ;;
         *.where) places "$block" ;;
+        *.masks) masks "$block" ;;
+        *.touched) answers "$block" ;;
         *.recorded) "$bin/unhex" < "$block" > recorded || fail "docs/SHEETS.md, block $block: hex" ;;
         *.replay) gives "$block" "$bin/moonbleat" replay sheet recorded --memory 256 ;;
         *.hex) "$bin/unhex" < "$block" > bytes && gives bytes cat sheet ;;
