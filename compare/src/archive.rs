@@ -41,6 +41,8 @@ extern "C" {
         memory_len: usize,
         tape: *mut i32,
         tape_len: usize,
+        masks: *mut u8,
+        masks_len: usize,
         records: *mut u32,
         answer: *mut u32,
     ) -> u32;
@@ -93,9 +95,11 @@ extern "C" {
         outcome: *mut u32,
         answer: *mut u32,
     ) -> u32;
+
+    fn moonbleat_touched(masks: *const u8, masks_len: usize, step: u32, element: u32) -> u32;
 }
 
-/// The archive's ten functions. They ask nothing of their arguments but that each pointer has
+/// The archive's eleven functions. They ask nothing of their arguments but that each pointer has
 /// the length that is passed with it or that the header names, as references in Rust have.
 pub struct Archive;
 
@@ -146,6 +150,7 @@ impl Jobs for Archive {
         sheet: &[u8],
         memory_len: usize,
         tape: &mut [i32],
+        masks: &mut [u8],
         records: &mut [u32; 1],
         answer: &mut Answer,
     ) -> u32 {
@@ -157,6 +162,8 @@ impl Jobs for Archive {
                 memory_len,
                 tape.as_mut_ptr(),
                 tape.len(),
+                masks.as_mut_ptr(),
+                masks.len(),
                 records.as_mut_ptr(),
                 answer.as_mut_ptr(),
             )
@@ -253,5 +260,11 @@ impl Jobs for Archive {
                 answer.as_mut_ptr(),
             )
         }
+    }
+
+    fn touched(&self, masks: &[u8], step: u32, element: u32) -> u32 {
+        // SAFETY: as above; any bytes may come as masks, and step and element are the archive's to
+        // judge.
+        unsafe { moonbleat_touched(masks.as_ptr(), masks.len(), step, element) }
     }
 }

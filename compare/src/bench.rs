@@ -8,7 +8,7 @@ use crate::jobs::{Jobs, State, AGREES};
 use crate::reference::{
     read_sheet, sheet_bytes, trace, ClampMode, Clip, Combine, Dimension, Edition, Interpretation,
     Kind, Layout, MemoryLayout, ReduceMode, Sheet, Step, VectorStep, View, ViewDimension,
-    COMPONENTS_A_WORD, MEMORY_MAX, RECORDS_MAX, RECORD_NUMBERS, SIDE_MAX,
+    COMPONENTS_A_WORD, MASKS_LENGTH, MEMORY_MAX, RECORDS_MAX, RECORD_NUMBERS, SIDE_MAX,
 };
 
 /// A sample lasts at least so long, so that the clock's grain does not matter.
@@ -115,6 +115,7 @@ struct Bench {
     sheet: Vec<u8>,
     memory: Vec<u8>,
     room: Vec<i32>,
+    masks: Vec<u8>,
     tape: Vec<i32>,
     /// A room that the trace fits.
     trace_room: Vec<u8>,
@@ -125,9 +126,9 @@ struct Bench {
 
 impl Bench {
     fn new(sheet: &[u8], reference: &dyn Jobs) -> Bench {
-        let mut room = vec![0; RECORDS_MAX * RECORD_NUMBERS];
+        let (mut room, mut masks) = (vec![0; RECORDS_MAX * RECORD_NUMBERS], vec![0; MASKS_LENGTH]);
         let (mut records, mut answer) = ([0], [0; 4]);
-        reference.translate(sheet, MEMORY_MAX, &mut room, &mut records, &mut answer);
+        reference.translate(sheet, MEMORY_MAX, &mut room, &mut masks, &mut records, &mut answer);
         assert_eq!(answer[0], 0, "a sheet of the timings is refused");
         let tape = room[..records[0] as usize * RECORD_NUMBERS].to_vec();
         let memory = (0..MEMORY_MAX).map(|i| (i * 7 + i / 251) as u8).collect();
@@ -136,6 +137,7 @@ impl Bench {
             sheet: sheet.to_vec(),
             memory,
             room,
+            masks,
             tape,
             trace_room: trace.clone(),
             trace,
@@ -154,8 +156,8 @@ impl Bench {
     }
 
     fn translate(&mut self, jobs: &dyn Jobs) {
-        let mut records = [0];
-        jobs.translate(&self.sheet, MEMORY_MAX, &mut self.room, &mut records, &mut self.answer);
+        let Bench { sheet, room, masks, answer, .. } = self;
+        jobs.translate(sheet, MEMORY_MAX, room, masks, &mut [0], answer);
     }
 
     fn run(&mut self, jobs: &dyn Jobs) {

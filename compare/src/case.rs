@@ -7,6 +7,7 @@ use crate::coverage::Coverage;
 use crate::damage::{damage, noise};
 use crate::generate::{generate, many_records, partly_outside, Generated};
 use crate::jobs::{Answer, Jobs, Reference, State, VerdictRow, AGREES};
+use crate::masks::{any_masks, any_places, areas, check_counts, has_byte, mask_room, places};
 use crate::neighbours::neighbouring_stores;
 use crate::order_sights::Exchange;
 use crate::orders::perform;
@@ -14,7 +15,7 @@ use crate::outcomes::{first_access, no_elements, random_place, Place, Told};
 use crate::random::Random;
 use crate::reference::{
     check, entries, read_sheet, read_trace, sheet_bytes, translate, Checked, Edition, Entry,
-    ACCESS_LENGTH, MEMORY_MAX, RECORDS_MAX, RECORD_NUMBERS,
+    ACCESS_LENGTH, MASKS_LENGTH, MASK_LENGTH, MEMORY_MAX, RECORDS_MAX, RECORD_NUMBERS,
 };
 use crate::stores::{exchangeable, Faultless, Stores, Written};
 use crate::tapes::{damage_tape, random_tape, Tape};
@@ -22,6 +23,8 @@ use crate::traces::{accesses, traces};
 
 /// The room that holds every tape, in numbers.
 const TAPE_ROOM: usize = RECORDS_MAX * RECORD_NUMBERS;
+/// A room for masks with bytes to spare, in which a step more would have its place.
+const MASK_ROOM: usize = MASKS_LENGTH + MASK_LENGTH;
 /// Bytes before and after a lent slice that must stay as they are.
 const GUARD: usize = 32;
 const GARBAGE: u8 = 0xA5;
@@ -46,6 +49,8 @@ pub struct Case {
     pub sheet_room: usize,
     /// The room for a tape, in numbers.
     pub tape_room: usize,
+    /// The room for masks, in bytes.
+    pub mask_room: usize,
     /// The room for a trace, in bytes.
     pub trace_room: usize,
     pub tapes: Vec<Tape>,
@@ -54,6 +59,10 @@ pub struct Case {
     pub asked: Asked,
     /// A place whose outcome is asked for too, whether there is an element or not.
     pub place: Place,
+    /// Bytes that come as masks.
+    pub masks: Vec<u8>,
+    /// Places that these and the sheet's own masks are asked for.
+    pub touches: Vec<Place>,
     /// The seed of the orders in which stores are performed.
     pub orders: u64,
 }
@@ -100,10 +109,10 @@ impl Case {
             0 => random.pick(&[usize::MAX, 1 << 32, MEMORY_MAX + 1]),
             _ => memory_len,
         };
-        let records = translate(&sheet, told_len, TAPE_ROOM).map(|translated| translated.records);
-        let tape = Tape::of(&records.unwrap_or_default());
+        let translated = translate(&sheet, told_len, TAPE_ROOM, MASK_ROOM);
+        let tape = Tape::of(&translated.map_or(Vec::new(), |translated| translated.records));
         let own = accesses(&sheet, told_len);
-        // Traces take no numbers that sheets would get.
+        // Traces and masks take no numbers that sheets would get.
         let of_traces = &mut random.split();
         Case {
             sheet_room: byte_room(random, sheet.len()),
@@ -114,6 +123,9 @@ impl Case {
             asked: Asked::ALL,
             place: random_place(of_traces),
             orders: of_traces.bits(),
+            mask_room: mask_room(of_traces),
+            masks: any_masks(of_traces),
+            touches: any_places(of_traces),
             sheet,
             memory,
             told_len,
@@ -192,7 +204,7 @@ struct Exit {
     records: [u32; 1],
     verdict: VerdictRow,
     state: State,
-    /// A memory or the room of a written sheet or trace, between guards.
+    /// A memory, or the room of a written sheet or trace or of masks, between guards.
     bytes: Vec<u8>,
     /// The room of a tape, between guards.
     tape: Vec<i32>,
@@ -283,10 +295,18 @@ fn rewrite_exit(jobs: &dyn Jobs, sheet: &[u8], room: usize) -> Exit {
     exit
 }
 
-fn translate_exit(jobs: &dyn Jobs, sheet: &[u8], memory_len: usize, room: usize) -> Exit {
-    let mut exit = Exit::lent(&[], room);
-    let tape = &mut exit.tape[GUARD..GUARD + room];
-    exit.returned = jobs.translate(sheet, memory_len, tape, &mut exit.records, &mut exit.answer);
+fn translate_exit(
+    jobs: &dyn Jobs,
+    sheet: &[u8],
+    memory_len: usize,
+    tape_room: usize,
+    mask_room: usize,
+) -> Exit {
+    let mut exit = Exit::lent(&vec![GARBAGE; mask_room], tape_room);
+    let Exit { tape, bytes, records, answer, .. } = &mut exit;
+    let tape = &mut tape[GUARD..GUARD + tape_room];
+    let masks = &mut bytes[GUARD..GUARD + mask_room];
+    exit.returned = jobs.translate(sheet, memory_len, tape, masks, records, answer);
     exit
 }
 
@@ -330,12 +350,16 @@ impl<'a> Comparison<'a> {
 
     /// Compares every job on a case, then the promises that tie the jobs together.
     pub fn compare(&mut self, case: &Case) -> Result<(), String> {
-        let inputs = (case.sheet.clone(), case.tapes.clone(), case.traces.clone());
-        let Case { sheet, told_len, .. } = case;
+        let inputs =
+            (case.sheet.clone(), case.tapes.clone(), case.traces.clone(), case.masks.clone());
+        let Case { sheet, told_len, tape_room, mask_room, .. } = case;
         self.same(Job::Read, |jobs| read_exit(jobs, case))?;
         self.same(Job::Rewrite, |jobs| rewrite_exit(jobs, sheet, case.sheet_room))?;
         self.same(Job::Check, |jobs| check_exit(jobs, sheet, *told_len))?;
-        self.same(Job::Translate, |jobs| translate_exit(jobs, sheet, *told_len, case.tape_room))?;
+        self.same(Job::Translate, |jobs| {
+            translate_exit(jobs, sheet, *told_len, *tape_room, *mask_room)
+        })?;
+        self.coverage.mask_room(sheet, self.reference.cause(), *mask_room);
         for tape in &case.tapes {
             self.tape_is_run_alike(case, tape)?;
         }
@@ -345,14 +369,15 @@ impl<'a> Comparison<'a> {
         let carried = self.same(Job::CarryOut, |jobs| carry_out_exit(jobs, sheet, &case.memory))?;
         self.round_trip(case)?;
         self.tape_agrees(case, &carried)?;
+        self.touches_agree(&case.masks, &case.touches)?;
         let accesses = self.trace_agrees(case)?;
         self.divisions_agree(case)?;
         self.outcomes_agree(case, &accesses)?;
         self.orders_agree(case, &carried)?;
         self.exchanges_agree(case, &carried)?;
         // The compiler may think that what is lent to be read stays as it is; look again.
-        let Case { sheet, tapes, traces, .. } = black_box(case);
-        if (sheet, tapes, traces) != (&inputs.0, &inputs.1, &inputs.2) {
+        let Case { sheet, tapes, traces, masks, .. } = black_box(case);
+        if (sheet, tapes, traces, masks) != (&inputs.0, &inputs.1, &inputs.2, &inputs.3) {
             return Err(String::from("what was lent to be read was changed"));
         }
         self.coverage.sheet(&case.sheet, &case.memory);
@@ -394,11 +419,12 @@ impl<'a> Comparison<'a> {
     }
 
     /// Translating and then running leaves the memory, the registers and the count that carrying
-    /// out leaves, for every accepted sheet whose tape is short enough.
+    /// out leaves, for every accepted sheet whose tape is short enough; and its masks are right.
     fn tape_agrees(&mut self, case: &Case, carried: &Exit) -> Result<(), String> {
         let length = case.memory.len();
-        let translated =
-            self.same(Job::Translate, |jobs| translate_exit(jobs, &case.sheet, length, TAPE_ROOM))?;
+        let translated = self.same(Job::Translate, |jobs| {
+            translate_exit(jobs, &case.sheet, length, TAPE_ROOM, MASK_ROOM)
+        })?;
         let Ok(checked) = check(&case.sheet, length) else { return Ok(()) };
         // Told another length, it was refused before its room was looked at.
         if case.told_len == length {
@@ -416,7 +442,53 @@ impl<'a> Comparison<'a> {
             return Err(format!("the tape's run differs from carrying out in {difference}"));
         }
         self.coverage.tape(&checked, &tape);
+        self.masks_agree(case, &checked, &translated)
+    }
+
+    /// The masks of an accepted sheet count their bits, and have them where an element has a byte
+    /// and nowhere else.
+    fn masks_agree(
+        &mut self,
+        case: &Case,
+        checked: &Checked,
+        translated: &Exit,
+    ) -> Result<(), String> {
+        let masks = translated.bytes();
+        check_counts(masks, translated.answer[3])?;
+        for place in places() {
+            if self.same_touch(masks, place)? != has_byte(checked, place) {
+                return Err(format!("the masks differ from the outcomes at {place:?}"));
+            }
+        }
+        self.coverage.masks(checked);
+        self.touches_agree(masks, &case.touches)
+    }
+
+    /// Both sides give the same answers from masks, and from those that end early.
+    fn touches_agree(&mut self, masks: &[u8], places: &[Place]) -> Result<(), String> {
+        for &place in places {
+            for masks in areas(masks, place) {
+                self.same_touch(masks, place)?;
+            }
+        }
+        self.coverage.places(masks, places);
         Ok(())
+    }
+
+    /// Whether masks say on both sides that a place was touched.
+    fn same_touch(&mut self, masks: &[u8], place: Place) -> Result<bool, String> {
+        let [step, element] = place;
+        let archive = self.archive.touched(masks, step, element);
+        let reference = self.reference.touched(masks, step, element);
+        if archive != reference {
+            return Err(format!(
+                "Touched: archive and reference differ in {archive} and {reference}, asked for step \
+                 {step}, element {element} of {} bytes",
+                masks.len()
+            ));
+        }
+        self.coverage.touched(archive == 1);
+        Ok(archive == 1)
     }
 
     /// The trace that is written for an accepted sheet agrees with it in a replay. Gives its

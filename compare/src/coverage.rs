@@ -8,12 +8,15 @@ use crate::damage::editions;
 use crate::jobs::{names_a_dimension, Answer, OutcomeRow};
 use crate::order_sights::Exchange;
 use crate::orders::{Card, Order};
+use crate::outcomes::Place;
 use crate::reference::{
     check, read_sheet, Cause, Checked, Edition, Entry, Outcome, Refusal, Registers, Sheet, Step,
     RECORD_NUMBERS, WHOLE_STEP,
 };
 use crate::tapes::Tape;
-use crate::{object_sights, order_sights, side_sights, span_sights, trace_sights, vector_sights};
+use crate::{
+    mask_sights, object_sights, order_sights, side_sights, span_sights, trace_sights, vector_sights,
+};
 
 /// How many different places a refusal is to be met at, where it has more than one.
 const PLACES: usize = 3;
@@ -43,6 +46,8 @@ pub struct Coverage {
     sheets: u64,
     sheets_with_vectors: u64,
     outcomes_with_a_dimension: u64,
+    places_asked: u64,
+    places_touched: u64,
     answers: BTreeMap<(Job, u32), Answers>,
     causes: BTreeMap<Cause, u64>,
     sights: BTreeMap<String, u64>,
@@ -102,6 +107,8 @@ impl Coverage {
         self.sheets += other.sheets;
         self.sheets_with_vectors += other.sheets_with_vectors;
         self.outcomes_with_a_dimension += other.outcomes_with_a_dimension;
+        self.places_asked += other.places_asked;
+        self.places_touched += other.places_touched;
         for (key, met) in other.answers {
             let answers = self.answers.entry(key).or_default();
             answers.count += met.count;
@@ -268,6 +275,33 @@ impl Coverage {
         }
     }
 
+    /// Notes the masks of an accepted sheet.
+    pub fn masks(&mut self, checked: &Checked) {
+        for sight in mask_sights::of_masks(checked) {
+            self.sight(sight);
+        }
+    }
+
+    /// Notes the room for the masks of a sheet, in bytes, and why its translation is refused.
+    pub fn mask_room(&mut self, sheet: &[u8], refused: Option<Cause>, room: usize) {
+        if let Some(sight) = mask_sights::of_room(sheet, refused, room) {
+            self.sight(sight);
+        }
+    }
+
+    /// Notes the places that masks are asked for.
+    pub fn places(&mut self, masks: &[u8], places: &[Place]) {
+        for sight in mask_sights::of_places(masks, places) {
+            self.sight(sight);
+        }
+    }
+
+    /// Notes whether a place was touched that masks were asked for.
+    pub fn touched(&mut self, is_touched: bool) {
+        self.places_asked += 1;
+        self.places_touched += u64::from(is_touched);
+    }
+
     /// Notes a tape beside an accepted sheet's own that is refused at a record.
     pub fn refused_record(&mut self, checked: &Checked, tape: &Tape, at: usize, cause: Cause) {
         if let Some(sight) = object_sights::of_refused_record(checked, tape, at, cause) {
@@ -371,6 +405,7 @@ impl Coverage {
             table += &format!("{some} of {all} sheets have vector steps\n");
         }
         table += &self.replays();
+        table += &self.touches();
         table += &self.outcomes();
         table += &self.stores();
         table += &format!("{:<8}", "number");
@@ -411,6 +446,12 @@ impl Coverage {
         format!("{all} replays: {agree} agree, {differ} differ, {refused} are refused\n")
     }
 
+    /// What became of the questions to masks.
+    fn touches(&self) -> String {
+        let (all, touched) = (self.places_asked, self.places_touched);
+        format!("{all} places asked of masks: {touched} were touched\n")
+    }
+
     /// What became of the questions for an outcome.
     fn outcomes(&self) -> String {
         let (accepted, all) = self.accepted_of(Job::Outcome);
@@ -441,6 +482,7 @@ fn sights(edition: Edition) -> Vec<String> {
     sights.extend(side_sights::every());
     sights.extend(order_sights::every());
     sights.extend(object_sights::every(edition));
+    sights.extend(mask_sights::every(edition));
     let is_wrong = |number: &u8| Edition::of_number(*number).is_none();
     sights.extend(editions(edition).into_iter().filter(is_wrong).map(wrong_edition));
     if edition.has_vectors() {

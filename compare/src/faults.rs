@@ -231,10 +231,11 @@ impl Jobs for Faulty {
         sheet: &[u8],
         memory_len: usize,
         tape: &mut [i32],
+        masks: &mut [u8],
         records: &mut [u32; 1],
         answer: &mut Answer,
     ) -> u32 {
-        let number = self.reference.translate(sheet, memory_len, tape, records, answer);
+        let number = self.reference.translate(sheet, memory_len, tape, masks, records, answer);
         if let (Fault::WritesPastTheTape, Some(last)) = (self.fault, tape.last_mut()) {
             *last = 0;
         }
@@ -347,6 +348,10 @@ impl Jobs for Faulty {
             _ => {}
         }
         answer[0]
+    }
+
+    fn touched(&self, masks: &[u8], step: u32, element: u32) -> u32 {
+        self.reference.touched(masks, step, element)
     }
 }
 

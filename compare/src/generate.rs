@@ -5,10 +5,9 @@ use crate::reference::{
     check, check_step, sheet_bytes, whole_type, Cause, Checked, ClampMode, Clip, Combine,
     Dimension, Edition, Interpretation, Kind, Layout, MemoryLayout, Outcome, ReduceMode, Sheet,
     Start, Step, Type, Types, VectorStep, View, ViewDimension, BIAS_SIZE, COMPONENTS_A_WORD,
-    MEMORY_MAX, REGISTERS, SIDE_MAX,
+    MEMORY_MAX, REGISTERS, SIDE_MAX, STEPS_MAX,
 };
 
-const STEPS_MAX: usize = 32;
 /// The most words of a packed input.
 const WORDS_MAX: usize = SIDE_MAX.div_ceil(COMPONENTS_A_WORD);
 /// Clip numbers that clip nothing.

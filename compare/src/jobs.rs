@@ -4,7 +4,7 @@ use std::cell::{Cell, Ref, RefCell};
 
 use crate::reference::{
     self, Carried, Cause, Checked, Located, Outcome, Record, Refusal, Registers, Side, Verdict,
-    RECORD_NUMBERS,
+    MASKS_LENGTH, RECORD_NUMBERS,
 };
 
 /// The row of four: number, place, second place, byte-elements (of a rewrite and a trace: bytes;
@@ -88,7 +88,7 @@ impl State {
     }
 }
 
-/// The ten functions of `include/moonbleat.h`: each returns the refusal's number.
+/// The eleven functions of `include/moonbleat.h`: all but the last return the refusal's number.
 pub trait Jobs {
     fn read(&self, sheet: &[u8], counts: &mut [u32; 3], answer: &mut Answer) -> u32;
 
@@ -109,6 +109,7 @@ pub trait Jobs {
         sheet: &[u8],
         memory_len: usize,
         tape: &mut [i32],
+        masks: &mut [u8],
         records: &mut [u32; 1],
         answer: &mut Answer,
     ) -> u32;
@@ -145,6 +146,9 @@ pub trait Jobs {
         outcome: &mut OutcomeRow,
         answer: &mut Answer,
     ) -> u32;
+
+    /// 1 where a step touched an element, by its bit in any bytes; else 0.
+    fn touched(&self, masks: &[u8], step: u32, element: u32) -> u32;
 }
 
 /// The plain implementation. It remembers why it refused last, which the C interface does not
@@ -237,13 +241,15 @@ impl Jobs for Reference {
         sheet: &[u8],
         memory_len: usize,
         tape: &mut [i32],
+        masks: &mut [u8],
         records: &mut [u32; 1],
         answer: &mut Answer,
     ) -> u32 {
-        let translated = reference::translate(sheet, memory_len, tape.len());
+        let translated = reference::translate(sheet, memory_len, tape.len(), masks.len());
         *records = [0];
         if let Ok(translated) = &translated {
             *records = put_records(&translated.records, tape);
+            masks[..MASKS_LENGTH].copy_from_slice(translated.masks.as_flattened());
         }
         self.finish(answer, translated.map(|translated| translated.byte_elements))
     }
@@ -300,5 +306,9 @@ impl Jobs for Reference {
         let located = checked.and_then(|checked| checked.located(step, element));
         *outcome = located.map_or([0; 4], outcome_row);
         self.finish(answer, located.map(|_| 0))
+    }
+
+    fn touched(&self, masks: &[u8], step: u32, element: u32) -> u32 {
+        reference::touched(masks, step, element).into()
     }
 }

@@ -9,6 +9,8 @@ pub mod damage;
 mod faults;
 pub mod generate;
 pub mod jobs;
+mod mask_sights;
+mod masks;
 mod neighbours;
 #[cfg(test)]
 mod object_faults;

@@ -3,8 +3,8 @@
 use crate::generate::{layout, prepare, view, Generated, StepMaker};
 use crate::random::Random;
 use crate::reference::{
-    sheet_bytes, ClampMode, Dimension, Edition, Kind, Layout, Sheet, Step, Type, Types, MEMORY_MAX,
-    REGISTERS,
+    sheet_bytes, ClampMode, Dimension, Edition, Kind, Layout, Sheet, Step, Type, Types,
+    ELEMENTS_MAX, MEMORY_MAX, REGISTERS,
 };
 
 /// Bases are multiples of so many bytes.
@@ -20,7 +20,7 @@ const TRIES: usize = 200;
 /// Shapes beside random ones: one element, and those with which some kinds fill paragraphs.
 const SHAPES: [(usize, usize); 7] = [(1, 1), (1, 1), (1, 4), (4, 4), (2, 8), (1, 16), (8, 8)];
 /// The most elements of a matrix: no index of an element comes to it.
-pub const ELEMENTS: u16 = 256;
+pub const ELEMENTS: u16 = ELEMENTS_MAX as u16;
 /// The first layout of each sheet, by which registers are loaded.
 const LINE: usize = 0;
 

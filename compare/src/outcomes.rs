@@ -7,9 +7,9 @@ use crate::random::Random;
 use crate::reference::{Checked, Entry, Step, PLACED};
 
 /// What a byte, and what two bytes, would lose of a number.
-const PAST_A_BYTE: u32 = 1 << 8;
-const PAST_TWO_BYTES: u32 = 1 << 16;
-const FAR: u32 = u32::MAX;
+pub const PAST_A_BYTE: u32 = 1 << 8;
+pub const PAST_TWO_BYTES: u32 = 1 << 16;
+pub const FAR: u32 = u32::MAX;
 
 /// A step and an element of it.
 pub type Place = [u32; 2];

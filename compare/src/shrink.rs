@@ -4,6 +4,7 @@ use std::fmt;
 
 use crate::case::{Asked, Case};
 use crate::damage::fields;
+use crate::outcomes::Place;
 use crate::reference::{
     read_sheet, sheet_bytes, Sheet, Step, VectorStep, RECORDS_MAX, RECORD_NUMBERS,
 };
@@ -83,6 +84,9 @@ fn candidates(case: &Case) -> Vec<Case> {
     for room in shorter(case.trace_room) {
         add(&|case| case.trace_room = room);
     }
+    for room in shorter(case.mask_room) {
+        add(&|case| case.mask_room = room);
+    }
     if case.place != [0, 0] {
         add(&|case| case.place = [0, 0]);
     }
@@ -92,8 +96,31 @@ fn candidates(case: &Case) -> Vec<Case> {
     if case.asked != Asked::ALL {
         add(&|case| case.asked = Asked::ALL);
     }
+    add_smaller_masks(case, &mut candidates);
     add_plain_rooms(case, &mut candidates);
     candidates
+}
+
+/// Fewer bytes that come as masks, with no bits, and fewer and smaller places.
+fn add_smaller_masks(case: &Case, candidates: &mut Vec<Case>) {
+    let mut add = |masks: &[u8], touches: &[Place]| {
+        let (masks, touches) = (masks.to_vec(), touches.to_vec());
+        candidates.push(Case { masks, touches, ..case.clone() });
+    };
+    let Case { masks, touches, .. } = case;
+    for length in shorter(masks.len()) {
+        add(&masks[..length], touches);
+    }
+    if masks.iter().any(|&byte| byte != 0) {
+        add(&vec![0; masks.len()], touches);
+    }
+    for touch in 0..touches.len() {
+        add(masks, &[&touches[..touch], &touches[touch + 1..]].concat());
+    }
+    if let [[step, element]] = touches[..] {
+        shorter(step as usize).iter().for_each(|&step| add(masks, &[[step as u32, element]]));
+        shorter(element as usize).iter().for_each(|&element| add(masks, &[[step, element as u32]]));
+    }
 }
 
 /// Rooms that hold everything, and a told length that is the memory's.
@@ -228,6 +255,9 @@ impl fmt::Display for Case {
         writeln!(f, "room for a sheet: {} bytes", self.sheet_room)?;
         writeln!(f, "room for a trace: {} bytes", self.trace_room)?;
         writeln!(f, "room for a tape: {} numbers", self.tape_room)?;
+        writeln!(f, "room for masks: {} bytes", self.mask_room)?;
+        writeln!(f, "bytes that come as masks, {}: {}", self.masks.len(), hex(&self.masks))?;
+        writeln!(f, "steps and elements that masks are asked for: {:?}", self.touches)?;
         writeln!(f, "outcome asked for: step {}, element {}", self.place[0], self.place[1])?;
         write!(f, "orders of stores from seed {}", self.orders)?;
         for tape in &self.tapes {
@@ -283,7 +313,7 @@ fn hex(bytes: &[u8]) -> String {
 #[cfg(test)]
 mod tests {
     use super::*;
-    use crate::reference::{check, read_trace, Cause, Edition, ACCESS_LENGTH};
+    use crate::reference::{check, mask_byte, read_trace, touched, Cause, Edition, ACCESS_LENGTH};
 
     #[test]
     fn what_does_not_matter_is_taken_away() {
@@ -307,6 +337,19 @@ mod tests {
         let small = shrink(case, &mut |case| repeats(case));
         assert_eq!((small.sheet.len(), small.traces.len()), (0, 1));
         assert_eq!(small.traces[0].len(), 2 * ACCESS_LENGTH);
+    }
+
+    #[test]
+    fn masks_end_at_the_byte_that_matters() {
+        let is_touched = |case: &Case| {
+            case.touches.iter().any(|&[step, element]| touched(&case.masks, step, element))
+        };
+        let mut cases = (0..).map(|number| Case::of_seed(Edition::One, 1, number));
+        let case = cases.find(is_touched).expect("there are some");
+        let small = shrink(case, &mut |case| is_touched(case));
+        let [[step, element]] = small.touches[..] else { panic!("{small}") };
+        assert_eq!(small.masks.len(), mask_byte(step as usize, element as usize) + 1);
+        assert_eq!((small.sheet.len(), small.mask_room), (0, 0));
     }
 
     #[test]

@@ -3,7 +3,9 @@
 
 use crate::jobs::{Answer, Jobs, OutcomeRow, State, AGREES};
 use crate::outcomes::{Place, Told};
-use crate::reference::{trace_bytes, Entry, PLACED, RECORD_NUMBERS};
+use crate::reference::{
+    trace_bytes, Entry, MASKS_LENGTH, MASK_BITS, MASK_LENGTH, PLACED, RECORD_NUMBERS,
+};
 
 /// A strip: a sheet, the memory that it is carried out on, and what that gives.
 pub struct Strip {
@@ -146,6 +148,23 @@ const DIVISIONS: [(&str, u32); 6] = [
     ("14-spans-of-one", 12),
 ];
 
+/// Strips with the masks of their steps, from step 1 on: the bits of elements 7 to 0, and how many
+/// are set. All other bytes are 0.
+const MASKS: [(&str, &[(u8, u8)]); 11] = [
+    ("01-constant", &[(0b0011_1100, 4)]),
+    ("02-clamp-to-edge", &[(0b1111_1111, 8)]),
+    ("04-mirror-repeat-of-one", &[(0b1111_1111, 8)]),
+    ("06-clamped-store", &[(0b1111_1111, 8), (0b0011_1100, 4)]),
+    ("07-permuted-view", &[(0b0011_1111, 6)]),
+    ("08-clip", &[(0b1100_1100, 4)]),
+    ("10-stride-zero-single", &[(0b0000_0001, 1)]),
+    // Vector steps between the load and the store.
+    ("13-two-layer-network", &[(0b0000_0011, 2), (0, 0), (0, 0), (0b0000_0111, 3)]),
+    ("14-spans-of-one", &[(0b1111_1111, 8)]),
+    ("15-no-object-kept", &[(0b1100_1100, 4)]),
+    ("15-no-object-zeros", &[(0b1100_1100, 4)]),
+];
+
 /// Reads hex digits, two a byte, with blanks between them and comments from `#` to the line's end.
 pub fn bytes_of_hex(text: &str) -> Vec<u8> {
     let digits: Vec<u32> = text
@@ -170,6 +189,9 @@ pub fn check_strips(jobs: &dyn Jobs) -> Result<usize, String> {
         check_trace(jobs, named(name), steps)
             .and_then(|()| check_outcomes(jobs, named(name), steps))
             .map_err(|what| format!("strip {name}: {what}"))?;
+    }
+    for (name, masks) in MASKS {
+        check_masks(jobs, named(name), masks).map_err(|what| format!("strip {name}: {what}"))?;
     }
     for (name, count) in DIVISIONS {
         check_divisions(jobs, named(name), count)
@@ -217,13 +239,34 @@ fn equal<T: PartialEq + std::fmt::Debug>(
 
 fn check_strip_4_tape(jobs: &dyn Jobs) -> Result<(), String> {
     let strip = strip!("04-mirror-repeat", Expected::Refusal([0; 3]));
-    let (mut tape, mut records, mut answer) = ([0; 60], [0], [0; 4]);
-    jobs.translate(&strip.sheet, 65_536, &mut tape, &mut records, &mut answer);
+    let (mut tape, mut masks) = ([0; 60], [0; MASKS_LENGTH]);
+    let (mut records, mut answer) = ([0], [0; 4]);
+    jobs.translate(&strip.sheet, 65_536, &mut tape, &mut masks, &mut records, &mut answer);
     let expected = STRIP_4_TAPE.concat();
     if answer != [0, 0, 0, 8] || records != [5] || tape[..30] != expected[..] {
         return Err(format!("strip 4's tape: {answer:?} {records:?} {tape:?}"));
     }
     Ok(())
+}
+
+/// The masks of a strip, written over ones, are those that are expected.
+fn check_masks(jobs: &dyn Jobs, strip: &Strip, steps: &[(u8, u8)]) -> Result<(), String> {
+    let mut expected = [0; MASKS_LENGTH];
+    for (mask, &(bits, count)) in expected.chunks_exact_mut(MASK_LENGTH).skip(1).zip(steps) {
+        (mask[0], mask[MASK_BITS]) = (bits, count);
+    }
+    let (mut masks, mut answer) = ([0xFF; MASKS_LENGTH], [0; 4]);
+    jobs.translate(
+        &strip.sheet,
+        strip.memory.len(),
+        &mut [0; 60],
+        &mut masks,
+        &mut [0],
+        &mut answer,
+    );
+    let count = steps.iter().map(|&(_, count)| u32::from(count)).sum();
+    equal("answer of its masks", &answer, &[0, 0, 0, count])?;
+    equal("masks", &masks, &expected)
 }
 
 /// The trace of a strip is the one that is expected, which agrees in a replay.

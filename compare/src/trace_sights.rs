@@ -57,8 +57,9 @@ const PLAIN: [&str; 25] = [
     NOTHING_WITHOUT_ROOM,
 ];
 
-/// The numbers that a sheet gets before its trace is looked at, and those that a trace gets.
-const OF_SHEET: [u32; 16] = [1, 2, 3, 4, 5, 6, 7, 8, 9, 10, 11, 12, 13, 14, 15, 18];
+/// The numbers that a sheet gets before its trace, or a room, is looked at.
+pub const OF_SHEET: [u32; 16] = [1, 2, 3, 4, 5, 6, 7, 8, 9, 10, 11, 12, 13, 14, 15, 18];
+/// Those that a trace gets.
 const OF_TRACE: [u32; 5] = [1, 2, 4, 5, 26];
 /// Numbers of which a field gets the first, and the second once it is mended of that.
 const PAIRS: [[u32; 2]; 8] = [[1, 2], [1, 4], [2, 4], [2, 5], [2, 26], [4, 5], [4, 26], [5, 26]];

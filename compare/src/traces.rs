@@ -3,10 +3,12 @@
 use crate::damage::change_length;
 use crate::generate::generate;
 use crate::random::Random;
-use crate::reference::{check, entries, trace_bytes, Edition, Entry, ACCESS_LENGTH, PLACED};
+use crate::reference::{
+    check, entries, trace_bytes, Edition, Entry, ACCESS_LENGTH, ELEMENTS_MAX, PLACED, STEPS_MAX,
+};
 
-/// No sheet has more accesses: 32 steps of 256 elements.
-const ACCESSES_MAX: usize = 32 * 256;
+/// No sheet has more accesses.
+const ACCESSES_MAX: usize = STEPS_MAX * ELEMENTS_MAX;
 /// A field's head: its tag and its length.
 const HEAD: [u8; 3] = [0x30, 9, 0];
 /// Where the numbers behind the head stand.

@@ -6,6 +6,7 @@ mod addressing;
 mod carry;
 mod edition;
 mod kind;
+mod mask;
 mod outcome;
 mod refusal;
 mod registers;
@@ -21,6 +22,7 @@ pub use addressing::{
 pub use carry::{carry_out, check, check_step, Carried, Checked, Types};
 pub use edition::{Edition, Start};
 pub use kind::Kind;
+pub use mask::{mask_byte, touched, Mask, BITS_A_BYTE, MASKS_LENGTH, MASK_BITS, MASK_LENGTH};
 pub use outcome::Located;
 pub use refusal::{Cause, Refusal};
 pub use registers::{Matrix, Registers, Type};
@@ -44,6 +46,10 @@ pub const RECORDS_MAX: usize = 1_024;
 pub const RECORD_NUMBERS: usize = 6;
 /// The most rows, and the most columns, of a matrix.
 pub const SIDE_MAX: usize = 16;
+/// The most elements of a matrix.
+pub const ELEMENTS_MAX: usize = SIDE_MAX * SIDE_MAX;
+/// The most steps of a sheet.
+pub const STEPS_MAX: usize = 32;
 /// Registers.
 pub const REGISTERS: usize = 4;
 

@@ -53,7 +53,7 @@ causes! {
         13: Undefined;
         14: PastMemory;
         15: SharedByte;
-        16: TooManyRecords TapeRoom;
+        16: TooManyRecords TapeRoom MaskRoom;
         17: RecordCount UnknownOp RecordRegister RecordEmptyRegister RecordElementCount RecordFirst
             RecordPastMatrix RecordByteStep RecordPastMemory RecordValue RecordUnused RecordNoStep
             RecordAccessStep RecordStepEmpty RecordStepShapes;

@@ -4,7 +4,7 @@ use super::edition::Edition;
 use super::kind::Kind;
 use super::refusal::{Cause, Refusal};
 use super::vector::{Interpretation, MemoryLayout, VectorStep};
-use super::{REGISTERS, SIDE_MAX};
+use super::{REGISTERS, SIDE_MAX, STEPS_MAX};
 
 const EDITION: u8 = 0x01;
 const LAYOUT: u8 = 0x10;
@@ -19,7 +19,6 @@ const VECTOR: u8 = 0x26;
 
 const LAYOUTS_MAX: usize = 4;
 const VIEWS_MAX: usize = 4;
-const STEPS_MAX: usize = 32;
 const DIMENSIONS_MAX: usize = 5;
 /// In an object's or a view's place: none.
 const NONE: u8 = 255;

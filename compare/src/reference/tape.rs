@@ -3,11 +3,12 @@
 use super::addressing::Outcome;
 use super::carry::{bits_at, check, put_bits, Carried, Checked, Types};
 use super::edition::Start;
+use super::mask::{Mask, MASKS_LENGTH};
 use super::refusal::{Cause, Refusal};
 use super::registers::{Registers, Type};
 use super::sheet::{read_sheet, Sheet, Step};
 use super::whole::{do_whole, whole_type};
-use super::{check_memory, RECORDS_MAX, RECORD_NUMBERS, REGISTERS};
+use super::{check_memory, RECORDS_MAX, RECORD_NUMBERS, REGISTERS, STEPS_MAX};
 
 const COPY: i32 = 0;
 const TAKE: i32 = 1;
@@ -24,11 +25,18 @@ pub type Record = [i32; RECORD_NUMBERS];
 /// A translated sheet.
 pub struct Translated {
     pub records: Vec<Record>,
+    pub masks: [Mask; STEPS_MAX],
     pub byte_elements: u32,
 }
 
-/// Translates a sheet for a memory length; `room` is the room's length in numbers.
-pub fn translate(sheet: &[u8], memory_len: usize, room: usize) -> Result<Translated, Refusal> {
+/// Translates a sheet for a memory length; the room for the tape is in numbers, that for the masks
+/// in bytes.
+pub fn translate(
+    sheet: &[u8],
+    memory_len: usize,
+    tape_room: usize,
+    mask_room: usize,
+) -> Result<Translated, Refusal> {
     let checked = check(sheet, memory_len)?;
     let mut records = Vec::new();
     for step in 0..checked.sheet.steps.len() {
@@ -37,10 +45,13 @@ pub fn translate(sheet: &[u8], memory_len: usize, room: usize) -> Result<Transla
     if records.len() > RECORDS_MAX {
         return Err(Refusal::nowhere(Cause::TooManyRecords));
     }
-    if records.len() > room / RECORD_NUMBERS {
+    if records.len() > tape_room / RECORD_NUMBERS {
         return Err(Refusal::nowhere(Cause::TapeRoom));
     }
-    Ok(Translated { records, byte_elements: checked.byte_elements() })
+    if mask_room < MASKS_LENGTH {
+        return Err(Refusal::nowhere(Cause::MaskRoom));
+    }
+    Ok(Translated { records, masks: checked.masks(), byte_elements: checked.byte_elements() })
 }
 
 /// Adds the records of a step of an accepted sheet.
@@ -328,10 +339,26 @@ mod tests {
         let mut bytes = sheet(2);
         // The reduction is of an empty register; the tape is that of the first two steps.
         bytes.truncate(bytes.len() - 9);
-        let translated = translate(&bytes, 16, 12).expect("accepted");
+        let translated = translate(&bytes, 16, 12, MASKS_LENGTH).expect("accepted");
         assert_eq!(translated.records, [FILL_0, [TAKE, 0, 0, 6, 0, 2]]);
         assert_eq!(translated.byte_elements, 6);
-        assert_eq!(translate(&bytes, 16, 11).err(), Some(Refusal::nowhere(Cause::TapeRoom)));
+    }
+
+    #[test]
+    fn the_rooms_are_judged_after_the_sheet_that_of_the_tape_first() {
+        let bytes = sheet(2);
+        let refused = |bytes: &[u8], tape_room, mask_room| {
+            let translated = translate(bytes, 16, tape_room, mask_room);
+            translated.map_err(|refusal| (refusal.cause, refusal.place)).err()
+        };
+        // The reduction is of an empty register; without it the tape has two records.
+        assert_eq!(refused(&bytes, 0, 0), Some((Cause::EmptyRegister, [2, 0])));
+        let accepted = &bytes[..bytes.len() - 9];
+        assert_eq!(refused(accepted, 11, MASKS_LENGTH), Some((Cause::TapeRoom, [0, 0])));
+        assert_eq!(refused(accepted, 11, 1_087), Some((Cause::TapeRoom, [0, 0])));
+        assert_eq!(refused(accepted, 12, 1_087), Some((Cause::MaskRoom, [0, 0])));
+        assert_eq!(refused(accepted, 12, 0), Some((Cause::MaskRoom, [0, 0])));
+        assert_eq!(refused(accepted, 12, 1_088), None);
     }
 
     const COPY_0: Record = [COPY, 0, 0, 0, 0, 0];
@@ -359,7 +386,7 @@ mod tests {
         });
         let mut memory: Vec<u8> = (0..24).collect();
         let [matrix, ..] = carry_out(&sheet, &mut memory).expect("accepted").registers;
-        let records = translate(&sheet, memory.len(), 60).expect("accepted").records;
+        let records = translate(&sheet, memory.len(), 60, MASKS_LENGTH).expect("accepted").records;
         let ran = run_tape(&sheet, &records.concat(), records.len(), &mut memory);
         assert_eq!(ran.expect("accepted").registers[0], matrix);
         assert_eq!(records[0], FILL_0);
@@ -432,7 +459,7 @@ mod tests {
             (&column.elements[..], carried.byte_elements, memory),
             (&[111, 241][..], 0, before)
         );
-        let translated = translate(&sheet, memory.len(), 18).expect("accepted");
+        let translated = translate(&sheet, memory.len(), 18, MASKS_LENGTH).expect("accepted");
         assert_eq!(translated.records, [FILL_0, VECTOR, [WHOLE_STEP, 2, 0, 0, 0, 0]]);
         assert_eq!(translated.byte_elements, 0);
         let tape = translated.records.concat();
