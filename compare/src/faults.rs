@@ -8,6 +8,7 @@ use crate::jobs::{
     outcome_row, put_records, verdict_row, Answer, Jobs, OutcomeRow, Reference, State, VerdictRow,
     AGREES,
 };
+use crate::mask_faults::{touched_with, translate_with, Lent, MaskFault, MASK_FAULTS};
 use crate::object_faults::{self, ObjectFault, OBJECT_FAULTS};
 use crate::reference::{
     check, divides, entries, indices, read_sheet, read_trace, trace_bytes, verdict, Addressing,
@@ -83,6 +84,7 @@ enum Fault {
     KeepsTheOutcomeOfRefused,
     TakesEdition4,
     Object(ObjectFault),
+    Mask(MaskFault),
 }
 
 const FAULTS: [Fault; 8] = [
@@ -235,6 +237,11 @@ impl Jobs for Faulty {
         records: &mut [u32; 1],
         answer: &mut Answer,
     ) -> u32 {
+        if let Fault::Mask(fault) = self.fault {
+            let lent = Lent { tape, masks, records, answer };
+            translate_with(fault, &self.reference, sheet, memory_len, lent);
+            return answer[0];
+        }
         let number = self.reference.translate(sheet, memory_len, tape, masks, records, answer);
         if let (Fault::WritesPastTheTape, Some(last)) = (self.fault, tape.last_mut()) {
             *last = 0;
@@ -351,7 +358,10 @@ impl Jobs for Faulty {
     }
 
     fn touched(&self, masks: &[u8], step: u32, element: u32) -> u32 {
-        self.reference.touched(masks, step, element)
+        match self.fault {
+            Fault::Mask(fault) => touched_with(fault, masks, step, element),
+            _ => self.reference.touched(masks, step, element),
+        }
     }
 }
 
@@ -441,7 +451,7 @@ fn without_bytes(entries: &[Entry]) -> Vec<Entry> {
 }
 
 /// The outcomes, but those of a load as many as its own register had elements at most.
-fn by_the_registers_size(checked: &Checked) -> Checked {
+pub fn by_the_registers_size(checked: &Checked) -> Checked {
     let mut checked = checked.clone();
     let steps = checked.sheet.steps.iter().zip(&checked.types);
     for ((step, types), outcomes) in steps.zip(&mut checked.outcomes) {
@@ -668,16 +678,28 @@ fn each_fault_is_found_out() {
     }
 }
 
+/// Cases of some editions tell a fault in some words; those of the others do not tell it.
+fn is_found_out_where_it_shows(fault: Fault, words: &str, editions: &[Edition], cases: Range<u64>) {
+    let faulty = Faulty { reference: Reference::default(), fault };
+    for edition in Edition::ALL {
+        let said = said(&faulty, edition, cases.clone()).next();
+        assert_eq!(said.is_some(), editions.contains(&edition), "{fault:?} in {edition:?}");
+        let is_as_expected = said.is_none_or(|what| what.starts_with(words));
+        assert!(is_as_expected, "{fault:?} in {edition:?}");
+    }
+}
+
 #[test]
 fn each_fault_in_what_a_load_starts_from_is_found_out_where_it_shows() {
     for (fault, words, editions) in OBJECT_FAULTS {
-        let faulty = Faulty { reference: Reference::default(), fault: Fault::Object(fault) };
-        for edition in Edition::ALL {
-            let said = said(&faulty, edition, CLIPPED).next();
-            assert_eq!(said.is_some(), editions.contains(&edition), "{fault:?} in {edition:?}");
-            let is_as_expected = said.is_none_or(|what| what.starts_with(words));
-            assert!(is_as_expected, "{fault:?} in {edition:?}");
-        }
+        is_found_out_where_it_shows(Fault::Object(fault), words, editions, CLIPPED);
+    }
+}
+
+#[test]
+fn each_fault_in_masks_is_found_out_where_it_shows() {
+    for (fault, words, editions) in MASK_FAULTS {
+        is_found_out_where_it_shows(Fault::Mask(fault), words, editions, 0..CASES);
     }
 }
 

@@ -9,6 +9,8 @@ pub mod damage;
 mod faults;
 pub mod generate;
 pub mod jobs;
+#[cfg(test)]
+mod mask_faults;
 mod mask_sights;
 mod masks;
 mod neighbours;
