@@ -1,4 +1,4 @@
 -- What is proved of the definitions.
 pub mod Packed
-pub mod Written
 pub mod Bits
+pub mod Written

@@ -20,8 +20,9 @@ use Rattle.outcomes.specs.declared.Outcome.{Outcome}
 use Rattle.outcomes.specs.declared.Outcome.the-variants.{Skipped, Filled, Discarded, Placed}
 use Rattle.accesses.specs.Refusals.{placedOne}
 use Rattle.masks.specs.Masks.{bitBytes, maskBytes, maskArea, bitOf, packed, sumOf, bitByte, maskOf, masksOf, maskPlace, countAt, touched}
+use Rattle.masks.specs.Placed.{hasByte, placedIn}
 use Rattle.masks.specs.Laws.Packed.{packed-bit}
-use Rattle.masks.specs.Laws.Bits.{outcome-bits}
+use Rattle.masks.specs.Laws.Bits.{outcome-bits, placed-bits}
 use Rattle.masks.specs.Laws.Written.{bits, length-bits, length-mask, length-masks}
 
 -- ---- one mask
@@ -63,12 +64,6 @@ module _ (masks : List ℕ) (step e : ℕ) where
 
 -- ---- the whole area
 
-abbrev pub hasByte : Outcome → Bool
-hasByte Skipped = false
-hasByte (Filled bits) = false
-hasByte Discarded = false
-hasByte (Placed byte) = true
-
 one-byte : (o : Outcome) → eqb (placedOne o) 1 ≡ hasByte o
 one-byte Skipped = refl
 one-byte (Filled bits) = refl
@@ -96,7 +91,7 @@ module _ (os : ℕ → List Outcome) (masks area : List ℕ) (room : maskArea �
       ∙ getD-append-add (masksOf os stepPlaces) (drop maskArea masks) (k - maskArea) 0 ∙ getD-drop maskArea masks (k - maskArea) 0)
 
   -- a step's count is the number of its set bits
-  pub count-bits : (step : ℕ) → step < stepPlaces → countAt area step ≡ sumOf (bitOf (os step)) matrixPlaces
+  count-bits : (step : ℕ) → step < stepPlaces → countAt area step ≡ sumOf (bitOf (os step)) matrixPlaces
   unfolding u16At
   count-bits step h =
       let n = sumOf (bitOf (os step)) matrixPlaces in
@@ -104,11 +99,15 @@ module _ (os : ℕ → List Outcome) (masks area : List ℕ) (room : maskArea �
       rw (e, mask-at step bitBytes h (omega arith), mask-at step (bitBytes + 1) h (omega arith), mask-count (bitOf (os step)) 0, mask-count (bitOf (os step)) 1)
       (omega arith)
 
-  -- the sum over all steps
-  pub counts-bits : (n : ℕ) → n ≤ stepPlaces → sumOf (countAt area) n ≡ sumOf (λ (s : ℕ). sumOf (bitOf (os s)) matrixPlaces) n
-  unfolding sumOf
-  counts-bits zero h = refl
-  counts-bits (suc n) h = ap₂ _+_ (counts-bits n (omega arith)) (count-bits n h)
+  -- so it is the number of its elements with a byte, and the counts add up to the number of all of them
+  module _ (few : (s : ℕ) → length (os s) ≤ matrixPlaces) where
+    pub count-placed : (step : ℕ) → step < stepPlaces → countAt area step ≡ placedIn (os step)
+    count-placed step h = count-bits step h ∙ placed-bits (os step) matrixPlaces (few step)
+
+    pub counts-placed : (n : ℕ) → n ≤ stepPlaces → sumOf (countAt area) n ≡ sumOf (λ (s : ℕ). placedIn (os s)) n
+    unfolding sumOf
+    counts-placed zero h = refl
+    counts-placed (suc n) h = ap₂ _+_ (counts-placed n (omega arith)) (count-placed n h)
 
   -- a step touched an element exactly where it has a byte
   pub touched-outcome : (step e : ℕ) → step < stepPlaces → length (os step) ≤ matrixPlaces → touched area step e ≡ hasByte (getD (os step) e Skipped)

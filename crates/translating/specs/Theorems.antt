@@ -1,2 +1,3 @@
 pub mod GivenTape
 pub mod Translated
+pub mod Masks

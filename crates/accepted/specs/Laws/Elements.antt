@@ -46,7 +46,7 @@ module _ {A : Type 0} (f : ℕ → Access → ℕ → A) where
     unfolding atStep pick
     at-past h = rw (le-ltb k (sh .steps) h) refl
 
-  step-few : (tensors : Tensors) (ts : List MatrixType) (len k : ℕ) (step : Step) → Sized ts → length (ofStep f tensors ts len k step) ≤ matrixPlaces
+  pub step-few : (tensors : Tensors) (ts : List MatrixType) (len k : ℕ) (step : Step) → Sized ts → length (ofStep f tensors ts len k step) ≤ matrixPlaces
   unfolding ofStep
   step-few tensors ts len k Nothing s = omega arith
   step-few tensors ts len k (Load register object window) s =

@@ -1,8 +1,8 @@
--- The bits of a step's mask: 0 and 1, as the entries of a survey say, and as many as elements have a byte.
+-- The bits of a step's mask: 0 and 1, as the entries of a survey say, and set as many as elements have a byte.
 use Prim.Native.Nat.{ℕ, zero, suc, _+_, _-_, _<_, _≤_, zero-le}
 use mathlib.Core.Path.{_≡_, refl, ap, _∙_}
-use mathlib.Core.List.{List, []}
-use native.Mathlib.Nat.{le-refl}
+use mathlib.Core.List.{List, [], _∷_}
+use native.Mathlib.Nat.{add-zero, le-refl, le-of-suc-le-suc, not-suc-le-zero}
 use native.Mathlib.Omega.{arith}
 use borrow.Author.Tests.{lt-ltb, le-ltb, ltb-true, ltb-false}
 use lib.Dec.{eqb, ltb}
@@ -16,6 +16,7 @@ use Rattle.accesses.specs.Refusals.{placedOne}
 use Rattle.accesses.specs.Entries.{entryOutcome}
 use Rattle.masks.specs.Masks.{bitOf, sumOf}
 use Rattle.masks.specs.Entries.{entryOne, entryBit}
+use Rattle.masks.specs.Placed.{placedIn}
 use Rattle.masks.specs.Laws.Packed.{Bits}
 
 one-most : (o : Outcome) → placedOne o ≤ 1
@@ -56,3 +57,31 @@ entries-bit entries fill os h e =
     by-test (ltb e (length os))
     (λ t. rw t (any-fill fill (getD entries e 0) ∙ ap placedOne (h e (ltb-true e (length os) t))))
     (λ t. rw (t, List·getD-eq-default os Skipped (ltb-false e (length os) t)))
+
+-- ---- how many are set
+
+-- none of a step without outcomes
+pub no-bits : (n : ℕ) → sumOf (bitOf []) n ≡ 0
+unfolding sumOf bitOf
+no-bits zero = refl
+no-bits (suc n) = rw (no-bits n) refl
+
+-- the first, and the others
+sum-first : (f : ℕ → ℕ) (n : ℕ) → sumOf f (suc n) ≡ f 0 + sumOf (λ (e : ℕ). f (suc e)) n
+unfolding sumOf
+sum-first f zero = omega arith
+sum-first f (suc n) = omega (arith, sum-first f n)
+
+pub placed-bits : (os : List Outcome) (n : ℕ) → length os ≤ n → sumOf (bitOf os) n ≡ placedIn os
+unfolding bitOf placedIn
+placed-bits [] n h = no-bits n
+placed-bits (o ∷ os) zero h = absurd (not-suc-le-zero h)
+placed-bits (o ∷ os) (suc n) h = sum-first (bitOf (o ∷ os)) n ∙ ap (λ (k : ℕ). placedOne o + k) (placed-bits os n (le-of-suc-le-suc h))
+
+-- past them there is none more
+pub sum-past : (f : ℕ → ℕ) (n m : ℕ) → ((k : ℕ) → n ≤ k → f k ≡ 0) → sumOf f (n + m) ≡ sumOf f n
+unfolding sumOf
+sum-past f n zero none = rw (add-zero n)
+sum-past f n (suc m) none =
+    let e : n + suc m ≡ suc (n + m) = omega arith in
+    rw (e, none (n + m) (omega arith)) (omega (arith, sum-past f n m none))

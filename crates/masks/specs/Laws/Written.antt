@@ -15,6 +15,7 @@ use Rattle.sheet.specs.Sizes.{matrixPlaces}
 use Rattle.outcomes.specs.declared.Outcome.{Outcome}
 use Rattle.masks.specs.Masks.{bitBytes, maskBytes, bitOf, packed, sumOf, bitByte, maskOf, masksOf, emptyMasks, maskPlace}
 use Rattle.masks.specs.Laws.Packed.{Bits, packed-ones, packed-zeros, word-bytes}
+use Rattle.masks.specs.Laws.Bits.{no-bits}
 
 -- ---- a step's bits, word by word
 
@@ -90,11 +91,6 @@ zeros-more masks at n e =
 no-bit : (e : ℕ) → bitOf [] e ≡ 0
 unfolding bitOf
 no-bit e = refl
-
-no-bits : (n : ℕ) → sumOf (bitOf []) n ≡ 0
-unfolding sumOf
-no-bits zero = refl
-no-bits (suc n) = rw (no-bits n, no-bit n)
 
 empty-bits : each bitBytes (bitByte (bitOf [])) ≡ zeros bitBytes
 empty-bits = each-same bitBytes (bitByte (bitOf [])) (λ (i : ℕ). 0 ∷ []) (λ k h. rw (packed-zeros (bitOf []) (8 * k) 8 (λ e l. no-bit e)))

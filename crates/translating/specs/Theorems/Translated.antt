@@ -1,21 +1,23 @@
 -- Where translating is not refused, the room holds the tape that document 01 gives, from its start on, the area the masks of all steps, and nothing
 -- else is written.
-use Prim.Native.Nat.{ℕ, _*_}
+use Prim.Native.Nat.{ℕ, _*_, _≤_}
 use mathlib.Core.Path.{_≡_, refl, sym, ap, _∙_}
 use mathlib.Core.Bool.{true}
 use mathlib.Core.List.{List}
 use native.Mathlib.Omega.{arith}
-use borrow.Author.Tests.{eqb-true, eqb-false, eq-eqb}
+use borrow.Author.Tests.{eqb-true, eqb-false, eq-eqb, leb-true}
 use lib.Dec.{eqb}
 use lib.IntN.{ℤ}
 use lib.ListN.{length}
 use lib.Seq.{sets}
 use Rattle.numbers.specs.Choice.{pick}
-use Rattle.numbers.specs.Laws.Choice.{pick-case, both-true}
+use Rattle.numbers.specs.Laws.Choice.{pick-case, both-true, both-right}
 use Rattle.sheet_reader.specs.Reading.{readSheet}
 use Rattle.checking.specs.Checking.{checkedSheet}
 use Rattle.records.specs.Records.{recordLength, tapeNumbers}
 use Rattle.records.specs.Laws.Records.{length-tape}
+use Rattle.records.specs.Room.{recordsFit}
+use Rattle.masks.specs.Masks.{maskArea}
 use Rattle.translating.specs.Tapes.{tapeOf}
 use Rattle.translating.specs.GivenTape.{GivenTape}
 use Rattle.translating.specs.Theorems.GivenTape.{tape-only}
@@ -49,6 +51,10 @@ module _ (s : List ℕ) (len room area : ℕ) where
     pub does : translates s len room area ≡ true
     unfolding translates
     does = both-true _ _ (eq-eqb _ 0 (told .accepted)) (told .fits)
+
+    pub fits-area : maskArea ≤ area
+    unfolding fitsRoom
+    fits-area = leb-true _ _ (both-right (recordsFit (readSheet s .sheet .edition) room (length (tapeOf (readSheet s .sheet) len))) _ (told .fits))
 
 module _ (s : List ℕ) (len : ℕ) (room : List ℤ) (area : ℕ) (h : translated s len (length room) area .refusal .number ≡ 0) where
   pub room-is : translatedRoom s len room area ≡ sets room 0 (tapeNumbers (tapeOf (readSheet s .sheet) len))
