@@ -7,7 +7,7 @@ use lib.Dec.{eqb, ltb}
 use lib.ListN.{getD}
 use Rattle.numbers.specs.Choice.{both}
 use Rattle.numbers.specs.Lists.{each}
-use Rattle.numbers.specs.Little.{u16At, u16Bytes}
+use Rattle.numbers.specs.Little.{u16Bytes}
 use Rattle.sheet.specs.Sizes.{matrixPlaces, stepPlaces}
 use Rattle.outcomes.specs.declared.Outcome.{Outcome}
 use Rattle.outcomes.specs.declared.Outcome.the-variants.{Skipped}
@@ -51,17 +51,9 @@ maskOf bit = each bitBytes (bitByte bit) ++ u16Bytes (sumOf bit matrixPlaces)
 abbrev pub masksOf : (ℕ → List Outcome) → ℕ → List ℕ
 masksOf os n = each n (λ (s : ℕ). maskOf (bitOf (os s)))
 
--- n empty masks: of steps without outcomes
-abbrev pub emptyMasks : ℕ → List ℕ
-emptyMasks n = masksOf (λ (s : ℕ). []) n
-
 -- where a step's mask begins
 abbrev pub maskPlace : ℕ → ℕ
 maskPlace step = step * maskBytes
-
--- a step's number of set bits, by its mask
-abbrev pub countAt : List ℕ → ℕ → ℕ
-countAt masks step = u16At masks (maskPlace step + bitBytes)
 
 -- Did a step touch an element? By its mask; no outside the steps, the elements and the area.
 unfoldable pub touched : List ℕ → ℕ → ℕ → Bool

@@ -3,8 +3,8 @@
 use Prim.Native.Nat.{ℕ, zero, suc, _+_, _-_, _*_, _/_, _%_, _^_, _<_, _≤_}
 use mathlib.Core.Path.{_≡_, refl, sym, ap, ap₂, _∙_}
 use mathlib.Core.Bool.{Bool, true, false}
-use mathlib.Core.List.{List, [], _∷_, _++_, map}
-use native.Mathlib.Nat.{zero-add, zero-div}
+use mathlib.Core.List.{List, _++_}
+use native.Mathlib.Nat.{zero-div}
 use native.Mathlib.Omega.{arith}
 use borrow.Author.Tests.{lt-ltb, le-ltb}
 use lib.Dec.{eqb, ltb}
@@ -14,13 +14,13 @@ use Rattle.numbers.specs.Choice.{pick, both}
 use Rattle.numbers.specs.Lists.{each}
 use Rattle.numbers.specs.Little.{u16At, u16Bytes}
 use Rattle.numbers.specs.Laws.Choice.{stop, by-order}
-use Rattle.numbers.specs.Laws.Joins.{each-part, each-at, length-each}
+use Rattle.numbers.specs.Laws.Joins.{each-part, each-at}
 use Rattle.sheet.specs.Sizes.{matrixPlaces, stepPlaces}
 use Rattle.outcomes.specs.declared.Outcome.{Outcome}
 use Rattle.outcomes.specs.declared.Outcome.the-variants.{Skipped, Filled, Discarded, Placed}
 use Rattle.accesses.specs.Refusals.{placedOne}
-use Rattle.masks.specs.Masks.{bitBytes, maskBytes, maskArea, bitOf, packed, sumOf, bitByte, maskOf, masksOf, maskPlace, countAt, touched}
-use Rattle.masks.specs.Placed.{hasByte, placedIn}
+use Rattle.masks.specs.Masks.{bitBytes, maskBytes, maskArea, bitOf, packed, sumOf, maskOf, masksOf, maskPlace, touched}
+use Rattle.masks.specs.Placed.{hasByte, placedIn, countAt}
 use Rattle.masks.specs.Laws.Packed.{packed-bit}
 use Rattle.masks.specs.Laws.Bits.{outcome-bits, placed-bits}
 use Rattle.masks.specs.Laws.Written.{bits, length-bits, length-mask, length-masks}

@@ -1,12 +1,12 @@
 // The masks beside a tape: for each step a bit an element, set exactly where the element has a byte, and the number of set bits.
 ghost use mathlib.Core.Path.{_≡_};
-ghost use Prim.Native.Nat.{ℕ, _+_, _*_, _-_, _<_, _≤_};
+ghost use Prim.Native.Nat.{_+_, _*_, _-_, _<_, _≤_};
 ghost use lib.ListN.{length, getD};
 ghost use lib.Seq.{sets};
 ghost use Rattle.numbers.specs.Lists.{each};
 ghost use Rattle.sheet.specs.Sizes.{matrixPlaces, stepPlaces};
-ghost use Rattle.masks.specs.Masks.{bitBytes, maskArea, maskPlace, packed, sumOf, bitByte, maskOf, emptyMasks, touched};
-ghost use Rattle.masks.specs.Entries.{entryOne, entryBit};
+ghost use Rattle.masks.specs.Masks.{bitBytes, maskArea, maskPlace, packed, sumOf, bitByte, maskOf, touched};
+ghost use Rattle.masks.specs.Entries.{entryOne, entryBit, emptyMasks};
 use clashes::FILLED;
 use sheet::sizes::PLACES;
 use sheet::sizes::STEPS;

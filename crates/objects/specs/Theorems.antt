@@ -1,6 +1,6 @@
 -- What a load starts from in each edition, what each of its elements holds after it, and the records that it becomes.
-use Prim.Native.Nat.{ℕ, _+_, _*_, _<_, _≤_}
-use mathlib.Core.Path.{_≡_, refl, sym, _∙_}
+use Prim.Native.Nat.{ℕ, _*_, _<_, _≤_}
+use mathlib.Core.Path.{_≡_, refl, _∙_}
 use mathlib.Core.Bool.{true}
 use mathlib.Core.List.{List, _∷_}
 use native.Mathlib.Omega.{arith}
@@ -24,7 +24,6 @@ use Rattle.registers.specs.Registers.{placeOf, elementOf}
 use Rattle.registers.specs.Laws.Sized.{sized-places}
 use Rattle.registers.specs.declared.MatrixType.{MatrixType}
 use Rattle.addressing.specs.Rules.{elementsOf}
-use Rattle.addressing.specs.declared.Access.{Access}
 use Rattle.transfers.specs.Transfers.{outcomeOf}
 use Rattle.checking.specs.Steps.{accessOf, objectRegister}
 use Rattle.checking.specs.Checking.{checked}

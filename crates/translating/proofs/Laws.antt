@@ -38,7 +38,8 @@ use Rattle.records.specs.Room.{recordsFit}
 use Rattle.runs.specs.Runs.{runs}
 use Rattle.runs.specs.Laws.Writing.{count-records}
 use Rattle.accepted.specs.Elements.{ofStep}
-use Rattle.masks.specs.Masks.{maskArea, maskPlace, bitOf, maskOf, emptyMasks}
+use Rattle.masks.specs.Masks.{maskArea, maskPlace, bitOf, maskOf}
+use Rattle.masks.specs.Entries.{emptyMasks}
 use Rattle.access_tapes.specs.Accesses.{accessOutcomes, accessRecords}
 use Rattle.access_tapes.specs.Writing.{Room}
 use Rattle.access_tapes.specs.Laws.Few.{access-few}

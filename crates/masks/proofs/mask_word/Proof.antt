@@ -1,11 +1,11 @@
 use denote.Ref.{now}
-use mathlib.Core.Path.{_≡_, sym, ap, _∙_}
+use mathlib.Core.Path.{_≡_, sym, _∙_}
 use Prim.Native.Nat.{_+_, _-_, _<_, _≤_, _^_}
 use native.Mathlib.Omega.{arith}
 use borrow.Author.Needs.{needs}
 use Rattle.numbers.specs.Laws.Choice.{by-order}
 use Rattle.masks.specs.Masks.{packed}
-use Rattle.masks.specs.Entries.{entryOne, entryBit}
+use Rattle.masks.specs.Entries.{entryBit}
 use Rattle.masks.specs.Laws.Packed.{packed-none, packed-zeros, packed-next, packed-room}
 use Rattle.masks.specs.Laws.Bits.{entry-bits, entry-inside, entry-past}
 use Rattle.masks.proofs.mask_word.Statement.{statement}

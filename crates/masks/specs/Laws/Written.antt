@@ -1,7 +1,7 @@
 -- Masks as the code writes them: words and a count, one mask after the other, and zeros for the empty ones.
-use Prim.Native.Nat.{ℕ, zero, suc, _+_, _*_, _<_, _≤_}
-use mathlib.Core.Path.{_≡_, refl, sym, ap, ap₂, _∙_}
-use mathlib.Core.List.{List, [], _∷_, _++_, append-assoc}
+use Prim.Native.Nat.{ℕ, zero, suc, _+_, _*_, _≤_}
+use mathlib.Core.Path.{_≡_, refl, sym, ap, _∙_}
+use mathlib.Core.List.{List, [], _∷_, _++_}
 use native.Mathlib.Nat.{zero-add}
 use native.Mathlib.Omega.{arith}
 use lib.Count.{ones}
@@ -10,10 +10,11 @@ use lib.Seq.{sets}
 use Rattle.numbers.specs.Lists.{each}
 use Rattle.numbers.specs.Little.{u16Bytes, u32Bytes}
 use Rattle.numbers.specs.Laws.Joins.{each-same, each-join, length-each}
-use Rattle.numbers.specs.Laws.Lists.{each-none, each-more, puts-after}
+use Rattle.numbers.specs.Laws.Lists.{each-more, puts-after}
 use Rattle.sheet.specs.Sizes.{matrixPlaces}
 use Rattle.outcomes.specs.declared.Outcome.{Outcome}
-use Rattle.masks.specs.Masks.{bitBytes, maskBytes, bitOf, packed, sumOf, bitByte, maskOf, masksOf, emptyMasks, maskPlace}
+use Rattle.masks.specs.Masks.{bitBytes, maskBytes, bitOf, packed, sumOf, bitByte, maskOf, masksOf, maskPlace}
+use Rattle.masks.specs.Entries.{emptyMasks}
 use Rattle.masks.specs.Laws.Packed.{Bits, packed-ones, packed-zeros, word-bytes}
 use Rattle.masks.specs.Laws.Bits.{no-bits}
 

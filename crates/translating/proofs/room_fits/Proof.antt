@@ -1,4 +1,4 @@
-use mathlib.Core.Path.{refl, sym, _∙_}
+use mathlib.Core.Path.{refl}
 use borrow.Author.Needs.{needs}
 use Rattle.numbers.specs.Laws.Choice.{went-not, went-past, stop, pass}
 use Rattle.translating.proofs.room_fits.Statement.{statement}

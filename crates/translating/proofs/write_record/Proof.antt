@@ -1,4 +1,3 @@
-use denote.Ref.{now}
 use mathlib.Core.Path.{refl}
 use mathlib.Core.List.{append-nil}
 use Rattle.records.specs.Records.{recordNumbers}

@@ -1,7 +1,7 @@
 -- Where a sheet is translated, its masks say what its loads and stores touch: a bit is set exactly where the element has a byte, a
 -- step's count is the number of its elements with a byte, and the counts add up to the count in the answer.
 use Prim.Native.Nat.{ℕ, zero, suc, _+_, _-_, _<_, _≤_}
-use mathlib.Core.Path.{_≡_, refl, sym, ap, ap₂, _∙_}
+use mathlib.Core.Path.{_≡_, refl, sym, ap, _∙_}
 use mathlib.Core.Bool.{true, false}
 use mathlib.Core.List.{List, [], _∷_, _++_}
 use native.Mathlib.Nat.{sub-zero}
@@ -41,8 +41,8 @@ use Rattle.checking.specs.declared.CheckAnswer.{CheckAnswer}
 use Rattle.accepted.specs.Passes.{typesAt}
 use Rattle.accepted.specs.Elements.{ofAccess, ofStep}
 use Rattle.accepted.specs.Laws.Elements.{step-few, at-step, at-past}
-use Rattle.masks.specs.Masks.{maskArea, sumOf, countAt, touched}
-use Rattle.masks.specs.Placed.{hasByte, placedIn}
+use Rattle.masks.specs.Masks.{maskArea, sumOf, touched}
+use Rattle.masks.specs.Placed.{hasByte, placedIn, countAt}
 use Rattle.masks.specs.Laws.Bits.{sum-past}
 use Rattle.masks.specs.Theorems.{touched-steps, touched-outcome, count-placed, counts-placed, past-area}
 use Rattle.translating.specs.Masks.{stepOutcomes, sheetOutcomes, sheetMasks}
