@@ -12,12 +12,12 @@ use sheet::sizes::PLACES;
 use sheet::sizes::STEPS;
 
 // The bytes of a step's bits, and of its mask: the count takes two more.
-const BITS: usize = PLACES / 8;
+const BIT_BYTES: usize = PLACES / 8;
 
-const MASK: usize = BITS + 2;
+const MASK_BYTES: usize = BIT_BYTES + 2;
 
 // The bytes of a mask area, which holds all steps.
-pub const MASKS: usize = STEPS * MASK;
+pub const MASK_AREA: usize = STEPS * MASK_BYTES;
 
 // The bits of a word, and its bytes.
 const WORD: usize = 32;
@@ -88,9 +88,9 @@ pub fn put_mask(masks: &mut [u8], step: usize, entries: &[u32; PLACES], count: u
     requires { ⌜ (step < stepPlaces) × (maskArea ≤ length (now masks)) × (count ≤ matrixPlaces) ⌝ }
     ensures { λ _. ⌜ now (masks .exit) ≡ sets (now (masks .entry)) (maskPlace step) (maskOf (entryBit (now (entries .entry)) count)) ⌝ }
 {
-    let at = step * MASK;
+    let at = step * MASK_BYTES;
     let ones = put_bits(masks, at, entries, count);
-    numbers::put_u16(masks, at + BITS, ones as u16);
+    numbers::put_u16(masks, at + BIT_BYTES, ones as u16);
 }
 
 // Writes empty masks from a step on, up to another.
@@ -98,8 +98,8 @@ pub fn clear_masks(masks: &mut [u8], first: usize, end: usize)
     requires { ⌜ (first ≤ end) × (end ≤ stepPlaces) × (maskArea ≤ length (now masks)) ⌝ }
     ensures { λ _. ⌜ now (masks .exit) ≡ sets (now (masks .entry)) (maskPlace first) (emptyMasks (end - first)) ⌝ }
 {
-    let bytes = (end - first) * MASK;
-    let at = first * MASK;
+    let bytes = (end - first) * MASK_BYTES;
+    let at = first * MASK_BYTES;
     let mut j = 0;
     while j < bytes {
         masks[at + j] = 0;
@@ -127,6 +127,6 @@ pub fn touched(masks: &[u8], step: usize, element: usize) -> bool
     if PLACES <= element {
         return false;
     }
-    let byte = mask_byte(masks, step * MASK + element / 8);
+    let byte = mask_byte(masks, step * MASK_BYTES + element / 8);
     (byte >> (element % 8)) % 2 == 1
 }

@@ -5,7 +5,7 @@ ghost use Rattle.sheet.specs.Sizes.{recordPlaces};
 use libc::STDERR_FILENO;
 use libc::STDIN_FILENO;
 use libc::STDOUT_FILENO;
-use masks::MASKS;
+use masks::MASK_AREA;
 use records::NUMBERS;
 use sheet::sizes::RECORDS;
 
@@ -78,7 +78,7 @@ fn main() {
         }
     }
     let mut tape = [0i32; RECORDS * NUMBERS];
-    let mut masks = [0u8; MASKS];
+    let mut masks = [0u8; MASK_AREA];
     let r = translating::translate(&input[..n], MEMORY, &mut tape, &mut masks);
     let f = r.refusal;
     if 0 < f.number {

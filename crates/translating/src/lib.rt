@@ -23,7 +23,7 @@ ghost use Rattle.translating.specs.Tapes.{objectRecords, stepRecords, ta
 ghost use Rattle.translating.specs.Masks.{stepOutcomes, sheetMasks};
 ghost use Rattle.translating.specs.Translating.{translateAnswer, translated, translatedRoom, translatedMasks};
 use checking::checks;
-use masks::MASKS;
+use masks::MASK_AREA;
 use records::Record;
 use refusals::Refusal;
 use refusals::TAPE_TOO_LONG;
@@ -251,7 +251,7 @@ fn room_fits(edition: u8, room: usize, records: usize, area: usize) -> bool
     if !records::records_fit(edition, room, records) {
         return false;
     }
-    MASKS <= area
+    MASK_AREA <= area
 }
 
 fn translate_refused(refusal: Refusal) -> TranslateAnswer
