@@ -1,6 +1,6 @@
 // The masks beside a tape: for each step a bit an element, set exactly where the element has a byte, and the number of set bits.
 ghost use mathlib.Core.Path.{_≡_};
-ghost use Prim.Native.Nat.{_+_, _*_, _-_, _<_, _≤_};
+ghost use Prim.Native.Nat.{_+_, _-_, _<_, _≤_};
 ghost use lib.ListN.{length, getD};
 ghost use lib.Seq.{sets};
 ghost use Rattle.numbers.specs.Lists.{each};
