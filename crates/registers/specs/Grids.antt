@@ -24,6 +24,10 @@ blank = replicate matrixPlaces 0
 unfoldable pub block : ℕ → ℕ → (ℕ → ℕ → ℕ) → List ℕ
 block rows columns f = line blank 0 (numbered columns f) (rows * columns)
 
+-- the first places of a list made those of a matrix whose elements f gives; the others stay
+unfoldable pub blockOn : List ℕ → ℕ → ℕ → (ℕ → ℕ → ℕ) → List ℕ
+blockOn d rows columns f = line d 0 (numbered columns f) (rows * columns)
+
 -- register r made a matrix of type t whose elements f gives
 abbrev pub made : Registers → ℕ → MatrixType → (ℕ → ℕ → ℕ) → Registers
 made g r t f = record { types = withType (g .types) r t; elements = withBlock (g .elements) r (block (t .rows) (t .columns) f) }

@@ -4,3 +4,4 @@ pub mod Registers
 pub mod Sized
 pub mod Grids
 pub mod Fits
+pub mod Past

@@ -1,10 +1,10 @@
-// The blocks of results: the places of a register, of which a matrix takes the first.
+// The blocks of results: a lent block whose first places are given a matrix; what stands past them does not matter.
 ghost use mathlib.Core.Path.{_≡_};
 ghost use Prim.Native.Nat.{ℕ, _+_, _*_, _^_, _<_, _≤_};
 ghost use lib.ListN.{getD};
 ghost use Rattle.numbers.specs.Lists.{line};
 ghost use Rattle.sheet.specs.Sizes.{sidePlaces, matrixPlaces, elementPlaces};
-ghost use Rattle.registers.specs.Grids.{block};
+ghost use Rattle.registers.specs.Grids.{blockOn};
 use sheet::sizes::PLACES;
 
 // A row of a block: elements of a list from a place on, a step apart.
@@ -28,21 +28,21 @@ fn spread_row(
 
 // Element (i, j) stands i steps down and j across in a list, from a place on.
 pub fn spread(
+    out: &mut [u32; PLACES],
     from: &[u32],
     first: usize,
     down: usize,
     across: usize,
     rows: usize,
     columns: usize,
-) -> [u32; PLACES]
+)
     requires { ⌜ (first ≤ elementPlaces) × (down ≤ sidePlaces) × (across ≤ sidePlaces) × (rows ≤ sidePlaces) × (columns ≤ sidePlaces) ⌝ }
-    ensures { λ r. ⌜ r ≡ block rows columns (λ (i j : ℕ). getD (now (from .entry)) (first + i * down + j * across) 0) ⌝ }
+    ensures { λ _. ⌜ now (out .exit) ≡ blockOn (now (out .entry)) rows columns (λ (i j : ℕ). getD (now (from .entry)) (first + i * down + j * across) 0) ⌝ }
 {
-    let mut out = [0u32; PLACES];
     let mut i = 0;
     while i < rows {
         spread_row(
-            &mut out,
+            out,
             i * columns,
             from,
             first + i * down,
@@ -51,14 +51,13 @@ pub fn spread(
         );
         i += 1;
     }
-    out
 }
 
 // A matrix of one value.
-pub fn fill_block(value: u32, rows: usize, columns: usize) -> [u32; PLACES]
+pub fn fill_block(out: &mut [u32; PLACES], value: u32, rows: usize, columns: usize)
     requires { ⌜ (rows ≤ sidePlaces) × (columns ≤ sidePlaces) ⌝ }
-    ensures { λ r. ⌜ r ≡ block rows columns (λ (i j : ℕ). value) ⌝ }
+    ensures { λ _. ⌜ now (out .exit) ≡ blockOn (now (out .entry)) rows columns (λ (i j : ℕ). value) ⌝ }
 {
     let one = [value; 1];
-    spread(&one, 0, 0, 0, rows, columns)
+    spread(out, &one, 0, 0, 0, rows, columns)
 }

@@ -2,10 +2,12 @@
 pub mod blocks;
 
 ghost use mathlib.Core.Path.{_≡_};
-ghost use Prim.Native.Nat.{_+_, _*_, _<_, _≤_};
+ghost use Prim.Native.Nat.{ℕ, _+_, _-_, _*_, _<_, _≤_};
+ghost use lib.ListN.{getD};
 ghost use Rattle.sheet.specs.Sizes.{registerCount, matrixPlaces};
 ghost use Rattle.registers.specs.Types.{noType, theType, isEmpty, withType};
-ghost use Rattle.registers.specs.Registers.{placeOf, elementOf, withElementOf, withBlock, copiedElements, filledElements, emptyRegisters};
+ghost use Rattle.registers.specs.Registers.{placeOf, elementOf, withElementOf, filledElements, emptyRegisters};
+ghost use Rattle.registers.specs.Past.{writtenTo};
 ghost use Rattle.registers.specs.Sized.{SizedType};
 use sheet::sizes::ELEMENTS;
 use sheet::sizes::PLACES;
@@ -102,30 +104,55 @@ pub fn put_element_of(elements: &mut [u32; ELEMENTS], register: u8, element: usi
     elements[place_of(register, element)] = x;
 }
 
-// A register's places made those of a block.
-pub fn put_block(elements: &mut [u32; ELEMENTS], register: u8, block: &[u32; PLACES])
-    requires { ⌜ register < registerCount ⌝ }
-    ensures { λ _. ⌜ now (elements .exit) ≡ withBlock (now (elements .entry)) register (now (block .entry)) ⌝ }
+// A matrix of `count` elements is written over one of `old`: a register's first places made those of a block, and what the old
+// matrix had past them made 0.
+pub fn put_block(
+    elements: &mut [u32; ELEMENTS],
+    register: u8,
+    block: &[u32; PLACES],
+    count: usize,
+    old: usize,
+)
+    requires { ⌜ (register < registerCount) × (count ≤ matrixPlaces) × (old ≤ matrixPlaces) ⌝ }
+    ensures { λ _. ⌜ now (elements .exit) ≡ writtenTo (now (elements .entry)) register (λ (e : ℕ). getD (now (block .entry)) e 0) count old ⌝ }
 {
     let base = place_of(register, 0);
     let mut e = 0;
-    while e < PLACES {
+    while e < count {
         elements[base + e] = block[e];
         e += 1;
     }
+    clear_elements(elements, register, count, old);
 }
 
-// A register's places made those of another.
-pub fn copy_elements(elements: &mut [u32; ELEMENTS], register: u8, source: u8)
-    requires { ⌜ (register < registerCount) × (source < registerCount) ⌝ }
-    ensures { λ _. ⌜ now (elements .exit) ≡ copiedElements (now (elements .entry)) register source ⌝ }
+// The same with the elements of another register, or of the same.
+pub fn copy_elements(
+    elements: &mut [u32; ELEMENTS],
+    register: u8,
+    source: u8,
+    count: usize,
+    old: usize,
+)
+    requires { ⌜ (register < registerCount) × (source < registerCount) × (count ≤ matrixPlaces) × (old ≤ matrixPlaces) ⌝ }
+    ensures { λ _. ⌜ now (elements .exit) ≡ writtenTo (now (elements .entry)) register (elementOf (now (elements .entry)) source) count old ⌝ }
 {
     let to = place_of(register, 0);
     let from = place_of(source, 0);
     let mut e = 0;
-    while e < PLACES {
+    while e < count {
         elements[to + e] = elements[from + e];
         e += 1;
+    }
+    clear_elements(elements, register, count, old);
+}
+
+// Elements of a register from the first on, if it is before the end, made 0.
+fn clear_elements(elements: &mut [u32; ELEMENTS], register: u8, first: usize, end: usize)
+    requires { ⌜ (register < registerCount) × (first ≤ matrixPlaces) × (end ≤ matrixPlaces) ⌝ }
+    ensures { λ _. ⌜ now (elements .exit) ≡ filledElements (now (elements .entry)) register first (end - first) 0 ⌝ }
+{
+    if first < end {
+        fill_elements(elements, register, first, end - first, 0);
     }
 }
 

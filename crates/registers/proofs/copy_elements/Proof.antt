@@ -1,21 +1,21 @@
-use mathlib.Core.Path.{_≡_, sym}
-use Prim.Native.Nat.{_≤_, _-_}
+use mathlib.Core.Path.{_≡_, sym, ap, _∙_}
+use mathlib.Core.List.{List}
+use Prim.Native.Nat.{ℕ, _≤_, _-_}
 use native.Mathlib.Omega.{arith}
 use borrow.Author.Needs.{needs}
 use Rattle.numbers.specs.Laws.Lines.{line-next}
 use Rattle.numbers.specs.Lists.{line}
 use Rattle.numbers.specs.Laws.Lists.{line-none}
-use Rattle.sheet.specs.Sizes.{matrixPlaces}
-use Rattle.registers.specs.Registers.{elementOf}
+use Rattle.registers.specs.Registers.{elementOf, filledElements}
 use Rattle.registers.proofs.Laws.{unwritten}
 use Rattle.registers.proofs.copy_elements.Statement.{statement}
 use Rattle.registers.proofs.copy_elements.Tie as tie
 
 abbrev Inv-loop : tie.InvT-loop
-Inv-loop elements₀ register source to from e₀ elements e = (e ≤ matrixPlaces) × (elements ≡ line elements₀ to (elementOf elements₀ source) e)
+Inv-loop elements₀ register source count old to from e₀ elements e = (e ≤ count) × (elements ≡ line elements₀ to (elementOf elements₀ source) e)
 
 abbrev μ-loop : tie.MeasureT-loop
-μ-loop elements₀ register source to from e₀ elements e = matrixPlaces - e
+μ-loop elements₀ register source count old to from e₀ elements e = count - e
 
 place-of-requires : tie.Need-place-of-requires Inv-loop μ-loop
 place-of-requires c κs = search needs
@@ -60,10 +60,16 @@ loop-again c =
           (c .before .before .before .before .place-of .ensures) (c .before .before .before .place-of2 .ensures) (i .inv .1)),
     )
 
+clear-elements-requires : tie.Need-clear-elements-requires Inv-loop μ-loop
+clear-elements-requires c κs = search needs
+
 returns : tie.Need-returns Inv-loop μ-loop
 returns c =
-    let e : c .before .loop .e ≡ matrixPlaces = omega arith in
-    rw (e, c .before .before .before .place-of .ensures) at (c .before .loop .inv .1)
+    let a = c .before .before .before .before .before .before .args in
+    let i = c .before .before .before .loop in
+    let e : i .e ≡ a .count = omega (arith, c .before .before .loop-test .left) in
+    c .clear-elements .ensures
+    ∙ ap (λ (l : List ℕ). filledElements l (a .register) (a .count) (a .old - a .count) 0) (rw (e, c .before .before .before .before .before .place-of .ensures) at (i .inv .1))
 
 pub copy-elements-spec : {M : Type 1} → statement M
 copy-elements-spec =
@@ -83,4 +89,5 @@ copy-elements-spec =
     add-e
     loop-less
     loop-again
+    clear-elements-requires
     returns)

@@ -16,9 +16,9 @@ spread-requires c κs = search needs
 
 returns : tie.Need-returns
 returns c =
-    let v = c .before .before .args .value in
+    let v = c .before .before .before .args .value in
     c .spread .ensures
-    ∙ block-same _ _ _ _ (λ i j p q. let z : 0 + i * 0 + j * 0 ≡ 0 = omega arith in ap (λ (k : ℕ). getD (v ∷ []) k 0) z)
+    ∙ block-same _ _ _ _ _ (λ i j p q. let z : 0 + i * 0 + j * 0 ≡ 0 = omega arith in ap (λ (k : ℕ). getD (v ∷ []) k 0) z)
 
 pub fill-block-spec : {M : Type 1} → statement M
 fill-block-spec = tie.close (tie.spec slice-aggregate-spread spread-requires returns)

@@ -5,19 +5,17 @@ use lib.ListN.{getD}
 use borrow.Author.Needs.{needs}
 use Rattle.registers.specs.Laws.Sized.{sides}
 use Rattle.registers.specs.Laws.Grids.{row-fits, rowsOf, rows-none, rows-more, rows-all}
-use Rattle.registers.specs.Grids.{blank}
 use Rattle.registers.proofs.blocks.spread.Statement.{statement}
 use Rattle.registers.proofs.blocks.spread.Tie as tie
 
 abbrev Inv-loop : tie.InvT-loop
-Inv-loop from first down across rows columns out₀ i₀ out i = (i ≤ rows) × (out ≡ rowsOf columns (λ (a b : ℕ). getD from (first + a * down + b * across) 0) i)
+Inv-loop out₀ from first down across rows columns i₀ out i = (i ≤ rows) × (out ≡ rowsOf out₀ columns (λ (a b : ℕ). getD from (first + a * down + b * across) 0) i)
 
 abbrev μ-loop : tie.MeasureT-loop
-μ-loop from first down across rows columns out₀ i₀ out i = rows - i
+μ-loop out₀ from first down across rows columns i₀ out i = rows - i
 
 loop-holds : tie.Need-loop-holds Inv-loop μ-loop
-unfolding blank
-loop-holds c = (search needs, rows-none _ _)
+loop-holds c = (search needs, rows-none _ _ _)
 
 mul-spread-row : tie.Need-mul-spread-row Inv-loop μ-loop
 mul-spread-row c = omega (arith, sides (c .before .before .loop .i) (c .before .before .before .before .args .columns) (omega arith) (omega arith))
@@ -46,13 +44,13 @@ loop-less c = search needs
 loop-again : tie.Need-loop-again Inv-loop μ-loop
 loop-again c = (
   search needs,
-  rows-more _ _ _ _ (c .before .before .before .loop .inv .1) (c .spread-row .ensures) (λ j l. refl),
+  rows-more _ _ _ _ _ (c .before .before .before .loop .inv .1) (c .spread-row .ensures) (λ j l. refl),
 )
 
 returns : tie.Need-returns Inv-loop μ-loop
 returns c =
     let e : c .before .loop .i ≡ c .before .before .before .args .rows = omega arith in
-    rw e at (c .before .loop .inv .1) ∙ rows-all _ _ _
+    rw e at (c .before .loop .inv .1) ∙ rows-all _ _ _ _
 
 pub spread-spec : {M : Type 1} → statement M
 spread-spec =
