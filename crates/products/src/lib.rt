@@ -6,14 +6,17 @@ ghost use Prim.Native.Nat.{ℕ, _+_, _*_, _%_, _^_, _<_, _≤_};
 ghost use mathlib.Core.Bool.{true};
 ghost use lib.ListN.{getD};
 ghost use Rattle.numbers.specs.Lists.{line};
-ghost use Rattle.sheet.specs.Sizes.{registerCount, sidePlaces, matrixPlaces};
+ghost use Rattle.numbers.specs.Remainders.{remainder};
+ghost use Rattle.kinds.specs.Values.{value};
+ghost use Rattle.sheet.specs.Sizes.{registerCount, sidePlaces, matrixPlaces, elementPlaces};
 ghost use Rattle.registers.specs.Sized.{SizedType};
-ghost use Rattle.registers.specs.Grids.{block};
+ghost use Rattle.registers.specs.Grids.{blockOn};
 ghost use Rattle.products.specs.Multiplying.{multiplied};
 ghost use Rattle.products.specs.Shapes.{multiplyAgrees};
-ghost use Rattle.products.specs.Residues.{residuesOf, dotOf, dotPlus};
+ghost use Rattle.products.specs.Residues.{residuesOn, dotOf, dotPlus};
 use registers::MatrixType;
 use sheet::sizes::PLACES;
+use sheet::sizes::SIDE;
 
 const WRAP: u64 = 4294967296;
 
@@ -24,79 +27,116 @@ fn wide(x: u32) -> u64
 }
 
 // The values of a matrix by element number.
-fn residues(elements: &[u32], source: u8, t: MatrixType) -> [u32; PLACES]
+fn residues(out: &mut [u32; PLACES], elements: &[u32], source: u8, t: MatrixType)
     requires { ⌜ (source < registerCount) × SizedType t ⌝ }
-    ensures { λ r. ⌜ r ≡ residuesOf (now (elements .entry)) source t ⌝ }
+    ensures { λ _. ⌜ now (out .exit) ≡ residuesOn (now (out .entry)) (now (elements .entry)) source t ⌝ }
 {
-    let count = (t.rows as usize) * (t.columns as usize);
+    let count = registers::element_count(t);
     let first = registers::place_of(source, 0);
     let kind = t.kind;
-    let mut out = [0u32; PLACES];
     let mut e = 0;
     while e < count {
         out[e] = kinds::residue(kind, numbers::at(elements, first + e));
         e += 1;
     }
-    out
 }
 
-// The sum of products of a row of x from p on and a column of y from q on, whose elements are n apart.
-fn dot(x: &[u32; PLACES], y: &[u32; PLACES], p: usize, q: usize, n: usize, count: usize) -> u64
-    requires { ⌜ (count ≤ sidePlaces) × (n ≤ sidePlaces) × (q < n) × (p + count ≤ matrixPlaces) ⌝ }
-    ensures { λ r. ⌜ (r ≡ dotOf (now (x .entry)) (now (y .entry)) p q n count) × (r < 2 ^ 32) ⌝ }
+// The values of a row, whose elements stand from a place on.
+fn residue_row(
+    out: &mut [u32; SIDE],
+    elements: &[u32],
+    kind: u8,
+    first: usize,
+    count: usize,
+)
+    requires { ⌜ (count ≤ sidePlaces) × (first ≤ 2 * elementPlaces) ⌝ }
+    ensures { λ _. ⌜ now (out .exit) ≡ line (now (out .entry)) 0 (λ (t : ℕ). remainder (value kind (getD (now (elements .entry)) (first + t) 0)) (2 ^ 32)) count ⌝ }
+{
+    let mut t = 0;
+    while t < count {
+        out[t] = kinds::residue(kind, numbers::at(elements, first + t));
+        t += 1;
+    }
+}
+
+// The sum of products of a row and a column of y from q on, whose elements are n apart.
+fn dot(x: &[u32; SIDE], y: &[u32; PLACES], q: usize, n: usize, count: usize) -> u64
+    requires { ⌜ (count ≤ sidePlaces) × (n ≤ sidePlaces) × (q < n) ⌝ }
+    ensures { λ r. ⌜ (r ≡ dotOf (λ (t : ℕ). getD (now (x .entry)) t 0) (λ (t : ℕ). getD (now (y .entry)) (q + t * n) 0) count) × (r < 2 ^ 32) ⌝ }
 {
     let mut sum: u64 = 0;
     let mut t = 0;
     while t < count {
-        sum = (sum + wide(x[p + t]) * wide(y[q + t * n])) % WRAP;
+        sum = (sum + wide(x[t]) * wide(y[q + t * n])) % WRAP;
         t += 1;
     }
     sum
 }
 
-// A row of a block: the row of x from p on times each of n columns of y, plus the row of z.
+// A row of a block: the row x times each of n columns of y, plus the elements of a kind from a place on.
 fn product_row(
     out: &mut [u32; PLACES],
     start: usize,
-    x: &[u32; PLACES],
+    x: &[u32; SIDE],
     y: &[u32; PLACES],
-    z: &[u32; PLACES],
-    p: usize,
+    elements: &[u32],
+    kind: u8,
+    from: usize,
     inner: usize,
     n: usize,
 )
-    requires { ⌜ (start + n ≤ matrixPlaces) × (p + inner ≤ matrixPlaces) × (inner ≤ sidePlaces) × (n ≤ sidePlaces) ⌝ }
-    ensures { λ _. ⌜ now (out .exit) ≡ line (now (out .entry)) start (λ (j : ℕ). (dotOf (now (x .entry)) (now (y .entry)) p j n inner + getD (now (z .entry)) (start + j) 0) % 2 ^ 32) n ⌝ }
+    requires { ⌜ (start + n ≤ matrixPlaces) × (from ≤ 2 * elementPlaces) × (inner ≤ sidePlaces) × (n ≤ sidePlaces) ⌝ }
+    ensures { λ _. ⌜ now (out .exit) ≡ line (now (out .entry)) start (λ (j : ℕ). (dotOf (λ (t : ℕ). getD (now (x .entry)) t 0) (λ (t : ℕ). getD (now (y .entry)) (j + t * n) 0) inner + remainder (value kind (getD (now (elements .entry)) (from + j) 0)) (2 ^ 32)) % 2 ^ 32) n ⌝ }
 {
     let mut j = 0;
     while j < n {
-        let sum = dot(x, y, p, j, n, inner) + wide(z[start + j]);
+        let sum = dot(x, y, j, n, inner) + wide(kinds::residue(kind, numbers::at(elements, from + j)));
         out[start + j] = (sum % WRAP) as u32;
         j += 1;
     }
 }
 
+// Register a's matrix times y, plus register c's.
 fn product(
-    x: &[u32; PLACES],
+    out: &mut [u32; PLACES],
+    elements: &[u32],
+    a: u8,
+    ta: MatrixType,
     y: &[u32; PLACES],
-    z: &[u32; PLACES],
-    rows: usize,
-    inner: usize,
-    columns: usize,
-) -> [u32; PLACES]
-    requires { ⌜ (rows ≤ sidePlaces) × (inner ≤ sidePlaces) × (columns ≤ sidePlaces) ⌝ }
-    ensures { λ r. ⌜ r ≡ block rows columns (dotPlus (now (x .entry)) (now (y .entry)) (now (z .entry)) inner columns) ⌝ }
+    c: u8,
+    tc: MatrixType,
+)
+    requires { ⌜ ((a < registerCount) × SizedType ta) × ((c < registerCount) × SizedType tc) ⌝ }
+    ensures { λ _. ⌜ now (out .exit) ≡ blockOn (now (out .entry)) (tc .rows) (tc .columns) (dotPlus (now (elements .entry)) a ta (now (y .entry)) c tc) ⌝ }
 {
-    let mut out = [0u32; PLACES];
+    let rows = tc.rows as usize;
+    let columns = tc.columns as usize;
+    let inner = ta.columns as usize;
+    let first = registers::place_of(a, 0);
+    let base = registers::place_of(c, 0);
+    let kind = ta.kind;
+    let added = tc.kind;
+    let mut row = [0u32; SIDE];
     let mut i = 0;
     while i < rows {
-        product_row(&mut out, i * columns, x, y, z, i * inner, inner, columns);
+        residue_row(&mut row, elements, kind, first + i * inner, inner);
+        product_row(
+            out,
+            i * columns,
+            &row,
+            y,
+            elements,
+            added,
+            base + i * columns,
+            inner,
+            columns,
+        );
         i += 1;
     }
-    out
 }
 
 pub fn multiply_block(
+    out: &mut [u32; PLACES],
     elements: &[u32],
     a: u8,
     ta: MatrixType,
@@ -104,19 +144,11 @@ pub fn multiply_block(
     tb: MatrixType,
     c: u8,
     tc: MatrixType,
-) -> [u32; PLACES]
+)
     requires { ⌜ ((a < registerCount) × SizedType ta) × ((b < registerCount) × SizedType tb) × ((c < registerCount) × SizedType tc) × (multiplyAgrees ta tb tc ≡ true) ⌝ }
-    ensures { λ r. ⌜ r ≡ block (tc .rows) (tc .columns) (multiplied (now (elements .entry)) a ta b tb c tc) ⌝ }
+    ensures { λ _. ⌜ now (out .exit) ≡ blockOn (now (out .entry)) (tc .rows) (tc .columns) (multiplied (now (elements .entry)) a ta b tb c tc) ⌝ }
 {
-    let x = residues(elements, a, ta);
-    let y = residues(elements, b, tb);
-    let z = residues(elements, c, tc);
-    product(
-        &x,
-        &y,
-        &z,
-        tc.rows as usize,
-        ta.columns as usize,
-        tc.columns as usize,
-    )
+    let mut y = [0u32; PLACES];
+    residues(&mut y, elements, b, tb);
+    product(out, elements, a, ta, &y, c, tc);
 }

@@ -6,7 +6,7 @@ pub mod stops;
 
 ghost use mathlib.Core.Path.{_≡_};
 ghost use lib.ListN.{length};
-ghost use Rattle.registers.specs.Grids.{block};
+ghost use Rattle.registers.specs.Grids.{blockOn};
 ghost use Rattle.vectors.specs.Refusals.{vectorRefusal};
 ghost use Rattle.vectors.specs.Results.{vectorType, vectorResult};
 ghost use Rattle.vectors.specs.Within.{VectorParts};
@@ -45,10 +45,16 @@ pub fn vector_type(v: VectorStep) -> MatrixType
 }
 
 // What a step that is not refused makes; its input register has type t.
-pub fn vector_block(elements: &[u32], memory: &[u8], t: MatrixType, v: VectorStep) -> [u32; PLACES]
+pub fn vector_block(
+    out: &mut [u32; PLACES],
+    elements: &[u32],
+    memory: &[u8],
+    t: MatrixType,
+    v: VectorStep,
+)
     requires { ⌜ VectorParts v × (vectorRefusal t (length (now memory)) v .number ≡ 0) ⌝ }
-    ensures { λ r. ⌜ r ≡ block (v .rows) 1 (vectorResult (now (elements .entry)) (t .kind) (now (memory .entry)) v) ⌝ }
+    ensures { λ _. ⌜ now (out .exit) ≡ blockOn (now (out .entry)) (v .rows) 1 (vectorResult (now (elements .entry)) (t .kind) (now (memory .entry)) v) ⌝ }
 {
     let components = components::components_of(elements, t.kind, v);
-    results::result_block(memory, v, &components)
+    results::result_block(out, memory, v, &components);
 }

@@ -6,7 +6,7 @@ ghost use lib.ListN.{length};
 ghost use Rattle.numbers.specs.Remainders.{remainder};
 ghost use Rattle.kinds.specs.Widths.{bytesOf};
 ghost use Rattle.sheet.specs.Sizes.{sidePlaces};
-ghost use Rattle.registers.specs.Grids.{block};
+ghost use Rattle.registers.specs.Grids.{blockOn};
 ghost use Rattle.vectors.specs.Places.{biasSize, biasByte};
 ghost use Rattle.vectors.specs.Results.{biasAt, resultAt};
 ghost use Rattle.vectors.specs.Within.{LineInside, Inside};
@@ -76,16 +76,19 @@ fn result_at(memory: &[u8], v: VectorStep, components: &[u32; SIDE], row: u16) -
     ((sum + bias) % WRAP) as u32
 }
 
-pub fn result_block(memory: &[u8], v: VectorStep, components: &[u32; SIDE]) -> [u32; PLACES]
+pub fn result_block(
+    out: &mut [u32; PLACES],
+    memory: &[u8],
+    v: VectorStep,
+    components: &[u32; SIDE],
+)
     requires { ⌜ (v .rows ≤ sidePlaces) × (v .columns ≤ sidePlaces) × Inside v (length (now memory)) ⌝ }
-    ensures { λ r. ⌜ r ≡ block (v .rows) 1 (λ (i j : ℕ). resultAt (now (memory .entry)) v (listed (now (components .entry))) i) ⌝ }
+    ensures { λ _. ⌜ now (out .exit) ≡ blockOn (now (out .entry)) (v .rows) 1 (λ (i j : ℕ). resultAt (now (memory .entry)) v (listed (now (components .entry))) i) ⌝ }
 {
     let rows = v.rows as usize;
-    let mut out = [0u32; PLACES];
     let mut i = 0;
     while i < rows {
         out[i] = result_at(memory, v, components, i as u16);
         i += 1;
     }
-    out
 }

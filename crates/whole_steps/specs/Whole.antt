@@ -6,7 +6,7 @@ use Rattle.sheet.specs.declared.WholeStep.{WholeStep}
 use Rattle.sheet.specs.declared.WholeStep.the-variants.{Fill, Reduce, Transpose, MultiplyAdd, Vector}
 use Rattle.registers.specs.Types.{theType, withType, matrixType}
 use Rattle.registers.specs.Registers.{withBlock}
-use Rattle.registers.specs.Grids.{block, made}
+use Rattle.registers.specs.Grids.{block, blockOn, made}
 use Rattle.registers.specs.declared.MatrixType.{MatrixType}
 use Rattle.registers.specs.declared.Registers.{Registers}
 use Rattle.reduces.specs.Shapes.{reducedType}
@@ -45,6 +45,10 @@ wholeTypes ts w = withType ts (wholeResult w) (wholeType ts w)
 
 abbrev pub wholeBlock : List MatrixType → List ℕ → List ℕ → WholeStep → List ℕ
 wholeBlock ts es memory w = block (wholeType ts w .rows) (wholeType ts w .columns) (wholeElement ts es memory w)
+
+-- the same elements in the first places of a list
+abbrev pub wholeBlockOn : List ℕ → List MatrixType → List ℕ → List ℕ → WholeStep → List ℕ
+wholeBlockOn d ts es memory w = blockOn d (wholeType ts w .rows) (wholeType ts w .columns) (wholeElement ts es memory w)
 
 abbrev pub wholeElements : List MatrixType → List ℕ → List ℕ → WholeStep → List ℕ
 wholeElements ts es memory w = withBlock es (wholeResult w) (wholeBlock ts es memory w)

@@ -1,20 +1,23 @@
-use mathlib.Core.Path.{_≡_, sym, ap₂}
-use Prim.Native.Nat.{ℕ, _≤_, _-_, _+_, _%_, _^_}
-use native.Mathlib.Omega.{arith}
+use mathlib.Core.Path.{_≡_, sym, ap, ap₂, _∙_}
+use Prim.Native.Nat.{ℕ, _≤_, _-_, _+_, _*_, _%_, _^_}
 use lib.ListN.{getD}
-use borrow.Author.Needs.{needs}
 use Rattle.numbers.specs.Laws.Lines.{line-next}
 use Rattle.numbers.specs.Lists.{line}
 use Rattle.numbers.specs.Laws.Lists.{line-none}
+use Rattle.numbers.specs.Remainders.{remainder}
+use Rattle.kinds.specs.Values.{value}
 use Rattle.products.specs.Residues.{dotOf}
+use borrow.Author.Needs.{needs}
+use native.Mathlib.Omega.{arith}
 use Rattle.products.proofs.product_row.Statement.{statement}
 use Rattle.products.proofs.product_row.Tie as tie
 
 abbrev Inv-loop : tie.InvT-loop
-Inv-loop out₀ start x y z p inner n j₀ out j = (j ≤ n) × (out ≡ line out₀ start (λ (k : ℕ). (dotOf x y p k n inner + getD z (start + k) 0) % 2 ^ 32) j)
+Inv-loop out₀ start x y elements kind from inner n j₀ out j = 
+    (j ≤ n) × (out ≡ line out₀ start (λ (k : ℕ). (dotOf (λ (t : ℕ). getD x t 0) (λ (t : ℕ). getD y (k + t * n) 0) inner + remainder (value kind (getD elements (from + k) 0)) (2 ^ 32)) % 2 ^ 32) j)
 
 abbrev μ-loop : tie.MeasureT-loop
-μ-loop out₀ start x y z p inner n j₀ out j = n - j
+μ-loop out₀ start x y elements kind from inner n j₀ out j = n - j
 
 loop-holds : tie.Need-loop-holds Inv-loop μ-loop
 loop-holds c = (search needs, sym (line-none _ _ _))
@@ -22,14 +25,14 @@ loop-holds c = (search needs, sym (line-none _ _ _))
 dot-requires : tie.Need-dot-requires Inv-loop μ-loop
 dot-requires c κs = search needs
 
-add-wide : tie.Need-add-wide Inv-loop μ-loop
-add-wide c = search needs
+add-at : tie.Need-add-at Inv-loop μ-loop
+add-at c = search needs
 
-mul-wide : tie.Need-mul-wide Inv-loop μ-loop
-mul-wide c = search needs
+at-requires : tie.Need-at-requires Inv-loop μ-loop
+at-requires c κs = search needs
 
-element-copy-out-wide : tie.Need-element-copy-out-wide Inv-loop μ-loop
-element-copy-out-wide c = search needs
+residue-requires : tie.Need-residue-requires Inv-loop μ-loop
+residue-requires c κs = search needs
 
 wide-requires : tie.Need-wide-requires Inv-loop μ-loop
 wide-requires c κs = search needs
@@ -58,13 +61,16 @@ loop-less c = search needs
 loop-again : tie.Need-loop-again Inv-loop μ-loop
 loop-again c = (
   search needs,
-  line-next _ _ _ _ (c .before .before .before .before .loop .inv .1)
-      (ap₂ (λ (s x : ℕ). (s + x) % 2 ^ 32) (c .before .before .dot .ensures .0) (c .wide .ensures .0)),
+  line-next _ _ _ _ (c .before .before .before .before .before .loop .inv .1)
+      (ap₂ (λ (s x : ℕ). (s + x) % 2 ^ 32) (c .before .before .before .dot .ensures .0)
+      (c .wide .ensures .0
+      ∙ c .before .residue .ensures
+      ∙ ap (λ (x : ℕ). remainder (value (c .before .before .before .before .before .before .before .args .kind) x) (2 ^ 32)) (c .before .before .at .ensures))),
 )
 
 returns : tie.Need-returns Inv-loop μ-loop
-returns c =
-    let e : c .before .loop .j ≡ c .before .before .args .n = omega arith in
+returns c = 
+    let e : c .before .loop .j ≡ c .before .before .before .args .n = omega arith in
     rw e at (c .before .loop .inv .1)
 
 pub product-row-spec : {M : Type 1} → statement M
@@ -75,9 +81,9 @@ product-row-spec =
     μ-loop
     loop-holds
     dot-requires
-    add-wide
-    mul-wide
-    element-copy-out-wide
+    add-at
+    at-requires
+    residue-requires
     wide-requires
     add-sum
     cast-out

@@ -34,10 +34,10 @@ fill-block-requires c κs = search needs
 
 returns : tie.Need-returns
 returns c =
-    let a = c .before .before .before .before .before .before .args in
-    let p = c .before .before .place-of in
+    let a = c .before .before .before .before .before .before .before .args in
+    let p = c .before .before .before .place-of in
     c .fill-block .ensures
-    ∙ block-same _ _ _ _ (λ i j l h. c .before .fold .ensures ∙ fold-part (a .elements .now) (a .source) (a .t) Both (a .combine) i j (p .result) 1 _ refl (λ u. omega (arith, p .ensures)))
+    ∙ block-same _ _ _ _ _ (λ i j l h. c .before .before .fold .ensures ∙ fold-part (a .elements .now) (a .source) (a .t) Both (a .combine) i j (p .result) 1 _ refl (λ u. omega (arith, p .ensures)))
 
 pub both-block-spec : {M : Type 1} → statement M
 both-block-spec =

@@ -31,12 +31,12 @@ spread-requires c κs = search needs
 
 returns : tie.Need-returns
 returns c =
-    let a = c .before .before .before .before .before .before .before .args in
-    let p = c .before .before .before .place-of in
+    let a = c .before .before .before .before .before .before .before .before .args in
+    let p = c .before .before .before .before .place-of in
     c .spread .ensures
-    ∙ block-same _ _ _ _ (λ i j l h.
+    ∙ block-same _ _ _ _ _ (λ i j l h.
     part-at (a .elements .now) (a .source) (a .t) Column (a .combine) i j (p .result) 1 (a .t .columns) _ (a .columns) j (0 + i * 0 + j * 1)
-    (c .before .before .fold-parts .ensures) (omega arith) h (omega arith) refl (λ u. omega (arith, p .ensures)))
+    (c .before .before .before .fold-parts .ensures) (omega arith) h (omega arith) refl (λ u. omega (arith, p .ensures)))
 
 pub column-block-spec : {M : Type 1} → statement M
 column-block-spec =

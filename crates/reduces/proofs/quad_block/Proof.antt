@@ -5,16 +5,15 @@ use borrow.Author.Needs.{needs}
 use Rattle.reduces.proofs.Folding.{quad-part}
 use Rattle.registers.specs.Laws.Sized.{sides}
 use Rattle.registers.specs.Laws.Grids.{row-fits, rowsOf, rows-none, rows-more, rows-all, block-same}
-use Rattle.registers.specs.Grids.{blank}
 use Rattle.reduces.specs.Parts.{quad}
 use Rattle.reduces.proofs.quad_block.Statement.{statement}
 use Rattle.reduces.proofs.quad_block.Tie as tie
 
 abbrev Inv-loop : tie.InvT-loop
-Inv-loop elements source combine rows columns n kind first out₀ i₀ out i = (i ≤ rows) × (out ≡ rowsOf columns (λ (a b : ℕ). quad elements kind combine n (first + 2 * (a * n) + 2 * b)) i)
+Inv-loop out₀ elements source combine rows columns n kind first i₀ out i = (i ≤ rows) × (out ≡ rowsOf out₀ columns (λ (a b : ℕ). quad elements kind combine n (first + 2 * (a * n) + 2 * b)) i)
 
 abbrev μ-loop : tie.MeasureT-loop
-μ-loop elements source combine rows columns n kind first out₀ i₀ out i = rows - i
+μ-loop out₀ elements source combine rows columns n kind first i₀ out i = rows - i
 
 cast-n : tie.Need-cast-n Inv-loop μ-loop
 cast-n c = search needs
@@ -23,8 +22,7 @@ place-of-requires : tie.Need-place-of-requires Inv-loop μ-loop
 place-of-requires c κs = search needs
 
 loop-holds : tie.Need-loop-holds Inv-loop μ-loop
-unfolding blank
-loop-holds c = (search needs, rows-none _ _)
+loop-holds c = (search needs, rows-none _ _ _)
 
 mul-quad-row : tie.Need-mul-quad-row Inv-loop μ-loop
 mul-quad-row c = let a = c .before .before .before .before .before .before .args in omega (arith, sides (c .before .before .loop .i) (a .columns) (omega arith) (omega arith))
@@ -56,7 +54,7 @@ loop-less c = search needs
 loop-again : tie.Need-loop-again Inv-loop μ-loop
 loop-again c = (
   search needs,
-  rows-more _ _ _ _ (c .before .before .before .loop .inv .1) (c .quad-row .ensures) (λ j l. refl),
+  rows-more _ _ _ _ _ (c .before .before .before .loop .inv .1) (c .quad-row .ensures) (λ j l. refl),
 )
 
 returns : tie.Need-returns Inv-loop μ-loop
@@ -64,8 +62,8 @@ returns c =
     let a = c .before .before .before .before .before .args in
     let e : c .before .loop .i ≡ a .rows = omega arith in
     rw e at (c .before .loop .inv .1)
-    ∙ rows-all _ _ _
-    ∙ block-same _ _ _ _ (λ i j l h. quad-part (a .elements .now) (a .source) (a .t) (a .combine) i j (c .before .before .place-of .result) (omega (arith, c .before .before .place-of .ensures)))
+    ∙ rows-all _ _ _ _
+    ∙ block-same _ _ _ _ _ (λ i j l h. quad-part (a .elements .now) (a .source) (a .t) (a .combine) i j (c .before .before .place-of .result) (omega (arith, c .before .before .place-of .ensures)))
 
 pub quad-block-spec : {M : Type 1} → statement M
 quad-block-spec =

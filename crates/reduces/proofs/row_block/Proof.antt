@@ -28,12 +28,12 @@ spread-requires c κs = search needs
 
 returns : tie.Need-returns
 returns c =
-    let a = c .before .before .before .before .before .before .args in
-    let p = c .before .before .before .place-of in
+    let a = c .before .before .before .before .before .before .before .args in
+    let p = c .before .before .before .before .place-of in
     c .spread .ensures
-    ∙ block-same _ _ _ _ (λ i j l h.
+    ∙ block-same _ _ _ _ _ (λ i j l h.
     part-at (a .elements .now) (a .source) (a .t) Row (a .combine) i j (p .result) (a .t .columns) 1 _ (a .rows) i (0 + i * 1 + j * 0)
-    (c .before .before .fold-parts .ensures) (omega arith) l (omega arith) refl (λ u. omega (arith, p .ensures)))
+    (c .before .before .before .fold-parts .ensures) (omega arith) l (omega arith) refl (λ u. omega (arith, p .ensures)))
 
 pub row-block-spec : {M : Type 1} → statement M
 row-block-spec =

@@ -4,7 +4,6 @@ use native.Mathlib.Omega.{arith}
 use borrow.Author.Needs.{needs}
 use Rattle.numbers.specs.Lists.{line}
 use Rattle.numbers.specs.Laws.Lists.{line-none, line-step}
-use Rattle.registers.specs.Grids.{blank}
 use Rattle.registers.specs.Laws.Grids.{column-block}
 use Rattle.vectors.specs.Results.{resultAt}
 use Rattle.vectors.specs.Residues.{listed}
@@ -12,16 +11,15 @@ use Rattle.vectors.proofs.results.result_block.Statement.{statement}
 use Rattle.vectors.proofs.results.result_block.Tie as tie
 
 abbrev Inv-loop : tie.InvT-loop
-Inv-loop memory v components rows out₀ i₀ out i = (i ≤ rows) × (out ≡ line blank 0 (resultAt memory v (listed components)) i)
+Inv-loop out₀ memory v components rows i₀ out i = (i ≤ rows) × (out ≡ line out₀ 0 (resultAt memory v (listed components)) i)
 
 abbrev μ-loop : tie.MeasureT-loop
-μ-loop memory v components rows out₀ i₀ out i = rows - i
+μ-loop out₀ memory v components rows i₀ out i = rows - i
 
 cast-rows : tie.Need-cast-rows Inv-loop μ-loop
 cast-rows c = search needs
 
 loop-holds : tie.Need-loop-holds Inv-loop μ-loop
-unfolding blank
 loop-holds c = (search needs, sym (line-none _ _ _))
 
 cast-result-at : tie.Need-cast-result-at Inv-loop μ-loop
@@ -33,8 +31,8 @@ result-at-requires c κs = search needs
 mul-out : tie.Need-mul-out Inv-loop μ-loop
 mul-out c = search needs
 
-array-write-out : tie.Need-array-write-out Inv-loop μ-loop
-array-write-out c = search needs
+element-write-out : tie.Need-element-write-out Inv-loop μ-loop
+element-write-out c = search needs
 
 add-i : tie.Need-add-i Inv-loop μ-loop
 add-i c = search needs
@@ -48,7 +46,7 @@ loop-again c = (search needs, line-step _ _ _ (c .before .before .loop .inv .1) 
 returns : tie.Need-returns Inv-loop μ-loop
 returns c =
     let e : c .before .loop .i ≡ c .before .before .before .before .args .v .rows = omega arith in
-    rw e at (c .before .loop .inv .1) ∙ column-block _ _
+    rw e at (c .before .loop .inv .1) ∙ column-block _ _ _
 
 pub result-block-spec : {M : Type 1} → statement M
 result-block-spec =
@@ -61,7 +59,7 @@ result-block-spec =
     cast-result-at
     result-at-requires
     mul-out
-    array-write-out
+    element-write-out
     add-i
     loop-less
     loop-again
