@@ -23,7 +23,7 @@ spread-requires c κs = search needs
 returns : tie.Need-returns
 returns c =
     let a = c .before .before .before .before .before .before .args in
-    let p = c .before .before .place-of in
+    let p = c .before .place-of in
     c .spread .ensures
     ∙ block-same _ _ _ _ _ (λ i j l h.
     let e : p .result + i * 1 + j * a .t .columns ≡ placeOf (a .source) (j * a .t .columns + i) = omega (arith, p .ensures) in
