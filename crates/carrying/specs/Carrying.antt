@@ -14,7 +14,7 @@ use Rattle.registers.specs.declared.Registers.{Registers}
 use Rattle.counts.specs.Counts.{noCounts}
 use Rattle.counts.specs.declared.Counts.{Counts}
 use Rattle.checking.specs.Checking.{checkedSheet}
-use Rattle.carrying.specs.Steps.{performedStep, Machine, machine}
+use Rattle.carrying.specs.Steps.{performedStep, Machine, machine, registersOf}
 use Rattle.carrying.specs.declared.CarryAnswer.{CarryAnswer}
 
 -- n steps more, the next of which is number k
@@ -30,11 +30,24 @@ performed sh m = performedFrom (sh .steps) sh 0 m
 abbrev pub started : List ℕ → Machine
 started memory = machine emptyRegisters memory noCounts
 
-abbrev pub carryAnswer : Refusal → Registers → Counts → CarryAnswer
+-- what carrying out gives beside memory
+pub record CarriedOut : Type 0 where
+  pub refusal : Refusal
+  pub counts : Counts
+  pub registers : Registers
+
+abbrev pub carryAnswer : Refusal → Registers → Counts → CarriedOut
 carryAnswer r registers counts = record { refusal = r; counts = counts; registers = registers }
 
+-- an answer holds the registers' types; their elements are the lent ones
+abbrev pub answerWith : CarryAnswer → List ℕ → CarriedOut
+answerWith r elements = carryAnswer (r .refusal) (registersOf (r .types) elements) (r .counts)
+
+abbrev pub refusedAnswer : Refusal → CarryAnswer
+refusedAnswer r = record { refusal = r; counts = noCounts; types = emptyRegisters .types }
+
 -- refused: empty registers and nothing counted; accepted: what the steps leave
-unfoldable pub carried : List ℕ → List ℕ → CarryAnswer
+unfoldable pub carried : List ℕ → List ℕ → CarriedOut
 carried s memory =
     pick (eqb (checkedSheet s (length memory) .refusal .number) 0)
     (let m = performed (readSheet s .sheet) (started memory) in carryAnswer notRefused (m .registers) (m .counts))

@@ -8,6 +8,7 @@ use Rattle.sheet.specs.declared.Tensors.{Tensors}
 use Rattle.sheet.specs.declared.Sheet.{Sheet}
 use Rattle.sheet.specs.declared.Step.{Step}
 use Rattle.registers.specs.Sized.{Sized}
+use Rattle.registers.specs.Past.{Past}
 use Rattle.checking.specs.Steps.{checkedStep}
 use Rattle.checking.specs.declared.StepCheck.{StepCheck}
 use Rattle.carrying.specs.Steps.{Machine}
@@ -26,8 +27,9 @@ stepOn sh k m = checkOn (sh .edition) (sh .tensors) (theStep (sh .step) k) m
 abbrev pub AcceptedStep : Sheet → ℕ → Machine → Type 0
 AcceptedStep sh k m = Accepted (sh .edition) (sh .tensors) (theStep (sh .step) k) m
 
--- the registers and their places, with types within Sizes
+-- the registers and their places, with types within Sizes, and 0 past each matrix
 pub record Formed (m : Machine) : Type 0 where
   pub registers : length (m .registers .types) ≡ registerCount
   pub sized : Sized (m .registers .types)
   pub places : length (m .registers .elements) ≡ elementPlaces
+  pub past : Past (m .registers .types) (m .registers .elements)

@@ -3,50 +3,45 @@ pub mod moving;
 pub mod performing;
 
 ghost use mathlib.Core.Path.{_≡_};
-ghost use Rattle.registers.specs.Registers.{emptyRegisters};
-ghost use Rattle.counts.specs.Counts.{noCounts};
-ghost use Rattle.carrying.specs.Carrying.{carryAnswer, carried, carriedMemory};
+ghost use Rattle.carrying.specs.Carrying.{answerWith, refusedAnswer, carried, carriedMemory};
 use counts::Counts;
 use refusals::Refusal;
 use registers::MatrixType;
-use registers::Registers;
+use sheet::sizes::ELEMENTS;
 use sheet::sizes::REGISTERS;
 
-// The answer of carrying out: a refusal with empty registers and nothing counted, or the registers and what was counted.
+// The answer of carrying out: a refusal with empty registers and nothing counted, or the registers' types and what was counted.
+// Their elements are the lent ones.
 pub struct CarryAnswer {
     pub refusal: Refusal,
     pub counts: Counts,
-    pub registers: Registers,
+    pub types: [MatrixType; REGISTERS],
 }
 
-// Registers, and what was counted. Memory is the lent one.
-pub struct Performed {
-    pub registers: Registers,
-    pub counts: Counts,
-}
-
-// The same after a step: the registers' elements are lent too, so that they are not copied for each step.
+// After a step, and after all: types, and what was counted. The registers' elements and memory are the lent ones.
 pub struct Stepped {
     pub types: [MatrixType; REGISTERS],
     pub counts: Counts,
 }
 
 pub fn carry_refused(refusal: Refusal) -> CarryAnswer
-    ensures { λ r. ⌜ r ≡ carryAnswer refusal emptyRegisters noCounts ⌝ }
+    ensures { λ r. ⌜ r ≡ refusedAnswer refusal ⌝ }
 {
-    let registers = registers::empty_registers();
+    let types = registers::empty_types();
     CarryAnswer {
         refusal,
         counts: counts::no_counts(),
-        registers,
+        types,
     }
 }
 
-// Carries out a sheet on the lent memory. Refused: memory is unchanged and the registers are empty.
-pub fn carry_out(sheet: &[u8], memory: &mut [u8]) -> CarryAnswer
-    ensures { λ r. ⌜ r ≡ carried (now (sheet .entry)) (now (memory .entry)) ⌝ }
+// Carries out a sheet on the lent memory, with the registers' elements in the lent array. Refused: memory is unchanged and the
+// registers are empty.
+pub fn carry_out(sheet: &[u8], memory: &mut [u8], elements: &mut [u32; ELEMENTS]) -> CarryAnswer
+    ensures { λ r. ⌜ answerWith r (now (elements .exit)) ≡ carried (now (sheet .entry)) (now (memory .entry)) ⌝ }
     ensures { λ _. ⌜ now (memory .exit) ≡ carriedMemory (now (sheet .entry)) (now (memory .entry)) ⌝ }
 {
+    registers::empty_elements(elements);
     let judged = checking::judge(sheet, memory.len());
     let found = judged.answer;
     let refused = found.refusal;
@@ -54,12 +49,12 @@ pub fn carry_out(sheet: &[u8], memory: &mut [u8]) -> CarryAnswer
         return carry_refused(refused);
     }
     let model = judged.sheet;
-    let done = performing::perform(model, memory);
-    let registers = done.registers;
+    let done = performing::perform(model, memory, elements);
+    let types = done.types;
     let counts = done.counts;
     CarryAnswer {
         refusal: refusals::not_refused(),
         counts,
-        registers,
+        types,
     }
 }

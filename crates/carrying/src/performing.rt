@@ -3,23 +3,22 @@ ghost use mathlib.Core.Path.{_≡_};
 ghost use mathlib.Core.Bool.{true};
 ghost use Prim.Native.Nat.{ℕ, _≤_, _<_, _^_};
 ghost use lib.ListN.{length};
-ghost use Rattle.sheet.specs.Sizes.{registerCount, matrixPlaces, memoryLimit};
+ghost use Rattle.sheet.specs.Sizes.{registerCount, matrixPlaces, elementPlaces, memoryLimit};
 ghost use Rattle.sheet_ranges.specs.Steps.{stepOk};
 ghost use Rattle.sheet_ranges.specs.Laws.Within.{TensorsWithin, Within};
-ghost use Rattle.registers.specs.Registers.{copied, zeroed};
+ghost use Rattle.registers.specs.Registers.{emptyRegisters, copied, zeroed};
 ghost use Rattle.registers.specs.Sized.{Sized};
+ghost use Rattle.registers.specs.Past.{Past};
 ghost use Rattle.transfers.specs.Acts.{state};
 ghost use Rattle.checking.specs.Steps.{objectRegister};
 ghost use Rattle.checking.specs.Checking.{checked};
-ghost use Rattle.carrying.specs.Steps.{machine, registersOf, machineOf, withObject, performedStep};
+ghost use Rattle.carrying.specs.Steps.{registersOf, machineOf, withObject, performedStep};
 ghost use Rattle.carrying.specs.Carrying.{started, performed};
 ghost use Rattle.carrying.specs.Machines.{Accepted, Formed};
-use super::Performed;
 use super::Stepped;
 use super::moving;
 use counts::Counts;
 use registers::MatrixType;
-use registers::Registers;
 use sheet::Object;
 use sheet::Sheet;
 use sheet::Step;
@@ -29,17 +28,20 @@ use sheet::sizes::PLACES;
 use sheet::sizes::REGISTERS;
 
 // A register made equal to another, type and elements. The answer is the types.
-fn copy_register(
+pub fn copy_register(
     types: [MatrixType; REGISTERS],
     elements: &mut [u32; ELEMENTS],
     register: u8,
     object: u8,
 ) -> [MatrixType; REGISTERS]
     requires { ⌜ (register < registerCount) × (object < registerCount) ⌝ }
+    requires { ⌜ Sized types × Past types (now elements) × (length (now elements) ≡ elementPlaces) ⌝ }
     ensures { λ r. ⌜ registersOf r (now (elements .exit)) ≡ copied (registersOf types (now (elements .entry))) register object ⌝ }
 {
-    registers::copy_elements(elements, register, object);
+    let old = registers::element_count(registers::the_type(types, register));
     let t = registers::the_type(types, object);
+    let count = registers::element_count(t);
+    registers::copy_elements(elements, register, object, count, old);
     registers::with_type(types, register, t)
 }
 
@@ -65,7 +67,8 @@ fn with_object(
     register: u8,
     object: Object,
 ) -> [MatrixType; REGISTERS]
-    requires { ⌜ (register < registerCount) × (objectRegister register object < registerCount) × Sized types ⌝ }
+    requires { ⌜ (register < registerCount) × (objectRegister register object < registerCount) ⌝ }
+    requires { ⌜ Sized types × Past types (now elements) × (length (now elements) ≡ elementPlaces) ⌝ }
     ensures { λ r. ⌜ registersOf r (now (elements .exit)) ≡ withObject register object (registersOf types (now (elements .entry))) ⌝ }
 {
     match object {
@@ -129,7 +132,7 @@ fn perform_step(
             }
         }
         Step::Whole(whole) => {
-            let after = whole_steps::perform_whole(types, elements, memory, whole);
+            let after = whole_steps::perform_whole(entries, types, elements, memory, whole);
             Stepped {
                 types: after,
                 counts,
@@ -139,16 +142,15 @@ fn perform_step(
 }
 
 // The steps in order, from empty registers and the lent memory.
-pub fn perform(sheet: Sheet, memory: &mut [u8]) -> Performed
+pub fn perform(sheet: Sheet, memory: &mut [u8], elements: &mut [u32; ELEMENTS]) -> Stepped
+    requires { ⌜ now elements ≡ emptyRegisters .elements ⌝ }
     requires { ⌜ Within sheet × (length (now memory) ≤ memoryLimit) × (checked sheet (length (now memory)) .refusal .number ≡ 0) ⌝ }
-    ensures { λ r. ⌜ machine (r .registers) (now (memory .exit)) (r .counts) ≡ performed sheet (started (now (memory .entry))) ⌝ }
+    ensures { λ r. ⌜ machineOf (r .types) (state (now (elements .exit)) (now (memory .exit)) (r .counts)) ≡ performed sheet (started (now (memory .entry))) ⌝ }
 {
     let tensors = sheet.tensors;
     let steps = sheet.steps;
-    let empty = registers::empty_registers();
     let mut entries = accesses::no_entries();
-    let mut types = empty.types;
-    let mut elements = empty.elements;
+    let mut types = registers::empty_types();
     let mut counts = counts::no_counts();
     let mut k: usize = 0;
     while k < steps {
@@ -158,7 +160,7 @@ pub fn perform(sheet: Sheet, memory: &mut [u8]) -> Performed
             &mut entries,
             tensors,
             types,
-            &mut elements,
+            elements,
             memory,
             step,
             counts,
@@ -168,8 +170,5 @@ pub fn perform(sheet: Sheet, memory: &mut [u8]) -> Performed
         counts = done.counts;
         k += 1;
     }
-    Performed {
-        registers: Registers { types, elements },
-        counts,
-    }
+    Stepped { types, counts }
 }

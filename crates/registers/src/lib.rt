@@ -21,7 +21,7 @@ pub struct MatrixType {
 }
 
 // Register r's element number e stands at place PLACES * r + e. Places past a register's matrix are 0, so equal registers are
-// equal structs.
+// equal structs. Jobs lend the elements and return the types.
 pub struct Registers {
     pub types: [MatrixType; REGISTERS],
     pub elements: [u32; ELEMENTS],
@@ -37,13 +37,18 @@ pub fn no_type() -> MatrixType
     }
 }
 
-pub fn empty_registers() -> Registers
-    ensures { λ r. ⌜ r ≡ emptyRegisters ⌝ }
+// The types of empty registers.
+pub fn empty_types() -> [MatrixType; REGISTERS]
+    ensures { λ r. ⌜ r ≡ emptyRegisters .types ⌝ }
 {
-    Registers {
-        types: [no_type(); REGISTERS],
-        elements: [0u32; ELEMENTS],
-    }
+    [no_type(); REGISTERS]
+}
+
+// The elements of empty registers: one array of zeros.
+pub fn empty_elements(elements: &mut [u32; ELEMENTS])
+    ensures { λ _. ⌜ now (elements .exit) ≡ emptyRegisters .elements ⌝ }
+{
+    *elements = [0u32; ELEMENTS];
 }
 
 pub fn is_empty(t: MatrixType) -> bool

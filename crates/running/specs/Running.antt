@@ -15,8 +15,7 @@ use Rattle.registers.specs.Registers.{emptyRegisters}
 use Rattle.refusals.specs.Refusals.{memoryTooLarge, refusalAt, notRefused}
 use Rattle.counts.specs.Counts.{noCounts}
 use Rattle.carrying.specs.Steps.{Machine}
-use Rattle.carrying.specs.Carrying.{started, carryAnswer}
-use Rattle.carrying.specs.declared.CarryAnswer.{CarryAnswer}
+use Rattle.carrying.specs.Carrying.{started, CarriedOut, carryAnswer}
 use Rattle.records.specs.declared.Decoded.{Decoded}
 use Rattle.records.specs.declared.Decoded.the-variants.{Good, Bad}
 use Rattle.judging.specs.Judging.{tapeRecord, tapeRefusal}
@@ -47,7 +46,7 @@ runRefusal s tape records len =
     (refusalAt memoryTooLarge 0 0)
 
 -- refused: empty registers and nothing counted; accepted: what the records leave
-unfoldable pub runTape : List ℕ → List ℤ → ℕ → List ℕ → CarryAnswer
+unfoldable pub runTape : List ℕ → List ℤ → ℕ → List ℕ → CarriedOut
 runTape s tape records memory =
     let r = runRefusal s tape records (length memory) in
     pick (eqb (r .number) 0)

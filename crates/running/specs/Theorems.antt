@@ -28,7 +28,7 @@ use Rattle.carrying.specs.Carrying.{started}
 use Rattle.carrying.specs.Machines.{Formed}
 use Rattle.carrying.specs.Laws.Types.{started-formed}
 use Rattle.carrying.specs.Laws.Fits.{FitMachine, started-fits}
-use Rattle.carrying.specs.declared.CarryAnswer.{CarryAnswer}
+use Rattle.carrying.specs.Carrying.{CarriedOut}
 use Rattle.records.specs.declared.Record.the-variants.{Copy, Take, Put, Fill, Whole}
 use Rattle.records.specs.declared.Decoded.{Decoded}
 use Rattle.records.specs.declared.Decoded.the-variants.{Good, Bad}
@@ -160,7 +160,7 @@ module _ (s : List ℕ) (tape : List ℤ) (records : ℕ) (memory : List ℕ) wh
   pub ran-fits : AreBytes memory → Fit (runTape s tape records memory .registers .types) (runTape s tape records memory .registers .elements)
   unfolding runTape
   ran-fits b =
-      pick-case (λ (r : CarryAnswer). Fit (r .registers .types) (r .registers .elements)) (eqb (runRefusal s tape records (length memory) .number) 0) _ _
+      pick-case (λ (r : CarriedOut). Fit (r .registers .types) (r .registers .elements)) (eqb (runRefusal s tape records (length memory) .number) 0) _ _
       (λ e. accepted-fits b (eqb-true _ 0 e) .fit) (λ e. fit-empty)
 
   -- Memory of bytes stays so.

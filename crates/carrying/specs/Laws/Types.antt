@@ -3,7 +3,7 @@ use mathlib.Core.Path.{_≡_, refl, sym, ap, _∙_}
 use mathlib.Core.Bool.{true}
 use mathlib.Core.List.{List}
 use Prim.Native.Nat.{ℕ, zero, suc, _+_, _*_, _<_, _≤_}
-use native.Mathlib.Nat.{zero-add, add-zero, not-suc-le-zero}
+use native.Mathlib.Nat.{zero-add, add-zero, le-refl, not-suc-le-zero}
 use native.Mathlib.Omega.{arith}
 use lib.ListN.{length, length-replicate}
 use lib.Seq.{set-getD, getD-set-same}
@@ -16,21 +16,28 @@ use Rattle.sheet.specs.declared.Tensors.{Tensors}
 use Rattle.sheet.specs.declared.Sheet.{Sheet}
 use Rattle.sheet.specs.declared.Step.{Step}
 use Rattle.sheet.specs.declared.Step.the-variants.{Nothing, Load, Store, Whole}
+use Rattle.sheet.specs.declared.WholeStep.{WholeStep}
 use Rattle.sheet_ranges.specs.Laws.Within.{Within}
 use Rattle.registers.specs.Types.{noType, theType, withType}
 use Rattle.registers.specs.Registers.{placeOf, elementOf, emptyRegisters}
 use Rattle.registers.specs.declared.Registers.{Registers}
-use Rattle.registers.specs.Laws.Sized.{sized-empty}
-use Rattle.whole_steps.specs.Whole.{wholeResult}
+use Rattle.registers.specs.Past.{Past}
+use Rattle.registers.specs.Laws.Sized.{sized-with, sized-empty}
+use Rattle.registers.specs.Laws.Past.{past-empty, past-zeroed, past-copied, past-made}
+use Rattle.whole_steps.specs.Whole.{wholeResult, wholeType}
+use Rattle.whole_steps.specs.Within.{WholeOk}
+use Rattle.whole_steps.specs.Laws.Within.{whole-ok, sized-type}
 use Rattle.transfers.specs.Acts.{State}
 use Rattle.transfers.specs.Laws.Elements.{loaded-memory, stored-elements, stored-length}
 use Rattle.transfers.specs.Laws.Effects.{transferred-keeps, loaded-places}
-use Rattle.checking.specs.Steps.{objectRegister, stepTypes}
+use Rattle.transfers.specs.Laws.Fits.{load-past}
+use Rattle.checking.specs.Steps.{objectRegister, stepTypes, accessOf}
+use Rattle.checking.specs.Laws.Names.{load-object}
 use Rattle.checking.specs.Checking.{checkedFrom, checked}
 use Rattle.checking.specs.declared.CheckAnswer.{CheckAnswer}
 use Rattle.checking.specs.Laws.Steps.{check-types, check-sized, check-registers}
 use Rattle.checking.specs.Laws.Turns.{typesFrom, first-clear, rest-clear, within-step}
-use Rattle.carrying.specs.Steps.{Machine, stateOf, withObject, objectDone, loadDone, storeDone, performedStep}
+use Rattle.carrying.specs.Steps.{Machine, stateOf, withObject, objectDone, loadDone, storeDone, wholeStepDone, performedStep}
 use Rattle.carrying.specs.Carrying.{performedFrom, performed, started}
 use Rattle.carrying.specs.Machines.{checkOn, Accepted, stepOn, AcceptedStep, Formed}
 
@@ -99,7 +106,35 @@ step-places tensors (Whole whole) m = length-line (m .registers .elements) (plac
 pub started-formed : (memory : List ℕ) → Formed (started memory)
 unfolding emptyRegisters
 started-formed memory =
-    record { registers = length-replicate registerCount noType; sized = sized-empty; places = length-replicate {A = ℕ} elementPlaces 0 }
+    record { registers = length-replicate registerCount noType; sized = sized-empty; places = length-replicate {A = ℕ} elementPlaces 0; past = past-empty }
+
+-- A load's object, and a step, leave 0 past each matrix.
+object-past : (register : ℕ) (object : Object) (m : Machine) → objectRegister register object < registerCount → Formed m
+    → Past (objectDone register object m .registers .types) (objectDone register object m .registers .elements)
+unfolding withObject
+object-past register Kept m l f = f .past
+object-past register Zeros m l f = past-zeroed (m .registers) register (f .sized) (f .past)
+object-past register (Register object) m l f = past-copied (m .registers .types) (m .registers .elements) (f .registers) (f .places) (f .past) register object l
+
+pub whole-past : (whole : WholeStep) (m : Machine) → WholeOk whole → Formed m → Past (wholeStepDone whole m .registers .types) (wholeStepDone whole m .registers .elements)
+whole-past whole m ok f =
+    past-made (m .registers .types) (m .registers .elements) (f .registers) (f .places) (f .past) (wholeResult whole) (wholeType (m .registers .types) whole) _
+    (sized-type (m .registers .types) whole (f .sized) (ok .parts))
+
+step-past : (tensors : Tensors) (step : Step) (m : Machine) (edition layouts views : ℕ) → stepOk edition layouts views step ≡ true → Formed m
+    → Past (performedStep tensors step m .registers .types) (performedStep tensors step m .registers .elements)
+unfolding performedStep loadDone storeDone
+step-past tensors Nothing m edition layouts views ok f = f .past
+step-past tensors (Load register object window) m edition layouts views ok f =
+    let given = objectDone register object m in
+    let t = theType (given .registers .types) register in
+    load-past (given .registers .types)
+    (rw (object-types register object m) (sized-with _ register _ (f .sized) (f .sized .each (objectRegister register object))))
+    (accessOf tensors true window t (length (m .memory))) register (le-refl _) (stateOf given)
+    (object-past register object m (load-object _ _ _ _ _ _ ok) f)
+step-past tensors (Store register window) m edition layouts views ok f =
+    rw (transferred-keeps (λ (s : State). s .elements) _ (stored-elements _ register) _ _ (stateOf m)) (f .past)
+step-past tensors (Whole whole) m edition layouts views ok f = whole-past whole m (whole-ok edition whole ok) f
 
 pub step-formed : (edition : ℕ) (tensors : Tensors) (step : Step) (m : Machine) (edition′ layouts views : ℕ)
     → stepOk edition′ layouts views step ≡ true → Accepted edition tensors step m → Formed m → Formed (performedStep tensors step m)
@@ -109,6 +144,7 @@ step-formed edition tensors step m edition′ layouts views ok a f =
       registers = ap length types ∙ check-registers edition tensors (m .registers .types) (length (m .memory)) step ∙ f .registers;
       sized = rw types (check-sized edition tensors (m .registers .types) (length (m .memory)) step edition′ layouts views ok (f .sized));
       places = step-places tensors step m ∙ f .places;
+      past = step-past tensors step m edition′ layouts views ok f;
     }
 
 -- the check of n steps more, the next of which is number k, on a machine, from a count

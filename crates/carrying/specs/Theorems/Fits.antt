@@ -12,9 +12,8 @@ use Rattle.registers.specs.Fits.{Fit}
 use Rattle.registers.specs.Laws.Fits.{fit-empty}
 use Rattle.checking.specs.Checking.{checkedSheet}
 use Rattle.checking.specs.Laws.Readable.{sheet-readable}
-use Rattle.carrying.specs.Carrying.{performed, started, carried, carriedMemory}
+use Rattle.carrying.specs.Carrying.{performed, started, CarriedOut, carried, carriedMemory}
 use Rattle.carrying.specs.Laws.Fits.{FitMachine, sheet-fits}
-use Rattle.carrying.specs.declared.CarryAnswer.{CarryAnswer}
 
 module _ (s memory : List ℕ) (b : AreBytes memory) where
   -- what an accepted sheet leaves
@@ -27,7 +26,7 @@ module _ (s memory : List ℕ) (b : AreBytes memory) where
   pub carried-fits : Fit (carried s memory .registers .types) (carried s memory .registers .elements)
   unfolding carried
   carried-fits =
-      pick-case (λ (r : CarryAnswer). Fit (r .registers .types) (r .registers .elements)) (eqb (checkedSheet s (length memory) .refusal .number) 0) _ _
+      pick-case (λ (r : CarriedOut). Fit (r .registers .types) (r .registers .elements)) (eqb (checkedSheet s (length memory) .refusal .number) 0) _ _
       (λ e. accepted-fits (eqb-true _ 0 e) .fit) (λ e. fit-empty)
 
   -- Memory of bytes stays so.

@@ -51,7 +51,7 @@ use Rattle.checking.specs.Laws.Readable.{sheet-readable}
 use Rattle.carrying.specs.Theorems.Counts.{sheet-count}
 use Rattle.checking.specs.declared.StepCheck.{StepCheck}
 use Rattle.checking.specs.declared.CheckAnswer.{CheckAnswer}
-use Rattle.carrying.specs.declared.CarryAnswer.{CarryAnswer}
+use Rattle.carrying.specs.Carrying.{CarriedOut}
 use Rattle.dividing.specs.Dividing.{counted}
 use Rattle.dividing.specs.Laws.Few.{divisions-few}
 use Rattle.dividing.specs.Theorems.{five-each}
@@ -214,7 +214,7 @@ pub carried-small : (s memory : List ℕ) → Small (carried s memory .refusal) 
 unfolding carried
 carried-small s memory =
     let c = check-small s (length memory) in
-    pick-case (λ (r : CarryAnswer). Small (r .refusal) (r .counts .placed)) (eqb (checkedSheet s (length memory) .refusal .number) 0) _ _
+    pick-case (λ (r : CarriedOut). Small (r .refusal) (r .counts .placed)) (eqb (checkedSheet s (length memory) .refusal .number) 0) _ _
     (λ e. (omega arith, omega arith, rw (carried-count s memory (eqb-true _ 0 e)) (c .2))) (λ e. (c .0, c .1, omega arith))
 
 -- ---- divisions
@@ -285,7 +285,7 @@ module _ (s : List ℕ) (tape : List ℤ) (records : ℕ) where
   unfolding runTape
   run-small memory =
       let c = refusal-small (length memory) in
-      pick-case (λ (r : CarryAnswer). Small (r .refusal) (r .counts .placed)) (eqb (runRefusal s tape records (length memory) .number) 0) _ _
+      pick-case (λ (r : CarriedOut). Small (r .refusal) (r .counts .placed)) (eqb (runRefusal s tape records (length memory) .number) 0) _ _
       (λ e. (omega arith, omega arith, ran-small memory (eqb-true _ 0 e))) (λ e. (c .0, c .1, omega arith))
 
 -- ---- explaining

@@ -18,6 +18,8 @@ use Rattle.registers.specs.Registers.{placeOf}
 use Rattle.registers.specs.Sized.{Sized}
 use Rattle.registers.specs.Laws.Sized.{sized-places}
 use Rattle.registers.specs.Fits.{Fit}
+use Rattle.registers.specs.Past.{Past}
+use Rattle.registers.specs.Laws.Past.{past-put}
 use Rattle.registers.specs.Laws.Fits.{fit-put}
 use Rattle.registers.specs.declared.MatrixType.{MatrixType}
 use Rattle.addressing.specs.declared.Access.{Access}
@@ -86,6 +88,20 @@ module _ (ts : List MatrixType) where
   load-fits z a register r e n s f =
       transferred-holds (Fits ts) (loaded (a .size) register) (outcomeOf a) (elementsOf a)
       (λ k l s q. loaded-fits z (a .size) register k e r (omega arith) (outcomeOf a k) (λ bits o. filled-fits a k o) s q) s f
+
+  loaded-past : Sized ts → (size register k : ℕ) → k < theType ts register .rows * theType ts register .columns → (o : Outcome) (s : State) → Past ts (s .elements)
+      → Past ts (loaded size register k o s .elements)
+  loaded-past z size register k l Skipped s w = w
+  loaded-past z size register k l (Filled bits) s w = past-put ts (s .elements) register k bits z l w
+  loaded-past z size register k l Discarded s w = w
+  loaded-past z size register k l (Placed byte) s w = past-put ts (s .elements) register k _ z l w
+
+  -- they leave the places past the matrix
+  pub load-past : Sized ts → (a : Access) (register : ℕ) → elementsOf a ≤ theType ts register .rows * theType ts register .columns → (s : State)
+      → Past ts (s .elements) → Past ts (loadedElements a register s .elements)
+  load-past z a register n s w =
+      transferred-holds (λ (s : State). Past ts (s .elements)) (loaded (a .size) register) (outcomeOf a) (elementsOf a)
+      (λ k l s q. loaded-past z (a .size) register k (omega arith) (outcomeOf a k) s q) s w
 
   -- and of a store
   pub store-fits : (a : Access) (register : ℕ) (s : State) → Fits ts s → Fits ts (storedElements a register s)

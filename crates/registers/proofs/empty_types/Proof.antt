@@ -1,7 +1,7 @@
 use borrow.Author.Needs.{needs}
 use Rattle.registers.specs.Registers.{emptyRegisters}
-use Rattle.registers.proofs.empty_registers.Statement.{statement}
-use Rattle.registers.proofs.empty_registers.Tie as tie
+use Rattle.registers.proofs.empty_types.Statement.{statement}
+use Rattle.registers.proofs.empty_types.Tie as tie
 
 no-type-requires : tie.Need-no-type-requires
 no-type-requires c κs = search needs
@@ -10,5 +10,5 @@ returns : tie.Need-returns
 unfolding emptyRegisters
 returns c = rw (c .no-type .ensures)
 
-pub empty-registers-spec : {M : Type 1} → statement M
-empty-registers-spec = tie.close (tie.spec no-type-requires returns)
+pub empty-types-spec : {M : Type 1} → statement M
+empty-types-spec = tie.close (tie.spec no-type-requires returns)
