@@ -51,11 +51,9 @@ pub fn put_answer(answer: &mut [u32; ANSWER], refusal: Refusal, count: usize) ->
     number
 }
 
-pub fn put_registers(types: &mut [u8; TYPES], elements: &mut [u32; ELEMENTS], registers: Registers)
-    ensures { λ _. ⌜ now (types .exit) ≡ typesRow (registers .types) ⌝ }
-    ensures { λ _. ⌜ now (elements .exit) ≡ registers .elements ⌝ }
+pub fn put_types(types: &mut [u8; TYPES], all: [MatrixType; REGISTERS])
+    ensures { λ _. ⌜ now (types .exit) ≡ typesRow all ⌝ }
 {
-    let all = registers.types;
     let a = all[0];
     let b = all[1];
     let c = all[2];

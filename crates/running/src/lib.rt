@@ -3,14 +3,16 @@ ghost use mathlib.Core.Path.{_≡_};
 ghost use mathlib.Core.Bool.{true};
 ghost use Prim.Native.Nat.{ℕ, _+_, _*_, _<_, _≤_, _^_};
 ghost use lib.ListN.{length};
-ghost use Rattle.sheet.specs.Sizes.{recordPlaces};
+ghost use Rattle.sheet.specs.Sizes.{matrixPlaces, elementPlaces, recordPlaces};
 ghost use Rattle.sheet_ranges.specs.Laws.Within.{Within};
 ghost use Rattle.sheet.specs.declared.Tensors.{Tensors};
+ghost use Rattle.registers.specs.Registers.{emptyRegisters};
 ghost use Rattle.registers.specs.Sized.{Sized};
+ghost use Rattle.registers.specs.Past.{Past};
 ghost use Rattle.counts.specs.declared.Counts.{Counts};
 ghost use Rattle.transfers.specs.Acts.{state};
-ghost use Rattle.carrying.specs.Steps.{machine, machineOf, performedStep};
-ghost use Rattle.carrying.specs.Carrying.{started};
+ghost use Rattle.carrying.specs.Steps.{machineOf, performedStep};
+ghost use Rattle.carrying.specs.Carrying.{started, answerWith};
 ghost use Rattle.records.specs.Records.{recordLength};
 ghost use Rattle.records.specs.Ranges.{GoodInRange};
 ghost use Rattle.records.specs.declared.Decoded.the-variants.{Good};
@@ -20,28 +22,30 @@ ghost use Rattle.judging.specs.Laws.Named.{Placed};
 ghost use Rattle.running.specs.Records.{ranRecordWith};
 ghost use Rattle.running.specs.Running.{ranDecodedWith, ran, runTape, ranMemory};
 use carrying::CarryAnswer;
-use carrying::Performed;
 use carrying::Stepped;
 use counts::Counts;
 use records::Decoded;
 use records::Record;
 use refusals::MEMORY_TOO_LARGE;
 use registers::MatrixType;
-use registers::Registers;
 use sheet::Sheet;
 use sheet::Step;
 use sheet::sizes::ELEMENTS;
 use sheet::sizes::MEMORY_LIMIT;
+use sheet::sizes::PLACES;
 use sheet::sizes::REGISTERS;
 
 // A whole step. The answer is the types.
 fn perform_named(
+    block: &mut [u32; PLACES],
     types: [MatrixType; REGISTERS],
     elements: &mut [u32; ELEMENTS],
     memory: &[u8],
     step: Step,
 ) -> [MatrixType; REGISTERS]
     requires { ⌜ Sized types × ((edition : ℕ) × Placed edition step × (wholeClear edition types (length (now memory)) step ≡ true)) ⌝ }
+    requires { ⌜ Past types (now elements) × (length (now elements) ≡ elementPlaces) × (length (now block) ≡ matrixPlaces) ⌝ }
+    ensures { λ _. ⌜ length (now (block .exit)) ≡ matrixPlaces ⌝ }
     ensures { λ r. ⌜ ((tensors : Tensors) (c : Counts) → machineOf r (state (now (elements .exit)) (now (memory .entry)) c) ≡ performedStep tensors step (machineOf types (state (now (elements .entry)) (now (memory .entry)) c))) ⌝ }
 {
     match step {
@@ -55,12 +59,13 @@ fn perform_named(
             register: _,
             window: _,
         } => types,
-        Step::Whole(whole) => whole_steps::perform_whole(types, elements, memory, whole),
+        Step::Whole(whole) => whole_steps::perform_whole(block, types, elements, memory, whole),
     }
 }
 
 // The sheet is not passed for each record: the step that the record names stands for it.
 fn run_record(
+    block: &mut [u32; PLACES],
     types: [MatrixType; REGISTERS],
     elements: &mut [u32; ELEMENTS],
     memory: &mut [u8],
@@ -70,14 +75,15 @@ fn run_record(
 ) -> Stepped
     requires { ⌜ Sized types × GoodInRange (Good r) × (counted .placed < 2 ^ 31) ⌝ }
     requires { ⌜ ((edition steps : ℕ) × Placed edition named × (recordOkWith edition steps types (length (now memory)) named r ≡ true)) ⌝ }
+    requires { ⌜ Past types (now elements) × (length (now elements) ≡ elementPlaces) × (length (now block) ≡ matrixPlaces) ⌝ }
+    ensures { λ _. ⌜ length (now (block .exit)) ≡ matrixPlaces ⌝ }
     ensures { λ p. ⌜ ((tensors : Tensors) → machineOf (p .types) (state (now (elements .exit)) (now (memory .exit)) (p .counts)) ≡ ranRecordWith tensors named r (machineOf types (state (now (elements .entry)) (now (memory .entry)) counted))) ⌝ }
 {
     match r {
         Record::Copy { register, object } => {
-            let t = registers::the_type(types, object);
-            registers::copy_elements(elements, register, object);
+            let after = carrying::performing::copy_register(types, elements, register, object);
             Stepped {
-                types: registers::with_type(types, register, t),
+                types: after,
                 counts: counted,
             }
         }
@@ -142,7 +148,7 @@ fn run_record(
             }
         }
         Record::Whole { step: _ } => {
-            let after = perform_named(types, elements, memory, named);
+            let after = perform_named(block, types, elements, memory, named);
             Stepped {
                 types: after,
                 counts: counted,
@@ -152,6 +158,7 @@ fn run_record(
 }
 
 fn run_decoded(
+    block: &mut [u32; PLACES],
     types: [MatrixType; REGISTERS],
     elements: &mut [u32; ELEMENTS],
     memory: &mut [u8],
@@ -161,10 +168,12 @@ fn run_decoded(
 ) -> Stepped
     requires { ⌜ Sized types × GoodInRange d × (counted .placed < 2 ^ 31) ⌝ }
     requires { ⌜ ((edition steps : ℕ) × Placed edition named × (decodedOkWith edition steps types (length (now memory)) named d ≡ true)) ⌝ }
+    requires { ⌜ Past types (now elements) × (length (now elements) ≡ elementPlaces) × (length (now block) ≡ matrixPlaces) ⌝ }
+    ensures { λ _. ⌜ length (now (block .exit)) ≡ matrixPlaces ⌝ }
     ensures { λ p. ⌜ ((tensors : Tensors) → machineOf (p .types) (state (now (elements .exit)) (now (memory .exit)) (p .counts)) ≡ ranDecodedWith tensors named d (machineOf types (state (now (elements .entry)) (now (memory .entry)) counted))) ⌝ }
 {
     match d {
-        Decoded::Good(r) => run_record(types, elements, memory, named, r, counted),
+        Decoded::Good(r) => run_record(block, types, elements, memory, named, r, counted),
         Decoded::Bad => Stepped {
             types,
             counts: counted,
@@ -173,15 +182,21 @@ fn run_decoded(
 }
 
 // The records in order, from empty registers and the lent memory.
-fn run_records(sheet: Sheet, tape: &[i32], records: usize, memory: &mut [u8]) -> Performed
+fn run_records(
+    sheet: Sheet,
+    tape: &[i32],
+    records: usize,
+    memory: &mut [u8],
+    elements: &mut [u32; ELEMENTS],
+) -> Stepped
+    requires { ⌜ now elements ≡ emptyRegisters .elements ⌝ }
     requires { ⌜ Within sheet × (records ≤ recordPlaces) × (records * recordLength ≤ length (now tape)) ⌝ }
     requires { ⌜ rangeRefusal records sheet (length (now memory)) (tapeRecord (now tape)) .number ≡ 0 ⌝ }
-    ensures { λ r. ⌜ machine (r .registers) (now (memory .exit)) (r .counts) ≡ ran records sheet (tapeRecord (now (tape .entry))) (started (now (memory .entry))) ⌝ }
+    ensures { λ r. ⌜ machineOf (r .types) (state (now (elements .exit)) (now (memory .exit)) (r .counts)) ≡ ran records sheet (tapeRecord (now (tape .entry))) (started (now (memory .entry))) ⌝ }
 {
-    let empty = registers::empty_registers();
     let steps = sheet.steps;
-    let mut types = empty.types;
-    let mut elements = empty.elements;
+    let mut block = accesses::no_entries();
+    let mut types = registers::empty_types();
     let mut counts = counts::no_counts();
     let mut k: usize = 0;
     while k < records {
@@ -189,23 +204,35 @@ fn run_records(sheet: Sheet, tape: &[i32], records: usize, memory: &mut [u8]) ->
         let at = judging::place_named(steps, d);
         let c = sheet.step[at];
         let named = c.step;
-        let done = run_decoded(types, &mut elements, memory, named, d, counts);
+        let done = run_decoded(
+            &mut block,
+            types,
+            elements,
+            memory,
+            named,
+            d,
+            counts,
+        );
         let after = done.types;
         types = after;
         counts = done.counts;
         k += 1;
     }
-    Performed {
-        registers: Registers { types, elements },
-        counts,
-    }
+    Stepped { types, counts }
 }
 
-// Runs a tape with its sheet on the lent memory. Refused: memory is unchanged and the registers are empty.
-pub fn run_tape(sheet: &[u8], tape: &[i32], records: usize, memory: &mut [u8]) -> CarryAnswer
-    ensures { λ r. ⌜ r ≡ runTape (now (sheet .entry)) (now (tape .entry)) records (now (memory .entry)) ⌝ }
+// Runs a tape with its sheet on the lent memory, with the registers' elements in the lent array. Refused: memory is unchanged and the registers are empty.
+pub fn run_tape(
+    sheet: &[u8],
+    tape: &[i32],
+    records: usize,
+    memory: &mut [u8],
+    elements: &mut [u32; ELEMENTS],
+) -> CarryAnswer
+    ensures { λ r. ⌜ answerWith r (now (elements .exit)) ≡ runTape (now (sheet .entry)) (now (tape .entry)) records (now (memory .entry)) ⌝ }
     ensures { λ _. ⌜ now (memory .exit) ≡ ranMemory (now (sheet .entry)) (now (tape .entry)) records (now (memory .entry)) ⌝ }
 {
+    registers::empty_elements(elements);
     if MEMORY_LIMIT < memory.len() {
         return carrying::carry_refused(refusals::refusal_at(MEMORY_TOO_LARGE, 0, 0));
     }
@@ -219,12 +246,12 @@ pub fn run_tape(sheet: &[u8], tape: &[i32], records: usize, memory: &mut [u8]) -
     if 0 < refused.number {
         return carrying::carry_refused(refused);
     }
-    let done = run_records(model, tape, records, memory);
-    let registers = done.registers;
+    let done = run_records(model, tape, records, memory, elements);
+    let types = done.types;
     let counts = done.counts;
     CarryAnswer {
         refusal: refusals::not_refused(),
         counts,
-        registers,
+        types,
     }
 }

@@ -1,6 +1,6 @@
 -- Types: performing a step leaves the types that the check tracks, and keeps memory's length and the registers' places.
-use mathlib.Core.Path.{_≡_, refl, sym, ap, _∙_}
-use mathlib.Core.Bool.{true}
+use mathlib.Core.Path.{_≡_, refl, sym, ap, subst, _∙_}
+use mathlib.Core.Bool.{true, false}
 use mathlib.Core.List.{List}
 use Prim.Native.Nat.{ℕ, zero, suc, _+_, _*_, _<_, _≤_}
 use native.Mathlib.Nat.{zero-add, add-zero, le-refl, not-suc-le-zero}
@@ -133,7 +133,8 @@ step-past tensors (Load register object window) m edition layouts views ok f =
     (accessOf tensors true window t (length (m .memory))) register (le-refl _) (stateOf given)
     (object-past register object m (load-object _ _ _ _ _ _ ok) f)
 step-past tensors (Store register window) m edition layouts views ok f =
-    rw (transferred-keeps (λ (s : State). s .elements) _ (stored-elements _ register) _ _ (stateOf m)) (f .past)
+    let x = accessOf tensors false window (theType (m .registers .types) register) (length (m .memory)) in
+    subst (Past (m .registers .types)) (sym (transferred-keeps (λ (s : State). s .elements) _ (stored-elements (x .size) register) _ _ (stateOf m))) (f .past)
 step-past tensors (Whole whole) m edition layouts views ok f = whole-past whole m (whole-ok edition whole ok) f
 
 pub step-formed : (edition : ℕ) (tensors : Tensors) (step : Step) (m : Machine) (edition′ layouts views : ℕ)

@@ -1,10 +1,10 @@
 -- What a record in range keeps.
-use Prim.Native.Nat.{ℕ, _+_, _≤_}
+use Prim.Native.Nat.{ℕ, _+_, _*_, _<_, _≤_}
 use mathlib.Core.Path.{_≡_, refl, ap, _∙_}
 use mathlib.Core.Bool.{true}
 use native.Mathlib.Omega.{arith}
 use mathlib.Core.List.{List}
-use borrow.Author.Tests.{lt-ltb}
+use borrow.Author.Tests.{lt-ltb, leb-true, not-true}
 use lib.ListN.{length, length-set}
 use Rattle.numbers.specs.Choice.{pick}
 use Rattle.registers.specs.declared.MatrixType.{MatrixType}
@@ -18,10 +18,14 @@ use Rattle.registers.specs.Types.{theType}
 use Rattle.sheet.specs.Sizes.{matrixPlaces}
 use Rattle.registers.specs.Registers.{placeOf, elementOf}
 use Rattle.registers.specs.Sized.{Sized}
+use Rattle.registers.specs.Past.{Past}
+use Rattle.registers.specs.Laws.Types.{filled-given}
+use Rattle.registers.specs.Laws.Past.{past-put, past-copied}
+use Rattle.numbers.specs.Laws.Orders.{in-order-keeps}
 use Rattle.transfers.specs.Acts.{State}
 use Rattle.carrying.specs.Steps.{Machine, performedStep, stateOf}
 use Rattle.carrying.specs.Machines.{Formed}
-use Rattle.carrying.specs.Laws.Types.{step-places}
+use Rattle.carrying.specs.Laws.Types.{step-places, whole-past}
 use Rattle.records.specs.declared.Record.{Record}
 use Rattle.records.specs.declared.Record.the-variants.{Copy, Take, Put, Fill, Whole}
 use Rattle.records.specs.declared.Decoded.{Decoded}
@@ -29,7 +33,7 @@ use Rattle.records.specs.declared.Decoded.the-variants.{Good, Bad}
 use Rattle.judging.specs.Records.{recordOk, recordTypes, elementsOk, stepPlace}
 use Rattle.judging.specs.Judging.{placeNamed, decodedOk, decodedTypes}
 use Rattle.judging.specs.Laws.Elements.{elements-fit, bytes-elements, fill-elements}
-use Rattle.judging.specs.Laws.Records.{whole-named, record-sized, record-registers}
+use Rattle.judging.specs.Laws.Records.{whole-named, whole-within, record-sized, record-registers}
 use Rattle.moves.specs.Elements.{taking, putting, filling}
 use Rattle.moves.specs.Laws.Elements.{order-keeps, order-counts}
 use Rattle.running.specs.Records.{ranRecordWith, ranRecord}
@@ -89,6 +93,34 @@ module _ (sh : Sheet) (m : Machine) (len : ℕ) where
       omega (arith, f, n)
   record-count (Whole k) e s = rw (whole-named sh (m .registers .types) len k e .is) (omega arith)
 
+  -- an element of the matrix that a record works on
+  element-inside : (register first count i : ℕ) → elementsOk (theType (m .registers .types) register) first count ≡ true → i < count
+      → first + i < theType (m .registers .types) register .rows * theType (m .registers .types) register .columns
+  element-inside register first count i e l =
+      let n : first + count ≤ theType (m .registers .types) register .rows * theType (m .registers .types) register .columns = leb-true _ _ e in
+      omega arith
+
+  -- a record leaves 0 past each matrix
+  record-past : Within sh → (r : Record) → recordOk sh (m .registers .types) len r ≡ true → Formed m
+      → Past (ranRecord sh r m .registers .types) (ranRecord sh r m .registers .elements)
+  unfolding ranRecordWith performedStep
+  record-past v (Copy register object) e f =
+      past-copied (m .registers .types) (m .registers .elements) (f .registers) (f .places) (f .past) register object
+      (rw (f .registers) at (filled-given (m .registers .types) object (not-true _ e)))
+  record-past v (Take register first count byte up down) e f =
+      let n = bytes-elements _ first count len byte up down e in
+      in-order-keeps (λ (s : State). Past (m .registers .types) (s .elements)) _ count
+      (λ i l s q. past-put (m .registers .types) (s .elements) register (first + i) _ (f .sized) (element-inside register first count i n l) q) (stateOf m) (f .past)
+  record-past v (Put register first count byte up down) e f =
+      in-order-keeps (λ (s : State). Past (m .registers .types) (s .elements)) _ count (λ i l s q. q) (stateOf m) (f .past)
+  record-past v (Fill register first count value) e f =
+      let n = fill-elements _ first count value e in
+      in-order-keeps (λ (s : State). Past (m .registers .types) (s .elements)) _ count
+      (λ i l s q. past-put (m .registers .types) (s .elements) register (first + i) value (f .sized) (element-inside register first count i n l) q) (stateOf m) (f .past)
+  record-past v (Whole k) e f =
+      let n = whole-named sh (m .registers .types) len k e in
+      rw (n .is) (whole-past (n .whole) m (whole-within sh v (m .registers .types) len k n) f)
+
   record-formed : Within sh → (r : Record) → recordOk sh (m .registers .types) len r ≡ true → Formed m → Formed (ranRecord sh r m)
   record-formed w r e f =
       let types = record-types sh r m len e in
@@ -96,6 +128,7 @@ module _ (sh : Sheet) (m : Machine) (len : ℕ) where
         registers = ap length types ∙ record-registers sh (m .registers .types) len r e ∙ f .registers;
         sized = rw types (record-sized sh w (m .registers .types) len r e (f .sized));
         places = record-places r ∙ f .places;
+        past = record-past w r e f;
       }
 
   -- the same of six numbers

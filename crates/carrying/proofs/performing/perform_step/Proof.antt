@@ -21,7 +21,7 @@ with-object-requires : tie.Need-with-object-requires
 with-object-requires c κs =
     let s = c .before .before .before .before .before in
     let ok = rw (c .before .before .step .given .1) at (s .pre .1 .1) in
-    (load-register _ _ _ _ _ _ ok, load-object _ _ _ _ _ _ ok, s .pre .0 .4 .sized)
+    ((load-register _ _ _ _ _ _ ok, load-object _ _ _ _ _ _ ok), (s .pre .0 .4 .sized, s .pre .0 .4 .past, s .pre .0 .4 .places))
 
 perform-load-requires : tie.Need-perform-load-requires
 perform-load-requires c κs =
@@ -57,9 +57,9 @@ enum-known-step-3 c = search needs
 perform-whole-requires : tie.Need-perform-whole-requires
 unfolding checkedStep
 perform-whole-requires c κs =
-    let s = c .before .before .before .before .before .before in
-    let e = c .before .before .before .step3 .given .1 in
-    (whole-ok _ _ (rw e at (s .pre .1 .1)), s .pre .0 .4 .sized, (s .pre .1 .0, rw e at (s .pre .1 .2)))
+    let s = c .before .before .before .before .before .before .before in
+    let e = c .before .before .before .before .step3 .given .1 in
+    ((whole-ok _ _ (rw e at (s .pre .1 .1)), s .pre .0 .4 .sized, (s .pre .1 .0, rw e at (s .pre .1 .2))), (s .pre .0 .4 .past, s .pre .0 .4 .places, s .pre .0 .3))
 
 returns : tie.Need-returns
 unfolding performedStep
@@ -94,9 +94,9 @@ same-length-3 c = search needs
 returns-4 : tie.Need-returns-4
 unfolding performedStep
 returns-4 c =
-    let s = c .before .before .before .before .before .before .before in
+    let s = c .before .before .before .before .before .before .before .before in
     let p = c .perform-whole .ensures in
-    (s .pre .0 .3, rw (c .before .before .before .before .step3 .given .1) (λ i. machine (registersOf (p .0 i) (p .1 i)) (now (s .args .memory)) (s .args .counts)))
+    (p .1 .0, rw (c .before .before .before .before .before .step3 .given .1) (λ i. machine (registersOf (p .0 i) (p .1 .1 i)) (now (s .args .memory)) (s .args .counts)))
 
 pub perform-step-spec : {M : Type 1} → statement M
 perform-step-spec =

@@ -16,7 +16,7 @@ enum-known-object : tie.Need-enum-known-object
 enum-known-object c = search needs
 
 copy-register-requires : tie.Need-copy-register-requires
-copy-register-requires c κs = let s = c .before .before .before .before in (s .pre .0, rw (c .before .before .object .given .1) at (s .pre .1))
+copy-register-requires c κs = let s = c .before .before .before .before in ((s .pre .0 .0, rw (c .before .before .object .given .1) at (s .pre .0 .1)), s .pre .1)
 
 returns : tie.Need-returns
 unfolding withObject
