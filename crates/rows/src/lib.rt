@@ -6,9 +6,9 @@ use outcomes::Explained;
 use outcomes::Outcome;
 use outcomes::Outside;
 use refusals::Refusal;
-use registers::Registers;
+use registers::MatrixType;
 use replaying::Verdict;
-use sheet::sizes::ELEMENTS;
+use sheet::sizes::REGISTERS;
 
 // Numbers of an answer: number, place, second place, count.
 pub const ANSWER: usize = 4;
@@ -76,8 +76,6 @@ pub fn put_types(types: &mut [u8; TYPES], all: [MatrixType; REGISTERS])
         d.columns,
         0,
     ];
-    let held = registers.elements;
-    *elements = held;
 }
 
 pub fn put_verdict(row: &mut [u32; VERDICT], verdict: Verdict)

@@ -195,7 +195,7 @@ fn run_records(
     ensures { λ r. ⌜ machineOf (r .types) (state (now (elements .exit)) (now (memory .exit)) (r .counts)) ≡ ran records sheet (tapeRecord (now (tape .entry))) (started (now (memory .entry))) ⌝ }
 {
     let steps = sheet.steps;
-    let mut block = accesses::no_entries();
+    let mut block = [0u32; PLACES];
     let mut types = registers::empty_types();
     let mut counts = counts::no_counts();
     let mut k: usize = 0;
