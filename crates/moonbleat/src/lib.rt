@@ -125,7 +125,8 @@ pub extern "C" fn moonbleat_carry_out(
     ensures { λ _. ⌜ now (answer .exit) ≡ answerRow (carried (now (sheet .entry)) (now (memory .entry)) .refusal) (carried (now (sheet .entry)) (now (memory .entry)) .counts .placed) ⌝ }
 {
     let done = carrying::carry_out(sheet, memory, elements);
-    rows::put_types(types, done.types);
+    let left = done.types;
+    rows::put_types(types, left);
     rows::put_answer(answer, done.refusal, done.counts.placed)
 }
 
@@ -179,7 +180,8 @@ pub extern "C" fn moonbleat_run(
     ensures { λ _. ⌜ now (answer .exit) ≡ answerRow (runTape (now (sheet .entry)) (now (tape .entry)) records (now (memory .entry)) .refusal) (runTape (now (sheet .entry)) (now (tape .entry)) records (now (memory .entry)) .counts .placed) ⌝ }
 {
     let done = running::run_tape(sheet, tape, records, memory, elements);
-    rows::put_types(types, done.types);
+    let left = done.types;
+    rows::put_types(types, left);
     rows::put_answer(answer, done.refusal, done.counts.placed)
 }
 
