@@ -156,15 +156,7 @@ pub fn perform(sheet: Sheet, memory: &mut [u8], elements: &mut [u32; ELEMENTS]) 
     while k < steps {
         let c = sheet.step[k];
         let step = c.step;
-        let done = perform_step(
-            &mut entries,
-            tensors,
-            types,
-            elements,
-            memory,
-            step,
-            counts,
-        );
+        let done = perform_step(&mut entries, tensors, types, elements, memory, step, counts);
         let after = done.types;
         types = after;
         counts = done.counts;

@@ -42,13 +42,7 @@ fn residues(out: &mut [u32; PLACES], elements: &[u32], source: u8, t: MatrixType
 }
 
 // The values of a row, whose elements stand from a place on.
-fn residue_row(
-    out: &mut [u32; SIDE],
-    elements: &[u32],
-    kind: u8,
-    first: usize,
-    count: usize,
-)
+fn residue_row(out: &mut [u32; SIDE], elements: &[u32], kind: u8, first: usize, count: usize)
     requires { ⌜ (count ≤ sidePlaces) × (first ≤ 2 * elementPlaces) ⌝ }
     ensures { λ _. ⌜ now (out .exit) ≡ line (now (out .entry)) 0 (λ (t : ℕ). remainder (value kind (getD (now (elements .entry)) (first + t) 0)) (2 ^ 32)) count ⌝ }
 {
@@ -90,7 +84,8 @@ fn product_row(
 {
     let mut j = 0;
     while j < n {
-        let sum = dot(x, y, j, n, inner) + wide(kinds::residue(kind, numbers::at(elements, from + j)));
+        let sum = dot(x, y, j, n, inner)
+            + wide(kinds::residue(kind, numbers::at(elements, from + j)));
         out[start + j] = (sum % WRAP) as u32;
         j += 1;
     }

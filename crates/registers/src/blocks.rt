@@ -41,14 +41,7 @@ pub fn spread(
 {
     let mut i = 0;
     while i < rows {
-        spread_row(
-            out,
-            i * columns,
-            from,
-            first + i * down,
-            across,
-            columns,
-        );
+        spread_row(out, i * columns, from, first + i * down, across, columns);
         i += 1;
     }
 }

@@ -204,15 +204,7 @@ fn run_records(
         let at = judging::place_named(steps, d);
         let c = sheet.step[at];
         let named = c.step;
-        let done = run_decoded(
-            &mut block,
-            types,
-            elements,
-            memory,
-            named,
-            d,
-            counts,
-        );
+        let done = run_decoded(&mut block, types, elements, memory, named, d, counts);
         let after = done.types;
         types = after;
         counts = done.counts;

@@ -76,12 +76,7 @@ fn result_at(memory: &[u8], v: VectorStep, components: &[u32; SIDE], row: u16) -
     ((sum + bias) % WRAP) as u32
 }
 
-pub fn result_block(
-    out: &mut [u32; PLACES],
-    memory: &[u8],
-    v: VectorStep,
-    components: &[u32; SIDE],
-)
+pub fn result_block(out: &mut [u32; PLACES], memory: &[u8], v: VectorStep, components: &[u32; SIDE])
     requires { ⌜ (v .rows ≤ sidePlaces) × (v .columns ≤ sidePlaces) × Inside v (length (now memory)) ⌝ }
     ensures { λ _. ⌜ now (out .exit) ≡ blockOn (now (out .entry)) (v .rows) 1 (λ (i j : ℕ). resultAt (now (memory .entry)) v (listed (now (components .entry))) i) ⌝ }
 {

@@ -23,14 +23,14 @@ carry-refused-requires : tie.Need-carry-refused-requires
 carry-refused-requires c κs = search needs
 
 returns : tie.Need-returns
-returns c = 
+returns c =
     let a = c .before .before .before .before .before .before .before .before .before .before .args in
     let u = sym (c .before .before .before .before .before .judge .ensures .0) in
     let n = c .before .if1 .taken in
     (ap₂ answerWith (c .carry-refused .ensures) (c .before .before .before .before .before .before .empty-elements .ensures) ∙ carried-refused (now (a .sheet)) (now (a .memory)) u n, memory-refused (now (a .sheet)) (now (a .memory)) u n)
 
 perform-requires : tie.Need-perform-requires
-perform-requires c κs = 
+perform-requires c κs =
     let j = c .before .before .before .before .before .before .before .judge in
     let a = c .before .before .before .before .before .before .before .before .before .before .before .before .args in
     let z : j .result .answer .refusal .number ≡ 0 = omega (arith, c .before .before .before .if1 .left) in
@@ -44,7 +44,7 @@ same-length : tie.Need-same-length
 same-length c = search needs
 
 returns-2 : tie.Need-returns-2
-returns-2 c = 
+returns-2 c =
     let j = c .before .before .before .before .before .before .before .before .before .before .before .before .before .judge in
     let a = c .before .before .before .before .before .before .before .before .before .before .before .before .before .before .before .before .before .before .args in
     let s = now (a .sheet) in

@@ -24,11 +24,16 @@ returns c =
     let d = c .before .before .before .before .before .before .before .carry-out .ensures in
     let g = c .before .before .put-types .ensures in
     let p = c .put-answer .ensures in
-    let e = d .0 in
-    (p .0 ∙ ap (λ (x : CarriedOut). x .refusal .number) e,
-    (d .1,
-    (g ∙ ap (λ (x : CarriedOut). typesRow (x .registers .types)) e,
-    (ap (λ (x : CarriedOut). x .registers .elements) e, p .1 ∙ ap (λ (x : CarriedOut). answerRow (x .refusal) (x .counts .placed)) e))))
+    let e = d .0 in (
+      p .0 ∙ ap (λ (x : CarriedOut). x .refusal .number) e,
+      (
+        d .1,
+        (
+          g ∙ ap (λ (x : CarriedOut). typesRow (x .registers .types)) e,
+          (ap (λ (x : CarriedOut). x .registers .elements) e, p .1 ∙ ap (λ (x : CarriedOut). answerRow (x .refusal) (x .counts .placed)) e),
+        ),
+      ),
+    )
 
 pub moonbleat-carry-out-spec : {M : Type 1} → statement M
 moonbleat-carry-out-spec =

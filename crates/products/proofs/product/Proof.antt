@@ -12,7 +12,7 @@ use Rattle.products.proofs.product.Statement.{statement}
 use Rattle.products.proofs.product.Tie as tie
 
 abbrev Inv-loop : tie.InvT-loop
-Inv-loop out₀ elements a y c rows columns inner first base kind added row₀ i₀ out row i = 
+Inv-loop out₀ elements a y c rows columns inner first base kind added row₀ i₀ out row i =
     (i ≤ rows) × (length row ≡ sidePlaces) × (out ≡ rowsOf out₀ columns (placedPlus elements kind added first base inner columns y) i)
 
 abbrev μ-loop : tie.MeasureT-loop
@@ -55,7 +55,7 @@ add-product-row : tie.Need-add-product-row Inv-loop μ-loop
 add-product-row c = let a = c .before .before .before .before .before .before .before .before .before .before .before .before .args in omega (arith, sides (c .before .before .before .before .before .loop .i) (a .tc .columns) (omega arith) (omega arith))
 
 product-row-requires : tie.Need-product-row-requires Inv-loop μ-loop
-product-row-requires c κs = 
+product-row-requires c κs =
     let i = c .before .before .before .before .before .loop .i in
     let a = c .before .before .before .before .before .before .before .before .before .before .before .before .args in (
       row-fits i (a .tc .columns) (omega arith) (omega arith),
@@ -71,7 +71,7 @@ loop-less : tie.Need-loop-less Inv-loop μ-loop
 loop-less c = search needs
 
 loop-again : tie.Need-loop-again Inv-loop μ-loop
-loop-again c = 
+loop-again c =
     let i = c .before .before .before .before .before .before .loop in
     let a = c .before .before .before .before .before .before .before .before .before .before .before .before .before .args in
     let e = c .before .before .before .residue-row .ensures in (
@@ -81,7 +81,7 @@ loop-again c =
     )
 
 returns : tie.Need-returns Inv-loop μ-loop
-returns c = 
+returns c =
     let a = c .before .before .before .before .before .before .before .before .args in
     let e : c .before .loop .i ≡ a .tc .rows = omega arith in
     rw e at (c .before .loop .inv .2)

@@ -13,7 +13,7 @@ use Rattle.products.proofs.product_row.Statement.{statement}
 use Rattle.products.proofs.product_row.Tie as tie
 
 abbrev Inv-loop : tie.InvT-loop
-Inv-loop out₀ start x y elements kind from inner n j₀ out j = 
+Inv-loop out₀ start x y elements kind from inner n j₀ out j =
     (j ≤ n) × (out ≡ line out₀ start (λ (k : ℕ). (dotOf (λ (t : ℕ). getD x t 0) (λ (t : ℕ). getD y (k + t * n) 0) inner + remainder (value kind (getD elements (from + k) 0)) (2 ^ 32)) % 2 ^ 32) j)
 
 abbrev μ-loop : tie.MeasureT-loop
@@ -69,7 +69,7 @@ loop-again c = (
 )
 
 returns : tie.Need-returns Inv-loop μ-loop
-returns c = 
+returns c =
     let e : c .before .loop .j ≡ c .before .before .before .args .n = omega arith in
     rw e at (c .before .loop .inv .1)
 

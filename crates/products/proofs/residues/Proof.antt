@@ -57,7 +57,7 @@ loop-again c = (
 
 returns : tie.Need-returns Inv-loop μ-loop
 unfolding residuesOn
-returns c = 
+returns c =
     let a = c .before .before .before .before .before .args in
     let p = c .before .before .place-of in
     let e : c .before .loop .e ≡ a .t .rows * a .t .columns = omega (arith, c .before .before .before .element-count .ensures .0) in

@@ -41,7 +41,7 @@ with-type-requires : tie.Need-with-type-requires
 with-type-requires c κs = search needs
 
 returns : tie.Need-returns
-returns c = 
+returns c =
     let s = c .before .before .before .before .before .before .before .before .before .before .before .before .before in
     let a = s .args in
     let ts = a .types in
@@ -55,11 +55,13 @@ returns c =
     let n = c .before .before .before .before .before .before .before .element-count2 .ensures .0 ∙ ap area u in
     let old = c .before .before .before .before .before .before .before .before .element-count .ensures .0 ∙ ap area (c .before .before .before .before .before .before .before .before .before .the-type .ensures ∙ ap (theType ts) r) in (
       c .with-type .ensures ∙ (λ i. withType ts (r i) (u i)),
-      (ap length b ∙ on-length _ _ _ _ ∙ s .pre .1 .2,
-      c .before .put-block .ensures
-          ∙ (λ i. writtenTo es (r i) (λ (e : ℕ). getD (b i) e 0) (n i) (old i))
-          ∙ block-written ts es (s .pre .0 .1) (s .pre .1 .1) (s .pre .1 .0) (wholeResult (a .step)) (s .pre .0 .0 .result) (now (a .block)) (t .rows) (t .columns)
-          (wholeElement ts es memory (a .step)) (s .pre .1 .2) (sized-places t (sized-type ts (a .step) (s .pre .0 .1) (s .pre .0 .0 .parts)))),
+      (
+        ap length b ∙ on-length _ _ _ _ ∙ s .pre .1 .2,
+        c .before .put-block .ensures
+            ∙ (λ i. writtenTo es (r i) (λ (e : ℕ). getD (b i) e 0) (n i) (old i))
+            ∙ block-written ts es (s .pre .0 .1) (s .pre .1 .1) (s .pre .1 .0) (wholeResult (a .step)) (s .pre .0 .0 .result) (now (a .block)) (t .rows) (t .columns)
+            (wholeElement ts es memory (a .step)) (s .pre .1 .2) (sized-places t (sized-type ts (a .step) (s .pre .0 .1) (s .pre .0 .0 .parts))),
+      ),
     )
 
 pub perform-whole-spec : {M : Type 1} → statement M

@@ -32,7 +32,7 @@ with-type-requires : tie.Need-with-type-requires
 with-type-requires c κs = search needs
 
 returns : tie.Need-returns
-returns c = 
+returns c =
     let s = c .before .before .before .before .before .before .before in
     let a = s .args in
     let es = now (a .elements) in

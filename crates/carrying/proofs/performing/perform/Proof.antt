@@ -16,7 +16,7 @@ use Rattle.carrying.proofs.performing.perform.Statement.{statement}
 use Rattle.carrying.proofs.performing.perform.Tie as tie
 
 abbrev Inv-loop : tie.InvT-loop
-Inv-loop memory₀ elements₀ sheet tensors steps entries₀ types₀ counts₀ k₀ memory elements entries types counts k = 
+Inv-loop memory₀ elements₀ sheet tensors steps entries₀ types₀ counts₀ k₀ memory elements entries types counts k =
     (k ≤ sheet .steps) × (length entries ≡ matrixPlaces) × Ready (sheet .steps - k) sheet k (machineOf types (state elements memory counts)) (started memory₀)
 
 abbrev μ-loop : tie.MeasureT-loop
@@ -32,7 +32,7 @@ no-counts-requires : tie.Need-no-counts-requires Inv-loop μ-loop
 no-counts-requires c κs = search needs
 
 loop-holds : tie.Need-loop-holds Inv-loop μ-loop
-loop-holds c = 
+loop-holds c =
     let s = c .before .before .before .before .before in
     (omega arith, c .before .before .no-entries .ensures, rw (c .no-counts .ensures, sub-zero, c .before .empty-types .ensures, s .pre .0) (ready-start (s .args .t1) (now (s .args .memory)) (s .pre .1 .2)))
 
@@ -43,7 +43,7 @@ element-copy-out-c : tie.Need-element-copy-out-c Inv-loop μ-loop
 element-copy-out-c c = omega (arith, within-places (c .before .before .before .before .before .before .before .pre .1 .0), c .loop-test .taken)
 
 perform-step-requires : tie.Need-perform-step-requires Inv-loop μ-loop
-perform-step-requires c κs = 
+perform-step-requires c κs =
     let s = c .before .before .before .before .before .before .before .before .before .before .before in
     let i = c .before .before .before .before .before .loop in
     let r = i .inv .2 in
@@ -59,7 +59,7 @@ loop-less : tie.Need-loop-less Inv-loop μ-loop
 loop-less c = omega (arith, c .before .before .before .before .before .before .before .before .before .loop-test .taken)
 
 loop-again : tie.Need-loop-again Inv-loop μ-loop
-loop-again c = 
+loop-again c =
     let s = c .before .before .before .before .before .before .before .before .before .before .before .before .before .before .before .before in
     let i = c .before .before .before .before .before .before .before .before .before .before .loop in
     let l = c .before .before .before .before .before .before .before .before .before .loop-test .taken in
@@ -70,7 +70,7 @@ same-length : tie.Need-same-length Inv-loop μ-loop
 same-length c = c .before .loop .inv .2 .kept
 
 returns : tie.Need-returns Inv-loop μ-loop
-returns c = 
+returns c =
     let i = c .before .loop in
     turns-end (c .before .before .before .before .before .before .before .args .t1) (i .k) _ _ (c .loop-test .left) (i .inv .2)
 
