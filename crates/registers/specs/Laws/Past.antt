@@ -1,6 +1,6 @@
 -- Places past a matrix are 0 at the start, and where a register is written whole, copied, or given one element. Where they are, a matrix that is
 -- written over another need not be written past both.
-use mathlib.Core.Path.{_≡_, sym, _∙_}
+use mathlib.Core.Path.{_≡_, refl, sym, _∙_}
 use mathlib.Core.List.{List}
 use Prim.Native.Nat.{ℕ, zero, suc, _+_, _-_, _*_, _<_, _≤_}
 use native.Mathlib.Omega.{arith}
@@ -22,7 +22,6 @@ use Rattle.registers.specs.Laws.Sized.{sized-places}
 use Rattle.registers.specs.Laws.Grids.{block-past, on-given}
 use Rattle.registers.specs.declared.MatrixType.{MatrixType}
 use Rattle.registers.specs.declared.Registers.{Registers}
-use mathlib.Core.Path.{refl}
 
 module _ (ts : List MatrixType) (es : List ℕ) (p : length ts ≡ registerCount) (q : length es ≡ elementPlaces) (w : Past ts es) where
   -- a register given a type, and places that are 0 past it
