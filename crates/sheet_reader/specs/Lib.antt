@@ -1,3 +1,3 @@
 pub mod Reading
-pub mod Heads
+pub mod Parts
 pub mod Laws

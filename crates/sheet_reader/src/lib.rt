@@ -1,10 +1,10 @@
-// Reads a sheet: fields of a tag, a length and content.
+// Reads a sheet: fields of a tag, a length and content. A sheet is not copied out of its bytes: reading finds where its parts stand.
 ghost use mathlib.Core.Path.{_≡_};
-ghost use Prim.Native.Nat.{_+_, _≤_, _<_};
-ghost use lib.ListN.{length};
-ghost use Rattle.sheet.specs.Sizes.{layoutPlaces, viewPlaces};
-ghost use Rattle.sheet_reader.specs.Reading.{layoutMayCome, viewMayCome, stepMayCome, editionRefusal, layoutRefusal, viewRefusal, moreLayout, moreView, refusedRead, readSheet};
-ghost use Rattle.sheet_reader.specs.Heads.{stepHeadRefusal, headRefusal};
+ghost use Prim.Native.Nat.{_+_, _≤_};
+ghost use lib.ListN.{length, getD, set};
+ghost use Rattle.sheet_ranges.specs.Sheets.{emptySheet};
+ghost use Rattle.sheet_reader.specs.Reading.{givenOf, layoutMayCome, viewMayCome, stepMayCome, editionRefusal, layoutRefusal, viewRefusal, stepRefusal, fieldRefusal, refusedRead, readSheet};
+ghost use Rattle.sheet_reader.specs.Parts.{partPlaces, firstView, firstStep, givenEdition, givenLayout, givenView, givenStep, moreGiven, moreParts, outlineOf, Outlined};
 use fields::Cursor;
 use fields::Field;
 use refusals::BEYOND_SIZES;
@@ -14,18 +14,20 @@ use refusals::Refusal;
 use refusals::UNKNOWN_EDITION;
 use refusals::UNKNOWN_TAG;
 use refusals::WRONG_LENGTH;
-use sheet::Cell;
-use sheet::Layout;
 use sheet::Sheet;
-use sheet::Tensors;
-use sheet::View;
 use sheet::codes;
 use sheet::editions;
 use sheet::sizes;
-use sheet_ranges::sheets;
 use sheet_ranges::steps;
 use tensor_ranges::layouts;
 use tensor_ranges::views;
+
+// Where the parts of a sheet stand has a place for each layout, then for each view, then for each step.
+pub const FIRST_VIEW: usize = sizes::LAYOUTS;
+
+pub const FIRST_STEP: usize = FIRST_VIEW + sizes::VIEWS;
+
+pub const PARTS: usize = FIRST_STEP + sizes::STEPS;
 
 // What a sheet has so far: its edition, 0 for none, and how many layouts, views and steps.
 pub struct Given {
@@ -39,6 +41,18 @@ pub struct Given {
 pub struct ReadAnswer {
     pub refusal: Refusal,
     pub sheet: Sheet,
+}
+
+// The same of a sheet whose parts stay in its bytes.
+pub struct Outline {
+    pub refusal: Refusal,
+    pub given: Given,
+}
+
+// A field's refusal, 0 where it is taken, and what the sheet then has.
+pub struct FieldRead {
+    pub number: u8,
+    pub given: Given,
 }
 
 // Refusal 3: a layout after the edition and before any view or step, and not too many.
@@ -135,9 +149,9 @@ fn view_refusal(s: &[u8], start: usize, len: usize, given: Given) -> u8
     0
 }
 
-// Refusals 2, 3 and 4 of a step: its content is judged as it is read.
-fn step_head_refusal(tag: u8, len: usize, given: Given) -> u8
-    ensures { λ r. ⌜ r ≡ stepHeadRefusal tag len given ⌝ }
+fn step_refusal(s: &[u8], tag: u8, start: usize, len: usize, given: Given) -> u8
+    requires { ⌜ start + len ≤ length (now s) ⌝ }
+    ensures { λ r. ⌜ r ≡ stepRefusal (now (s .entry)) tag start len given ⌝ }
 {
     let edition = given.edition;
     if !editions::tag_known(edition, tag) {
@@ -149,64 +163,178 @@ fn step_head_refusal(tag: u8, len: usize, given: Given) -> u8
     if len != step_contents::step_length(edition, tag) {
         return WRONG_LENGTH;
     }
+    let found = step_contents::step_at(s, edition, tag, start, given.layouts, given.views);
+    if steps::step_unused(found) {
+        return BEYOND_SIZES;
+    }
     0
 }
 
-// The field's tag chooses. A step is judged by its head alone.
-fn field_refusal(s: &[u8], tag: u8, start: usize, len: usize, given: Given) -> u8
+fn read_edition(s: &[u8], start: usize, len: usize, given: Given) -> FieldRead
     requires { ⌜ start + len ≤ length (now s) ⌝ }
-    ensures { λ r. ⌜ r ≡ headRefusal (now (s .entry)) tag start len given ⌝ }
+    ensures { λ r. ⌜ r .number ≡ editionRefusal (now (s .entry)) start len given ⌝ }
+    ensures { λ r. ⌜ (r .number ≡ 0 → r .given ≡ givenEdition (getD (now (s .entry)) start 0) given) ⌝ }
+{
+    let number = edition_refusal(s, start, len, given);
+    if 0 < number {
+        return FieldRead { number, given };
+    }
+    FieldRead {
+        number,
+        given: Given {
+            edition: s[start],
+            layouts: given.layouts,
+            views: given.views,
+            steps: given.steps,
+        },
+    }
+}
+
+fn read_layout(
+    s: &[u8],
+    parts: &mut [usize; PARTS],
+    at: usize,
+    start: usize,
+    len: usize,
+    given: Given,
+) -> FieldRead
+    requires { ⌜ start + len ≤ length (now s) ⌝ }
+    ensures { λ r. ⌜ r .number ≡ layoutRefusal (now (s .entry)) start len given ⌝ }
+    ensures { λ r. ⌜ (r .number ≡ 0 → (r .given ≡ givenLayout given) × (now (parts .exit) ≡ set (now (parts .entry)) (given .layouts) at)) ⌝ }
+{
+    let number = layout_refusal(s, start, len, given);
+    if 0 < number {
+        return FieldRead { number, given };
+    }
+    let k = given.layouts;
+    parts[k] = at;
+    FieldRead {
+        number,
+        given: Given {
+            edition: given.edition,
+            layouts: k + 1,
+            views: given.views,
+            steps: given.steps,
+        },
+    }
+}
+
+fn read_view(
+    s: &[u8],
+    parts: &mut [usize; PARTS],
+    at: usize,
+    start: usize,
+    len: usize,
+    given: Given,
+) -> FieldRead
+    requires { ⌜ start + len ≤ length (now s) ⌝ }
+    ensures { λ r. ⌜ r .number ≡ viewRefusal (now (s .entry)) start len given ⌝ }
+    ensures { λ r. ⌜ (r .number ≡ 0 → (r .given ≡ givenView given) × (now (parts .exit) ≡ set (now (parts .entry)) (firstView + given .views) at)) ⌝ }
+{
+    let number = view_refusal(s, start, len, given);
+    if 0 < number {
+        return FieldRead { number, given };
+    }
+    let k = given.views;
+    parts[FIRST_VIEW + k] = at;
+    FieldRead {
+        number,
+        given: Given {
+            edition: given.edition,
+            layouts: given.layouts,
+            views: k + 1,
+            steps: given.steps,
+        },
+    }
+}
+
+fn read_step(
+    s: &[u8],
+    parts: &mut [usize; PARTS],
+    tag: u8,
+    at: usize,
+    start: usize,
+    len: usize,
+    given: Given,
+) -> FieldRead
+    requires { ⌜ start + len ≤ length (now s) ⌝ }
+    ensures { λ r. ⌜ r .number ≡ stepRefusal (now (s .entry)) tag start len given ⌝ }
+    ensures { λ r. ⌜ (r .number ≡ 0 → (r .given ≡ givenStep given) × (now (parts .exit) ≡ set (now (parts .entry)) (firstStep + given .steps) at)) ⌝ }
+{
+    let number = step_refusal(s, tag, start, len, given);
+    if 0 < number {
+        return FieldRead { number, given };
+    }
+    let k = given.steps;
+    parts[FIRST_STEP + k] = at;
+    FieldRead {
+        number,
+        given: Given {
+            edition: given.edition,
+            layouts: given.layouts,
+            views: given.views,
+            steps: k + 1,
+        },
+    }
+}
+
+// The field's tag chooses the reader, or refusal 2.
+fn read_field(
+    s: &[u8],
+    parts: &mut [usize; PARTS],
+    tag: u8,
+    at: usize,
+    start: usize,
+    len: usize,
+    given: Given,
+) -> FieldRead
+    requires { ⌜ start + len ≤ length (now s) ⌝ }
+    ensures { λ r. ⌜ r .number ≡ fieldRefusal (now (s .entry)) tag start len given ⌝ }
+    ensures { λ r. ⌜ (r .number ≡ 0 → (r .given ≡ moreGiven (now (s .entry)) tag start given) × (now (parts .exit) ≡ moreParts tag at given (now (parts .entry)))) ⌝ }
 {
     match tag {
-        codes::EDITION_TAG => edition_refusal(s, start, len, given),
-        codes::LAYOUT_TAG => layout_refusal(s, start, len, given),
-        codes::VIEW_TAG => view_refusal(s, start, len, given),
-        codes::FILL_TAG..=codes::LAST_STEP_TAG => step_head_refusal(tag, len, given),
-        _ => UNKNOWN_TAG,
+        codes::EDITION_TAG => read_edition(s, start, len, given),
+        codes::LAYOUT_TAG => read_layout(s, parts, at, start, len, given),
+        codes::VIEW_TAG => read_view(s, parts, at, start, len, given),
+        codes::FILL_TAG..=codes::LAST_STEP_TAG => {
+            read_step(s, parts, tag, at, start, len, given)
+        }
+        _ => FieldRead {
+            number: UNKNOWN_TAG,
+            given,
+        },
     }
 }
 
-fn more_layout(mut t: Tensors, l: Layout) -> Tensors
-    requires { ⌜ t .layouts < layoutPlaces ⌝ }
-    ensures { λ r. ⌜ r ≡ moreLayout t l ⌝ }
+fn nothing_given() -> Given
+    ensures { λ r. ⌜ r ≡ givenOf emptySheet ⌝ }
 {
-    let i = t.layouts;
-    t.layout[i] = l;
-    t.layouts = i + 1;
-    t
+    Given {
+        edition: 0,
+        layouts: 0,
+        views: 0,
+        steps: 0,
+    }
 }
 
-fn more_view(mut t: Tensors, v: View) -> Tensors
-    requires { ⌜ t .views < viewPlaces ⌝ }
-    ensures { λ r. ⌜ r ≡ moreView t v ⌝ }
+fn refuse(number: u8, place: usize) -> Outline
+    ensures { λ r. ⌜ r ≡ outlineOf (refusedRead number place) ⌝ }
 {
-    let i = t.views;
-    t.view[i] = v;
-    t.views = i + 1;
-    t
-}
-
-fn refused_read(number: u8, place: usize) -> ReadAnswer
-    ensures { λ r. ⌜ r ≡ refusedRead number place ⌝ }
-{
-    ReadAnswer {
+    Outline {
         refusal: refusals::refusal_at(number, place, 0),
-        sheet: sheets::empty_sheet(),
+        given: nothing_given(),
     }
 }
 
-// The sheet that the bytes are, or the number and the place of the first refusal with an empty sheet. Each part is put in its place as
-// it is read, so that no field copies the sheet. Loads and stores are put apart from whole steps, so that a step's fields are not put together
-// with those of every other kind.
-pub fn read_sheet(s: &[u8]) -> ReadAnswer
-    ensures { λ r. ⌜ r ≡ readSheet (now (s .entry)) ⌝ }
+// Reads the sheet that the bytes are, or gives the number and the place of the first refusal. The lent places are told where its parts
+// stand, so that nothing of the sheet's size is copied: a pass takes each part from the bytes when it comes to it.
+pub fn outline_sheet(s: &[u8], parts: &mut [usize; PARTS]) -> Outline
+    requires { ⌜ length (now parts) ≡ partPlaces ⌝ }
+    ensures { λ r. ⌜ r ≡ outlineOf (readSheet (now (s .entry))) ⌝ }
+    ensures { λ r. ⌜ (r .refusal .number ≡ 0 → Outlined (now (s .entry)) (now (parts .exit)) (r .given)) ⌝ }
 {
-    let empty = sheets::empty_sheet();
     let mut c = Cursor { at: 0 };
-    let mut edition = empty.edition;
-    let mut tensors = empty.tensors;
-    let mut count = empty.steps;
-    let mut step = empty.step;
+    let mut given = nothing_given();
     while c.at < s.len() {
         let at = c.at;
         let Field::Whole {
@@ -216,66 +344,20 @@ pub fn read_sheet(s: &[u8]) -> ReadAnswer
             next,
         } = c.field(s)
         else {
-            return refused_read(CUT_SHORT, at);
+            return refuse(CUT_SHORT, at);
         };
-        let given = Given {
-            edition,
-            layouts: tensors.layouts,
-            views: tensors.views,
-            steps: count,
-        };
-        let number = field_refusal(s, tag, start, len, given);
-        if 0 < number {
-            return refused_read(number, at);
+        let read = read_field(s, parts, tag, at, start, len, given);
+        if 0 < read.number {
+            return refuse(read.number, at);
         }
+        given = read.given;
         c = next;
-        if tag == codes::EDITION_TAG {
-            edition = s[start];
-            continue;
-        }
-        if tag == codes::LAYOUT_TAG {
-            let more = more_layout(tensors, contents::layout_at(s, start, len));
-            tensors = more;
-            continue;
-        }
-        if tag == codes::VIEW_TAG {
-            let more = more_view(tensors, contents::view_at(s, start, len));
-            tensors = more;
-            continue;
-        }
-        if step_contents::is_access(tag) {
-            let found = step_contents::access_at(
-                s,
-                edition,
-                tag,
-                start,
-                given.layouts,
-                given.views,
-            );
-            if steps::step_unused(found) {
-                return refused_read(BEYOND_SIZES, at);
-            }
-            step[count] = Cell { step: found };
-            count += 1;
-            continue;
-        }
-        let found = step_contents::whole_at(s, edition, tag, start);
-        if steps::step_unused(found) {
-            return refused_read(BEYOND_SIZES, at);
-        }
-        step[count] = Cell { step: found };
-        count += 1;
     }
-    if edition < 1 {
-        return refused_read(OUT_OF_ORDER, s.len());
+    if given.edition < 1 {
+        return refuse(OUT_OF_ORDER, s.len());
     }
-    ReadAnswer {
+    Outline {
         refusal: refusals::not_refused(),
-        sheet: Sheet {
-            edition,
-            tensors,
-            steps: count,
-            step,
-        },
+        given,
     }
 }

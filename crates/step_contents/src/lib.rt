@@ -1,11 +1,8 @@
 // What the content of a step's field says. A step is judged by its fields as they are read, so that it is not taken apart again, and is nothing
 // where it is beyond Sizes.
 ghost use mathlib.Core.Path.{_≡_};
-ghost use mathlib.Core.Bool.{true, false};
 ghost use Prim.Native.Nat.{ℕ, _+_, _≤_};
 ghost use lib.ListN.{length};
-ghost use Rattle.numbers.specs.Choice.{between};
-ghost use Rattle.sheet.specs.Codes.{loadTag, storeTag};
 ghost use Rattle.step_contents.specs.Contents.{fillAt, windowAt, loadAt, storeAt, reduceAt, transposeAt, multiplyAt, vectorNumbers, vectorAt, stepAt, stepLength};
 ghost use Rattle.step_contents.specs.Judged.{judged};
 use numbers::u16_at;
@@ -184,35 +181,15 @@ fn vector_at(s: &[u8], edition: u8, p: usize) -> Step
     Step::Whole(whole)
 }
 
-// Whether a step's tag is a load's or a store's.
-pub fn is_access(tag: u8) -> bool
-    ensures { λ r. ⌜ r ≡ between loadTag storeTag tag ⌝ }
-{
-    numbers::between(
-        codes::LOAD_TAG as usize,
-        codes::STORE_TAG as usize,
-        tag as usize,
-    )
-}
-
-// The load or the store whose content starts at p and has its tag's length, in a sheet of so many layouts and views.
-pub fn access_at(s: &[u8], edition: u8, tag: u8, p: usize, layouts: usize, views: usize) -> Step
-    requires { ⌜ (p + stepLength edition tag ≤ length (now s)) × (between loadTag storeTag tag ≡ true) ⌝ }
+// The step whose content starts at p and has its tag's length, in a sheet of so many layouts and views.
+pub fn step_at(s: &[u8], edition: u8, tag: u8, p: usize, layouts: usize, views: usize) -> Step
+    requires { ⌜ p + stepLength edition tag ≤ length (now s) ⌝ }
     ensures { λ r. ⌜ r ≡ judged edition layouts views (stepAt edition (now (s .entry)) tag p) ⌝ }
-{
-    if tag == codes::LOAD_TAG {
-        return load_at(s, edition, p, layouts, views);
-    }
-    store_at(s, p, layouts, views)
-}
-
-// The whole step whose content starts at p and has its tag's length.
-pub fn whole_at(s: &[u8], edition: u8, tag: u8, p: usize) -> Step
-    requires { ⌜ (p + stepLength edition tag ≤ length (now s)) × (between loadTag storeTag tag ≡ false) ⌝ }
-    ensures { λ r. ⌜ ((layouts views : ℕ) → r ≡ judged edition layouts views (stepAt edition (now (s .entry)) tag p)) ⌝ }
 {
     match tag {
         codes::FILL_TAG => fill_at(s, edition, p),
+        codes::LOAD_TAG => load_at(s, edition, p, layouts, views),
+        codes::STORE_TAG => store_at(s, p, layouts, views),
         codes::REDUCE_TAG => reduce_at(s, edition, p),
         codes::TRANSPOSE_TAG => transpose_at(s, p),
         codes::MULTIPLY_TAG => multiply_at(s, p),

@@ -1,6 +1,6 @@
 -- What holds of a reading at each byte: nothing has been read, or the sheet so far is within Sizes.
 use Prim.Native.Nat.{ℕ, _+_, _<_, _≤_}
-use mathlib.Core.Path.{_≡_, refl, sym, ap, _∙_}
+use mathlib.Core.Path.{_≡_, refl, sym, ap, subst, _∙_}
 use mathlib.Core.Bool.{true, true≢false}
 use mathlib.Core.Logic.{_⊎_, inl, inr, ⊎-elim}
 use mathlib.Core.List.{List, []}
@@ -31,7 +31,7 @@ use Rattle.step_contents.specs.Contents.{stepAt}
 use Rattle.sheet_reader.specs.Reading.{givenOf, layoutMayCome, viewMayCome, stepMayCome, withEdition, moreLayout, moreView, withTensors, withStep, withField, refusedRead, acceptedRead, endRead, readSheet}
 use Rattle.sheet_reader.specs.Laws.Taken.{EditionTaken, Took, edition, layout, view, step, layout-place, view-place}
 use Rattle.sheet_reader.specs.Laws.Turns.{with-edition, with-layout, with-view, with-step}
-use Rattle.sheet_reader.specs.Laws.Ways.{lengthAt, Ways, reads}
+use Rattle.sheet_reader.specs.Laws.Ways.{lengthAt, reads}
 use Rattle.sheet_reader.specs.declared.ReadAnswer.{ReadAnswer}
 
 -- each array has its places
@@ -150,7 +150,7 @@ module _ (sh : Sheet) (g : Grown sh) where
         places = record { layout = p .layout; view = p .view; step = length-set (sh .step) (sh .steps) c ∙ p .step };
       }
 
-  field-grown : (s : List ℕ) (tag at len : ℕ) → Took s at len (givenOf sh) tag → Grown (withField s tag at sh)
+  pub field-grown : (s : List ℕ) (tag at len : ℕ) → Took s at len (givenOf sh) tag → Grown (withField s tag at sh)
   field-grown s tag at len (edition e t) = absurd (omega (arith, t .first, edition-some (sh .edition) (g .within .edition)))
   field-grown s tag at len (layout e t) = rw (with-layout s tag at sh e refl refl) at (layout-grown (layoutAt s at) (t .may) (t .ok))
   field-grown s tag at len (view e t) = rw (with-view s tag at sh e refl refl) at (view-grown (viewAt s at) (t .may) (t .ok))
@@ -158,8 +158,8 @@ module _ (sh : Sheet) (g : Grown sh) where
       rw (with-step s tag at sh (λ z. omega arith) (λ z. omega arith) (λ z. omega arith) refl) at (step-grown (stepAt (sh .edition) s tag at) (t .may) (t .ok))
 
 -- nothing has been read, or the sheet has grown so far
-abbrev SoFar : ℕ → Sheet → Type 0
-SoFar at sh = ((at ≡ 0) × (sh ≡ emptySheet)) ⊎ Grown sh
+abbrev pub SoFar : Sheet → Type 0
+SoFar sh = (sh ≡ emptySheet) ⊎ Grown sh
 
 -- no other part comes before the edition
 pub first-edition : (s : List ℕ) (tag at len : ℕ) → Took s at len (givenOf emptySheet) tag → (tag ≡ editionTag) × EditionTaken s at len (givenOf emptySheet)
@@ -169,31 +169,34 @@ first-edition s tag at len (layout e t) = absurd (true≢false (sym (t .may)))
 first-edition s tag at len (view e t) = absurd (true≢false (sym (t .may)))
 first-edition s tag at len (step e f t) = absurd (true≢false (sym (t .may)))
 
-module _ (s : List ℕ) (R : ReadAnswer → Type 0) (refused : (n at : ℕ) → 1 ≤ n → n ≤ unknownEdition → R (refusedRead n at)) (accepted : (sh : Sheet) → Grown sh → R (acceptedRead sh)) where
-  start-ways : Ways s SoFar R 0 emptySheet
-  unfolding emptySheet endRead pick
-  start-ways =
-      record {
-        refused = λ n h m. refused n 0 h m;
-        ended = λ h. refused outOfOrder (length s) (omega arith) (omega arith);
-        taken =
-            λ h t.
-            let f = first-edition s (getD s 0 0) 3 (lengthAt s 0) t in
-            inr (rw (with-edition s (getD s 0 0) 3 emptySheet (f .0)) at (edition-grown (getD s 3 0) (f .1 .known)));
-      }
+-- a sheet has grown by a field that is taken
+start-grown : (s : List ℕ) (tag at len : ℕ) → Took s at len (givenOf emptySheet) tag → Grown (withField s tag at emptySheet)
+start-grown s tag at len t =
+    let f = first-edition s tag at len t in
+    rw (with-edition s tag at emptySheet (f .0)) at (edition-grown (getD s at 0) (f .1 .known))
 
-  grown-ways : (at : ℕ) (sh : Sheet) → Grown sh → Ways s SoFar R at sh
-  unfolding endRead pick
-  grown-ways at sh g =
-      record {
-        refused = λ n h m. refused n at h m;
-        ended = λ h. rw (le-ltb (sh .edition) 1 (edition-some (sh .edition) (g .within .edition))) (accepted sh g);
-        taken = λ h t. inr (field-grown sh g s (getD s at 0) (at + 3) (lengthAt s at) t);
-      }
+pub so-grown : (s : List ℕ) (tag at len : ℕ) (sh : Sheet) → SoFar sh → Took s at len (givenOf sh) tag → Grown (withField s tag at sh)
+so-grown s tag at len sh p t =
+    ⊎-elim (λ e. subst (λ (x : Sheet). Took s at len (givenOf x) tag → Grown (withField s tag at x)) (sym e) (start-grown s tag at len) t)
+    (λ g. field-grown sh g s tag at len t) p
+
+module _ (s : List ℕ) (R : ReadAnswer → Type 0) (refused : (n at : ℕ) → 1 ≤ n → n ≤ unknownEdition → R (refusedRead n at)) (accepted : (sh : Sheet) → Grown sh → R (acceptedRead sh)) where
+  ended : (sh : Sheet) → SoFar sh → R (endRead sh (length s))
+  unfolding emptySheet endRead pick
+  ended sh p =
+      ⊎-elim (λ e. subst (λ (x : Sheet). R (endRead x (length s))) (sym e) (refused outOfOrder (length s) (omega arith) (omega arith)))
+      (λ g. rw (le-ltb (sh .edition) 1 (edition-some (sh .edition) (g .within .edition))) (accepted sh g)) p
 
   -- a reading is a refusal, or accepts a sheet that has grown
   pub reading : R (readSheet s)
-  reading = reads s SoFar R (inl (refl, refl)) (λ at sh p. ⊎-elim (λ q. rw (q .0, q .1) start-ways) (λ q. grown-ways at sh q) p)
+  reading =
+      reads s (λ (at : ℕ) (sh : Sheet). SoFar sh) R (inl refl)
+      (λ at sh p.
+      record {
+        refused = λ n h m. refused n at h m;
+        ended = λ h. ended sh p;
+        taken = λ h t. inr (so-grown s (getD s at 0) (at + 3) (lengthAt s at) sh p t);
+      })
 
 -- A reading that is not refused accepts the sheet that it gives; a refusal gives a number from 1 to 6 and an empty sheet.
 pub not-refused : (s : List ℕ) → readSheet s .refusal .number ≡ 0 → readSheet s ≡ acceptedRead (readSheet s .sheet)

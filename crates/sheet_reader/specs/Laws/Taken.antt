@@ -56,7 +56,7 @@ module _ (s : List ℕ) (p len : ℕ) (g : Given) where
     pub long : len ≡ stepLength (g .edition) tag
     pub ok : stepOk (g .edition) (g .layouts) (g .views) (stepAt (g .edition) s tag p) ≡ true
 
-  edition-taken : editionRefusal s p len g ≡ 0 → EditionTaken
+  pub edition-taken : editionRefusal s p len g ≡ 0 → EditionTaken
   unfolding editionRefusal
   edition-taken e =
       let a = left-way _ _ _ (omega arith) e in
@@ -64,7 +64,7 @@ module _ (s : List ℕ) (p len : ℕ) (g : Given) where
       let c = taken-way _ _ _ (omega arith) (b .1) in
       record { first = ltb-false _ _ (a .0); one = eqb-true _ _ (b .0); known = c .0 }
 
-  layout-taken : layoutRefusal s p len g ≡ 0 → LayoutTaken
+  pub layout-taken : layoutRefusal s p len g ≡ 0 → LayoutTaken
   unfolding layoutRefusal
   layout-taken e =
       let a = taken-way _ _ _ (omega arith) e in
@@ -73,7 +73,7 @@ module _ (s : List ℕ) (p len : ℕ) (g : Given) where
       let d = taken-way _ _ _ (omega arith) (c .1) in
       record { may = a .0; long = b .0; head = c .0; ok = d .0 }
 
-  view-taken : viewRefusal s p len g ≡ 0 → ViewTaken
+  pub view-taken : viewRefusal s p len g ≡ 0 → ViewTaken
   unfolding viewRefusal
   view-taken e =
       let a = taken-way _ _ _ (omega arith) e in
@@ -82,7 +82,7 @@ module _ (s : List ℕ) (p len : ℕ) (g : Given) where
       let d = taken-way _ _ _ (omega arith) (c .1) in
       record { may = a .0; long = b .0; head = c .0; ok = d .0 }
 
-  step-taken : (tag : ℕ) → stepRefusal s tag p len g ≡ 0 → StepTaken tag
+  pub step-taken : (tag : ℕ) → stepRefusal s tag p len g ≡ 0 → StepTaken tag
   unfolding stepRefusal
   step-taken tag e =
       let a = taken-way _ _ _ (omega arith) e in
@@ -114,30 +114,6 @@ module _ (s : List ℕ) (p len : ℕ) (g : Given) where
     where
       To : ℕ → Type 0
       To n = n ≡ 0 → Took tag
-
-  pub took-edition : {tag : ℕ} → Took tag → tag ≡ editionTag → EditionTaken
-  took-edition (edition e t) h = t
-  took-edition (layout e t) h = absurd (omega arith)
-  took-edition (view e t) h = absurd (omega arith)
-  took-edition (step e f t) h = absurd (omega arith)
-
-  pub took-layout : {tag : ℕ} → Took tag → tag ≡ layoutTag → LayoutTaken
-  took-layout (edition e t) h = absurd (omega arith)
-  took-layout (layout e t) h = t
-  took-layout (view e t) h = absurd (omega arith)
-  took-layout (step e f t) h = absurd (omega arith)
-
-  pub took-view : {tag : ℕ} → Took tag → tag ≡ viewTag → ViewTaken
-  took-view (edition e t) h = absurd (omega arith)
-  took-view (layout e t) h = absurd (omega arith)
-  took-view (view e t) h = t
-  took-view (step e f t) h = absurd (omega arith)
-
-  pub took-step : {tag : ℕ} → Took tag → (tag ≡ editionTag → ⊥) → (tag ≡ layoutTag → ⊥) → (tag ≡ viewTag → ⊥) → StepTaken tag
-  took-step (edition e t) a b c = absurd (a e)
-  took-step (layout e t) a b c = absurd (b e)
-  took-step (view e t) a b c = absurd (c e)
-  took-step (step e f t) a b c = t
 
 -- what may come has a place
 pub layout-place : (g : Given) → layoutMayCome g ≡ true → g .layouts < layoutPlaces
