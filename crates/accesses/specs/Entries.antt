@@ -12,7 +12,6 @@ use Rattle.addressing.specs.declared.Access.{Access}
 use Rattle.addressing.specs.declared.Located.{Located}
 use Rattle.sheet.specs.Sizes.{matrixPlaces, memoryLimit}
 use Rattle.clashes.specs.Entries.{filledEntry, discardedEntry}
-use Rattle.clashes.specs.Marks.{noMarks}
 use Rattle.accesses.specs.declared.Tally.{Tally}
 use Rattle.accesses.specs.Refusals.{elementOutcome, firstRefused, placedCount}
 
@@ -46,8 +45,3 @@ pub record Surveyed (f : ℕ → Located) (m : ℕ) (r : Tally) (entries : List 
 -- the entries stand for the outcomes of an access's elements
 abbrev pub Told : Access → List ℕ → Type 0
 Told a entries = (i : ℕ) → i < elementsOf a → entryOutcome (lowBits a) (getD entries i 0) ≡ elementOutcome a i .outcome
-
--- the room that a check of an access is lent: places for the entries, and no marks
-pub record Scratch (entries marks : List ℕ) : Type 0 where
-  pub places : length entries ≡ matrixPlaces
-  pub none : marks ≡ noMarks

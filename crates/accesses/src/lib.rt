@@ -9,12 +9,11 @@ ghost use Rattle.addressing.specs.Rules.{elementsOf};
 ghost use Rattle.addressing.specs.Valid.{SizedAccess, Planned};
 ghost use Rattle.sheet.specs.Sizes.{rankPlaces, matrixPlaces};
 ghost use Rattle.accesses.specs.Refusals.{elementOutcome, otherRank, blocksOne, storeBlocked, elementsRefusal, placedOne, checkedBy, checkedElements, checkedAccess};
-ghost use Rattle.accesses.specs.Entries.{Near, entryOf, entryOutcome, Surveyed, Told, Scratch};
+ghost use Rattle.accesses.specs.Entries.{Near, entryOf, entryOutcome, Surveyed, Told};
 use addressing::Access;
 use addressing::Plan;
 use clashes::DISCARDED;
 use clashes::FILLED;
-use clashes::MARKS;
 use outcomes::Outcome;
 use refusals::BLOCKED_STORE;
 use refusals::BYTE_TWICE;
@@ -144,9 +143,9 @@ fn accept(placed: usize) -> Checked
 }
 
 // Refusals 12 to 15. The search of 15 is entered where a test that goes once over the elements found a byte twice.
-fn check_elements(entries: &mut [u32; PLACES], marks: &mut [u32; MARKS], p: Plan) -> Checked
-    requires { ⌜ Planned p × Scratch (now entries) (now marks) ⌝ }
-    ensures { λ _. ⌜ Scratch (now (entries .exit)) (now (marks .exit)) ⌝ }
+fn check_elements(entries: &mut [u32; PLACES], p: Plan) -> Checked
+    requires { ⌜ Planned p × (length (now entries) ≡ matrixPlaces) ⌝ }
+    ensures { λ _. ⌜ length (now (entries .exit)) ≡ matrixPlaces ⌝ }
     ensures { λ r. ⌜ r ≡ checkedElements (elementOutcome (p .access)) (elementsOf (p .access)) (elementsRefusal (p .access .load) (elementOutcome (p .access)) (elementsOf (p .access))) ⌝ }
     ensures { λ r. ⌜ (r .stop .number ≡ 0 → Told (p .access) (now (entries .exit))) ⌝ }
 {
@@ -160,7 +159,7 @@ fn check_elements(entries: &mut [u32; PLACES], marks: &mut [u32; MARKS], p: Plan
     if a.load {
         return accept(s.placed);
     }
-    if clashes::bytes_apart(marks, entries, count) {
+    if clashes::bytes_apart(entries, count) {
         return accept(s.placed);
     }
     let clash = clashes::first_clash(entries, count);
@@ -217,11 +216,11 @@ fn store_blocked(a: Access) -> bool
     !blocks_one(l)
 }
 
-// Refusals 9 to 15 of a load or a store, in order, and how many of its elements have a byte. The entries and the marks are lent room:
-// where it is accepted, the entries stand for the outcomes of its elements.
-pub fn check_access(entries: &mut [u32; PLACES], marks: &mut [u32; MARKS], a: Access) -> Checked
-    requires { ⌜ SizedAccess a × Scratch (now entries) (now marks) ⌝ }
-    ensures { λ _. ⌜ Scratch (now (entries .exit)) (now (marks .exit)) ⌝ }
+// Refusals 9 to 15 of a load or a store, in order, and how many of its elements have a byte. The entries are lent room: where it is
+// accepted, they stand for the outcomes of its elements.
+pub fn check_access(entries: &mut [u32; PLACES], a: Access) -> Checked
+    requires { ⌜ SizedAccess a × (length (now entries) ≡ matrixPlaces) ⌝ }
+    ensures { λ _. ⌜ length (now (entries .exit)) ≡ matrixPlaces ⌝ }
     ensures { λ r. ⌜ r ≡ checkedAccess a ⌝ }
     ensures { λ r. ⌜ (r .stop .number ≡ 0 → Told a (now (entries .exit))) ⌝ }
 {
@@ -235,5 +234,5 @@ pub fn check_access(entries: &mut [u32; PLACES], marks: &mut [u32; MARKS], a: Ac
         return refuse(BLOCKED_STORE, 0);
     }
     let p = addressing::plan_of(a);
-    check_elements(entries, marks, p)
+    check_elements(entries, p)
 }

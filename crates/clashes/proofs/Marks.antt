@@ -1,4 +1,4 @@
--- Laws of the marks: what one more mark changes, and that no mark is left.
+-- Laws of the marks: what one more mark changes, and what they tell.
 use Prim.Native.Nat.{ℕ, zero, suc, _+_, _-_, _*_, _/_, _%_, _^_, _<_, _≤_, zero-le}
 use mathlib.Core.Path.{_≡_, refl, sym, ap, _∙_}
 use mathlib.Core.Bool.{Bool, true, false, true≢false, not}
@@ -10,16 +10,16 @@ use lib.Bits.{bitOr, or-shr, or-mod, or-zero-l, or-zero-r, or-self}
 use lib.Dec.{eqb, ltb}
 use lib.ListN.{length, getD, set, length-set, length-replicate}
 use lib.Pow.{pow-pos, pow-lt, pow-add, shl-shr, shl-exact}
-use lib.Seq.{ext-getD, getD-set-same, getD-set-other}
-use borrow.Author.Tests.{eq-eqb, ne-eqb, ltb-true}
+use lib.Seq.{getD-set-same, getD-set-other}
+use borrow.Author.Tests.{eq-eqb, ne-eqb, ltb-true, not-true}
 use Rattle.numbers.specs.Choice.{pick, both}
 use Rattle.numbers.specs.Laws.Choice.{both-right, by-test, by-place, by-order}
-use Rattle.numbers.specs.All.{all}
-use Rattle.numbers.specs.Laws.All.{all-none, all-more, all-false}
+use Rattle.numbers.specs.Laws.All.{all-false}
 use Rattle.numbers.specs.Laws.Places.{none-all}
 use Rattle.clashes.specs.Clashes.{meets, apart}
 use Rattle.clashes.specs.Entries.{filledEntry, hasByte, hits, sameEntry}
-use Rattle.clashes.specs.Marks.{markWords, noMarks, wordOf, bitOf, bitAt, unmarked, withMark, withoutMarks, ClearFrom}
+use Rattle.clashes.specs.Marks.{markWords, noMarks, wordOf, bitOf, bitAt, unmarked, withMark}
+use Rattle.clashes.proofs.Laws.{seen, seen-meets, apart-start, apart-more}
 
 -- a bit that is set, and the others
 or-one : (x : ℕ) → x < 2 → bitOr x 1 ≡ 1
@@ -65,6 +65,11 @@ module _ (x : ℕ) (h : hasByte x ≡ true) where
   word-inside = div-lt-iff-lt-mul {k = 32} (omega arith) .1 (omega (arith, byte-most))
 
 -- one more mark
+mark-long : (ws : List ℕ) (x : ℕ) → length (withMark ws x) ≡ length ws
+unfolding withMark pick
+mark-long ws x =
+    by-test (hasByte x) (λ t. rw t (length-set ws (wordOf x) (bitOr (getD ws (wordOf x) 0) (2 ^ bitOf x)))) (λ t. rw t)
+
 module _ (ws : List ℕ) (long : length ws ≡ markWords) where
   place-differs : (y x : ℕ) → hasByte y ≡ true → hasByte x ≡ true → (y ≡ x → ⊥) → wordOf y ≡ wordOf x → bitOf y ≡ bitOf x → ⊥
   place-differs y x hy hx d w e =
@@ -91,16 +96,6 @@ module _ (ws : List ℕ) (long : length ws ≡ markWords) where
       (λ hy. rw (hx, hy, ne-eqb y x d))))
       (λ hx. rw hx)
 
--- one of the first k entries is the byte of x
-unfoldable pub seen : List ℕ → ℕ → ℕ → Bool
-seen entries x zero = false
-seen entries x (suc k) = pick (hits (getD entries k 0) x) true (seen entries x k)
-
-seen-meets : (entries : List ℕ) (i k : ℕ) → meets (sameEntry entries) i k ≡ seen entries (getD entries i 0) k
-unfolding meets seen
-seen-meets entries i zero = refl
-seen-meets entries i (suc k) = rw (seen-meets entries i k)
-
 not-pick : (t s : Bool) → not (pick t true s) ≡ pick t false (not s)
 unfolding pick
 not-pick true s = refl
@@ -115,45 +110,12 @@ none-long : length noMarks ≡ markWords
 unfolding noMarks
 none-long = length-replicate {A = ℕ} markWords 0
 
--- no mark in a word that no element has its byte in, before and after one of them is marked, and unmarked
-module _ (entries : List ℕ) (m : ℕ) (ws : List ℕ) where
-  pub clear-mark : (j k : ℕ) → ClearFrom entries j m ws → j ≤ k → k < m → ClearFrom entries j m (withMark ws (getD entries k 0))
-  unfolding withMark pick
-  clear-mark j k c g h =
-      by-test (hasByte (getD entries k 0))
-      (λ t. rw t record {
-        long = length-set ws (wordOf (getD entries k 0)) (bitOr (getD ws (wordOf (getD entries k 0)) 0) (2 ^ bitOf (getD entries k 0))) ∙ c .long;
-        clear = λ w free. getD-set-other ws (wordOf (getD entries k 0)) w (bitOr (getD ws (wordOf (getD entries k 0)) 0) (2 ^ bitOf (getD entries k 0))) 0 (λ e. free k g h t (sym e)) ∙ c .clear w free;
-      })
-      (λ t. rw t c)
-
-  pub clear-unmark : (k : ℕ) → ClearFrom entries k m ws → ClearFrom entries (k + 1) m (withoutMarks ws (getD entries k 0))
-  unfolding withoutMarks pick
-  clear-unmark k c =
-      by-test (hasByte (getD entries k 0))
-      (λ t. rw t record {
-        long = length-set ws (wordOf (getD entries k 0)) 0 ∙ c .long;
-        clear = λ w free.
-            by-place w (wordOf (getD entries k 0))
-            (λ q. rw q (getD-set-same ws (wordOf (getD entries k 0)) 0 0 (rw (c .long) (word-inside (getD entries k 0) t))))
-            (λ q. getD-set-other ws (wordOf (getD entries k 0)) w 0 0 q
-            ∙ c .clear w (λ i g h u e. by-place i k (λ s. q (sym e ∙ ap (λ (n : ℕ). wordOf (getD entries n 0)) s)) (λ s. free i (omega arith) h u e)));
-      })
-      (λ t. rw t record {
-        long = c .long;
-        clear = λ w free. c .clear w (λ i g h u e. by-place i k (λ s. true≢false (sym u ∙ ap (λ (n : ℕ). hasByte (getD entries n 0)) s ∙ t)) (λ s. free i (omega arith) h u e));
-      })
-
-  pub clear-end : (k : ℕ) → ClearFrom entries k m ws → m ≤ k → ws ≡ noMarks
-  clear-end k c h =
-      ext-getD 0 ws noMarks (c .long ∙ sym none-long) (λ w l. c .clear w (λ i g n u e. absurd (omega arith)) ∙ sym (none-marked w))
-
 -- The bytes of the first k of m elements are marked, and each was new.
 pub record Marking (entries : List ℕ) (m k : ℕ) (ws : List ℕ) : Type 0 where
   pub inside : k ≤ m
-  pub marks : ClearFrom entries 0 m ws
+  pub long : length ws ≡ markWords
   pub each : (x : ℕ) → unmarked ws x ≡ not (seen entries x k)
-  pub far : all k (λ (i : ℕ). not (meets (sameEntry entries) i i)) ≡ true
+  pub far : apart (sameEntry entries) k ≡ true
 
 -- without a mark every byte is new
 start-unmarked : (x : ℕ) → unmarked noMarks x ≡ true
@@ -163,18 +125,15 @@ start-unmarked x =
     by-test (hasByte x) (λ h. rw h (eq-eqb _ 0 e)) (λ h. rw h)
 
 module _ (entries : List ℕ) (m : ℕ) where
-  no-marks : ClearFrom entries 0 m noMarks
-  no-marks = record { long = none-long; clear = λ w free. none-marked w }
-
   pub marking-start : (ws : List ℕ) → ws ≡ noMarks → Marking entries m 0 ws
   unfolding seen
   marking-start ws e =
       rw e
       record {
         inside = zero-le;
-        marks = no-marks;
+        long = none-long;
         each = start-unmarked;
-        far = all-none _;
+        far = apart-start _;
       }
 
   -- a turn at k
@@ -187,15 +146,11 @@ module _ (entries : List ℕ) (m : ℕ) where
     marking-more h e =
         record {
           inside = omega arith;
-          marks = clear-mark entries m ws 0 k (v .marks) zero-le h;
-          each = λ x. rw add-one (mark-more ws (v .marks .long) (getD entries k 0) x ∙ rw (v .each x) (sym (not-pick (hits (getD entries k 0) x) (seen entries x k))));
-          far = all-more k _ (v .far) (sym new-met ∙ e);
+          long = mark-long ws (getD entries k 0) ∙ v .long;
+          each = λ x. rw add-one (mark-more ws (v .long) (getD entries k 0) x ∙ rw (v .each x) (sym (not-pick (hits (getD entries k 0) x) (seen entries x k))));
+          far = apart-more _ k (v .far) (not-true _ (sym new-met ∙ e));
         }
 
     pub marking-stop : k < m → unmarked ws (getD entries k 0) ≡ false → apart (sameEntry entries) m ≡ false
     unfolding apart
     marking-stop h e = all-false m _ k h (sym new-met ∙ e)
-
-    pub marking-end : m ≤ k → apart (sameEntry entries) m ≡ true
-    unfolding apart
-    marking-end h = let q : k ≡ m = omega (arith, v .inside) in (rw q at (v .far))

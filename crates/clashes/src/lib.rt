@@ -1,10 +1,11 @@
 // Refusal 15: a store where a later element has an earlier one's byte.
 ghost use mathlib.Core.Path.{_≡_};
+ghost use mathlib.Core.Bool.{true};
 ghost use Prim.Native.Nat.{_≤_};
 ghost use Rattle.sheet.specs.Sizes.{matrixPlaces};
 ghost use Rattle.clashes.specs.Clashes.{clashFrom, apart};
 ghost use Rattle.clashes.specs.Entries.{hasByte, hits, sameEntry};
-ghost use Rattle.clashes.specs.Marks.{noMarks, unmarked, withMark, withoutMarks, ClearFrom};
+ghost use Rattle.clashes.specs.Marks.{noMarks, unmarked, withMark};
 use sheet::sizes::MEMORY_LIMIT;
 use sheet::sizes::PLACES;
 
@@ -16,9 +17,9 @@ pub const DISCARDED: u32 = MEMORY_LIMIT as u32 + 2;
 // A mark for each of the 65,536 bytes of a memory, so many in a word.
 const WORD: u32 = 32;
 
-pub const MARKS: usize = 2048;
+const MARKS: usize = 2048;
 
-pub fn no_marks() -> [u32; MARKS]
+fn no_marks() -> [u32; MARKS]
     ensures { λ r. ⌜ r ≡ noMarks ⌝ }
 {
     [0u32; MARKS]
@@ -49,20 +50,10 @@ fn mark(marks: &mut [u32; MARKS], x: u32) -> bool
     (word >> place) % 2 == 0
 }
 
-fn unmark(marks: &mut [u32; MARKS], x: u32)
-    ensures { λ _. ⌜ now (marks .exit) ≡ withoutMarks (now (marks .entry)) x ⌝ }
-{
-    if !has_byte(x) {
-        return;
-    }
-    let at = ((x - 1) / WORD) as usize;
-    marks[at] = 0;
-}
-
 // Marks the bytes of `count` elements, up to the first that has a mark. The answer: none had.
 fn mark_all(marks: &mut [u32; MARKS], entries: &[u32; PLACES], count: usize) -> bool
     requires { ⌜ (now marks ≡ noMarks) × (count ≤ matrixPlaces) ⌝ }
-    ensures { λ r. ⌜ (r ≡ apart (sameEntry (now (entries .entry))) count) × ClearFrom (now (entries .entry)) 0 count (now (marks .exit)) ⌝ }
+    ensures { λ r. ⌜ r ≡ apart (sameEntry (now (entries .entry))) count ⌝ }
 {
     let mut k = 0;
     while k < count {
@@ -74,25 +65,36 @@ fn mark_all(marks: &mut [u32; MARKS], entries: &[u32; PLACES], count: usize) -> 
     true
 }
 
-fn unmark_all(marks: &mut [u32; MARKS], entries: &[u32; PLACES], count: usize)
-    requires { ⌜ ClearFrom (now entries) 0 count (now marks) × (count ≤ matrixPlaces) ⌝ }
-    ensures { λ _. ⌜ now (marks .exit) ≡ noMarks ⌝ }
+// The bytes of the elements that have one ascend, so that none comes twice.
+fn bytes_ascend(entries: &[u32; PLACES], count: usize) -> bool
+    requires { ⌜ count ≤ matrixPlaces ⌝ }
+    ensures { λ r. ⌜ (r ≡ true → apart (sameEntry (now (entries .entry))) count ≡ true) ⌝ }
 {
+    let mut last = 0;
     let mut k = 0;
     while k < count {
-        unmark(marks, entries[k]);
+        let x = entries[k];
+        if has_byte(x) {
+            if x <= last {
+                return false;
+            }
+            last = x;
+        }
         k += 1;
     }
+    true
 }
 
-// No element has an earlier one's byte. The marks are lent: there are none before and after.
-pub fn bytes_apart(marks: &mut [u32; MARKS], entries: &[u32; PLACES], count: usize) -> bool
-    requires { ⌜ (now marks ≡ noMarks) × (count ≤ matrixPlaces) ⌝ }
-    ensures { λ r. ⌜ (r ≡ apart (sameEntry (now (entries .entry))) count) × (now (marks .exit) ≡ noMarks) ⌝ }
+// No element has an earlier one's byte. Marks are made only where the bytes do not ascend.
+pub fn bytes_apart(entries: &[u32; PLACES], count: usize) -> bool
+    requires { ⌜ count ≤ matrixPlaces ⌝ }
+    ensures { λ r. ⌜ r ≡ apart (sameEntry (now (entries .entry))) count ⌝ }
 {
-    let r = mark_all(marks, entries, count);
-    unmark_all(marks, entries, count);
-    r
+    if bytes_ascend(entries, count) {
+        return true;
+    }
+    let mut marks = no_marks();
+    mark_all(&mut marks, entries, count)
 }
 
 fn same_byte(y: u32, x: u32) -> bool

@@ -44,7 +44,7 @@ check-elements-requires c κs = search needs
 
 returns-4 : tie.Need-returns-4
 returns-4 c =
-    let p = planned-access _ (c .before .before .before .plan-of .ensures .0) in
+    let p = planned-access _ (c .before .before .plan-of .ensures .0) in
     let e = c .check-elements .ensures in
     (e .0, ((rw p at (e .1 .0)) ∙ access-elements _ (search tests) (search tests) (search tests), λ z. rw p at (e .1 .1 z)))
 

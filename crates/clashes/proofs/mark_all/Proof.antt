@@ -1,7 +1,8 @@
-use Prim.Native.Nat.{_-_, zero-le}
+use Prim.Native.Nat.{_-_}
 use mathlib.Core.Path.{sym}
 use Rattle.numbers.specs.Laws.Choice.{went-not, went-past}
-use Rattle.clashes.proofs.Marks.{Marking, clear-mark, marking-start, marking-more, marking-stop, marking-end}
+use Rattle.clashes.proofs.Laws.{apart-end}
+use Rattle.clashes.proofs.Marks.{Marking, marking-start, marking-more, marking-stop}
 use borrow.Author.Needs.{needs}
 use Rattle.clashes.proofs.mark_all.Statement.{statement}
 use Rattle.clashes.proofs.mark_all.Tie as tie
@@ -26,9 +27,7 @@ mark-requires c κs = search needs
 
 returns : tie.Need-returns Inv-loop μ-loop
 returns c = let i = c .before .before .before .before .before .loop in
-    let h = c .before .before .before .before .loop-test .taken in
-    let m = c .before .mark .ensures in
-    (sym (marking-stop _ _ (i .k) (i .marks) (i .inv) h (went-not (m .0) (c .if1 .taken))), rw (m .1) (clear-mark _ _ (i .marks) 0 (i .k) (i .inv .marks) zero-le h))
+    sym (marking-stop _ _ (i .k) (i .marks) (i .inv) (c .before .before .before .before .loop-test .taken) (went-not (c .before .mark .ensures .0) (c .if1 .taken)))
 
 add-k : tie.Need-add-k Inv-loop μ-loop
 add-k c = search needs
@@ -42,7 +41,7 @@ loop-again c = let i = c .before .before .before .before .before .loop in
     rw (m .1) (marking-more _ _ (i .k) (i .marks) (i .inv) (c .before .before .before .before .loop-test .taken) (went-past (m .0) (c .if1 .left)))
 
 returns-2 : tie.Need-returns-2 Inv-loop μ-loop
-returns-2 c = let i = c .before .loop in (sym (marking-end _ _ (i .k) (i .marks) (i .inv) (c .loop-test .left)), i .inv .marks)
+returns-2 c = let i = c .before .loop in sym (apart-end _ (i .inv .inside) (c .loop-test .left) (i .inv .far))
 
 pub mark-all-spec : {M : Type 1} → statement M
 mark-all-spec =
