@@ -4,3 +4,4 @@ pub mod Turns
 pub mod Ways
 pub mod Growing
 pub mod Parts
+pub mod Outlining
