@@ -102,6 +102,10 @@ pub record Stands (s : List ℕ) (sh : Sheet) (parts : List ℕ) : Type 0 where
   pub step :
       Parted stepPlaces noCell noCell (StepIn s (sh .edition) (sh .tensors .layouts) (sh .tensors .views)) parts firstStep (sh .steps) (sh .step)
 
+-- the sheet that bytes read as
+abbrev pub sheetOf : List ℕ → Sheet
+sheetOf s = readSheet s .sheet
+
 -- an answer without the sheet's parts
 abbrev pub outlineOf : ReadAnswer → Outline
 outlineOf r = record { refusal = r .refusal; given = givenOf (r .sheet) }
@@ -109,5 +113,5 @@ outlineOf r = record { refusal = r .refusal; given = givenOf (r .sheet) }
 -- the sheet is read: what it has, and where its parts stand
 pub record Outlined (s parts : List ℕ) (g : Given) : Type 0 where
   pub read : readSheet s .refusal .number ≡ 0
-  pub given : g ≡ givenOf (readSheet s .sheet)
-  pub stands : Stands s (readSheet s .sheet) parts
+  pub given : g ≡ givenOf (sheetOf s)
+  pub stands : Stands s (sheetOf s) parts

@@ -112,8 +112,8 @@ returns-4 : tie.Need-returns-4 Inv-loop μ-loop
 returns-4 c =
     let o = c .before .before .before .before .before .loop in
     let e =
-        outlining-end _ _ _ (o .given) (o .inv) (c .before .before .before .if1 .left) (c .before .if3 .left)
-        {r = record { refusal = c .not-refused .result; given = o .given }} (rw (c .not-refused .ensures)) in
+    outlining-end _ _ _ (o .given) (o .inv) (c .before .before .before .if1 .left) (c .before .if3 .left)
+    {r = record { refusal = c .not-refused .result; given = o .given }} (rw (c .not-refused .ensures)) in
     (e .0, λ z. e .1)
 
 pub outline-sheet-spec : {M : Type 1} → statement M

@@ -46,10 +46,13 @@ returns-4 : tie.Need-returns-4
 unfolding fieldRefusal moreGiven moreParts
 returns-4 c =
     let m = c .before .before .before .before .match .rest in
-    let e = c .read-step .ensures in
-    (left _ (ne-eqb _ _ (m .0 .0 .1)) (left _ (ne-eqb _ _ (m .0 .1)) (left _ (ne-eqb _ _ (m .1)) (left _ (search ways) (taken _ (search ways) (e .0))))), λ z.
-    (left _ (ne-eqb _ _ (m .0 .0 .1)) (left _ (ne-eqb _ _ (m .0 .1)) (left _ (ne-eqb _ _ (m .1)) (e .1 z .0))),
-    left _ (ne-eqb _ _ (m .0 .0 .1)) (left _ (ne-eqb _ _ (m .0 .1)) (left _ (ne-eqb _ _ (m .1)) (e .1 z .1)))))
+    let e = c .read-step .ensures in (
+      left _ (ne-eqb _ _ (m .0 .0 .1)) (left _ (ne-eqb _ _ (m .0 .1)) (left _ (ne-eqb _ _ (m .1)) (left _ (search ways) (taken _ (search ways) (e .0))))),
+      λ z. (
+        left _ (ne-eqb _ _ (m .0 .0 .1)) (left _ (ne-eqb _ _ (m .0 .1)) (left _ (ne-eqb _ _ (m .1)) (e .1 z .0))),
+        left _ (ne-eqb _ _ (m .0 .0 .1)) (left _ (ne-eqb _ _ (m .0 .1)) (left _ (ne-eqb _ _ (m .1)) (e .1 z .1))),
+      ),
+    )
 
 returns-5 : tie.Need-returns-5
 unfolding fieldRefusal

@@ -79,7 +79,7 @@ module _ (s parts : List ℕ) (at : ℕ) (g : Given) (o : Outlining s parts at g
           read = sym (ap (λ (x : ReadAnswer). x .refusal .number) q);
           given = given ∙ o .given ∙ ap givenOf sheet;
           stands = subst (λ (x : Sheet). Stands s x parts) sheet (o .stands);
-        }
+        },
       )
 
   -- a field: it is refused, or reading goes on past it
