@@ -1,5 +1,5 @@
 pub mod Steps
 pub mod Checking
 pub mod Clear
-pub mod Told
+pub mod Turns
 pub mod Laws

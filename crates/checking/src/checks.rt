@@ -2,30 +2,30 @@
 ghost use mathlib.Core.Path.{_≡_};
 ghost use mathlib.Core.Bool.{true};
 ghost use Prim.Native.Nat.{ℕ, _≤_, _<_};
-ghost use Rattle.sheet.specs.Sizes.{memoryLimit};
-ghost use Rattle.sheet_ranges.specs.Steps.{windowOk, stepOk};
-ghost use Rattle.sheet_ranges.specs.Laws.Within.{TensorsWithin, Within};
-ghost use Rattle.registers.specs.Sized.{Sized, SizedType};
+ghost use lib.ListN.{length};
+ghost use Rattle.sheet.specs.Sizes.{matrixPlaces, memoryLimit};
+ghost use Rattle.sheet.specs.declared.Tensors.{Tensors};
+ghost use Rattle.sheet_ranges.specs.Steps.{stepOk};
+ghost use Rattle.sheet_reader.specs.Parts.{sheetOf, Outlined};
+ghost use Rattle.addressing.specs.Valid.{SizedAccess};
 ghost use Rattle.whole_steps.specs.Within.{WholeOk};
-ghost use Rattle.accesses.specs.Entries.{Told, Scratch};
-ghost use Rattle.checking.specs.Steps.{accessOf, objectRegister, stepCheck, accessCheck, wholeCheck, stepTypes, checkedStep};
-ghost use Rattle.checking.specs.Told.{StepTold};
+ghost use Rattle.accesses.specs.Entries.{Told};
+ghost use Rattle.checking.specs.Steps.{stepCheck, accessCheck, wholeCheck, stepTypes, checkedStep};
+ghost use Rattle.checking.specs.Turns.{stepAccess, Turned};
 ghost use Rattle.checking.specs.Checking.{checkRefused, checked};
 use super::CheckAnswer;
 use super::StepCheck;
-use super::windows;
-use clashes::MARKS;
+use super::turns;
+use addressing::Access;
 use refusals::EMPTY_REGISTER;
 use refusals::Refusal;
 use registers::MatrixType;
-use sheet::Object;
-use sheet::Sheet;
 use sheet::Step;
-use sheet::Tensors;
 use sheet::WholeStep;
-use sheet::Window;
 use sheet::sizes::PLACES;
 use sheet::sizes::REGISTERS;
+use sheet_reader::Given;
+use sheet_reader::PARTS;
 
 pub fn check_refused(refusal: Refusal) -> CheckAnswer
     ensures { λ r. ⌜ r ≡ checkRefused refusal ⌝ }
@@ -44,29 +44,22 @@ fn plain_check(number: u8, types: [MatrixType; REGISTERS]) -> StepCheck
     }
 }
 
-// A load or a store of a matrix of type t, with the types before and after it.
-fn check_window(
+// A load or a store, with the types before and after it: its register is empty where the access has no rows.
+fn check_moves(
     entries: &mut [u32; PLACES],
-    marks: &mut [u32; MARKS],
-    tensors: Tensors,
-    load: bool,
-    window: Window,
     before: [MatrixType; REGISTERS],
     after: [MatrixType; REGISTERS],
-    t: MatrixType,
-    memory: usize,
+    access: Access,
 ) -> StepCheck
-    requires { ⌜ TensorsWithin tensors × (windowOk (tensors .layouts) (tensors .views) window ≡ true) × (memory ≤ memoryLimit) ⌝ }
-    requires { ⌜ SizedType t × Scratch (now entries) (now marks) ⌝ }
-    ensures { λ _. ⌜ Scratch (now (entries .exit)) (now (marks .exit)) ⌝ }
-    ensures { λ r. ⌜ r ≡ accessCheck before after t (accessOf tensors load window t memory) ⌝ }
-    ensures { λ r. ⌜ (r .stop .number ≡ 0 → Told (accessOf tensors load window t memory) (now (entries .exit))) ⌝ }
+    requires { ⌜ (0 < access .rows → SizedAccess access) × (length (now entries) ≡ matrixPlaces) ⌝ }
+    ensures { λ _. ⌜ length (now (entries .exit)) ≡ matrixPlaces ⌝ }
+    ensures { λ r. ⌜ ((t : MatrixType) → access .rows ≡ t .rows → r ≡ accessCheck before after t access) ⌝ }
+    ensures { λ r. ⌜ (r .stop .number ≡ 0 → Told access (now (entries .exit))) ⌝ }
 {
-    if registers::is_empty(t) {
+    if access.rows < 1 {
         return plain_check(EMPTY_REGISTER, before);
     }
-    let a = windows::access_of(tensors, load, window, t, memory);
-    let c = accesses::check_access(entries, marks, a);
+    let c = accesses::check_access(entries, access);
     let stop = c.stop;
     StepCheck {
         stop,
@@ -93,67 +86,35 @@ fn check_whole(
     }
 }
 
-// The register that a load's object is in, or whose type it has.
-pub fn object_register(register: u8, object: Object) -> u8
-    ensures { λ r. ⌜ r ≡ objectRegister register object ⌝ }
-{
-    match object {
-        Object::Kept => register,
-        Object::Zeros => register,
-        Object::Register(r) => r,
-    }
-}
-
-// The entries and the marks are lent room: where a load or a store is accepted, the entries stand for the outcomes of its elements.
+// The entries are lent room: where a load or a store is accepted, they stand for the outcomes of its elements.
 pub fn check_step(
     entries: &mut [u32; PLACES],
-    marks: &mut [u32; MARKS],
     edition: u8,
-    tensors: Tensors,
     types: [MatrixType; REGISTERS],
     memory: usize,
     step: Step,
+    access: Access,
 ) -> StepCheck
-    requires { ⌜ TensorsWithin tensors × (memory ≤ memoryLimit) × Sized types × (stepOk edition (tensors .layouts) (tensors .views) step ≡ true) × Scratch (now entries) (now marks) ⌝ }
-    ensures { λ _. ⌜ Scratch (now (entries .exit)) (now (marks .exit)) ⌝ }
-    ensures { λ r. ⌜ r ≡ checkedStep edition tensors types memory step ⌝ }
-    ensures { λ r. ⌜ (r .stop .number ≡ 0 → StepTold tensors types memory step (now (entries .exit))) ⌝ }
+    requires { ⌜ ((tensors : Tensors) × Turned edition tensors types memory step access) × (length (now entries) ≡ matrixPlaces) ⌝ }
+    ensures { λ _. ⌜ length (now (entries .exit)) ≡ matrixPlaces ⌝ }
+    ensures { λ r. ⌜ ((tensors : Tensors) → access ≡ stepAccess tensors types memory step → r ≡ checkedStep edition tensors types memory step) ⌝ }
+    ensures { λ r. ⌜ (r .stop .number ≡ 0 → Told access (now (entries .exit))) ⌝ }
 {
     match step {
         Step::Nothing => plain_check(0, types),
         Step::Load {
             register,
             object,
-            window,
+            window: _,
         } => {
-            let t = registers::the_type(types, object_register(register, object));
+            let t = registers::the_type(types, turns::object_register(register, object));
             let after = registers::with_type(types, register, t);
-            check_window(
-                entries,
-                marks,
-                tensors,
-                true,
-                window,
-                types,
-                after,
-                t,
-                memory,
-            )
+            check_moves(entries, types, after, access)
         }
-        Step::Store { register, window } => {
-            let t = registers::the_type(types, register);
-            check_window(
-                entries,
-                marks,
-                tensors,
-                false,
-                window,
-                types,
-                types,
-                t,
-                memory,
-            )
-        }
+        Step::Store {
+            register: _,
+            window: _,
+        } => check_moves(entries, types, types, access),
         Step::Whole(whole) => check_whole(edition, types, memory, whole),
     }
 }
@@ -170,7 +131,7 @@ pub fn step_types(types: [MatrixType; REGISTERS], step: Step) -> [MatrixType; RE
             object,
             window: _,
         } => {
-            let t = registers::the_type(types, object_register(register, object));
+            let t = registers::the_type(types, turns::object_register(register, object));
             registers::with_type(types, register, t)
         }
         Step::Store {
@@ -182,31 +143,19 @@ pub fn step_types(types: [MatrixType; REGISTERS], step: Step) -> [MatrixType; RE
 }
 
 // Step by step, from empty registers.
-pub fn check(sheet: Sheet, memory: usize) -> CheckAnswer
-    requires { ⌜ Within sheet × (memory ≤ memoryLimit) ⌝ }
-    ensures { λ r. ⌜ r ≡ checked sheet memory ⌝ }
+pub fn check(s: &[u8], parts: &[usize; PARTS], given: Given, memory: usize) -> CheckAnswer
+    requires { ⌜ Outlined (now s) (now parts) given × (memory ≤ memoryLimit) ⌝ }
+    ensures { λ r. ⌜ r ≡ checked (sheetOf (now (s .entry))) memory ⌝ }
 {
-    let none = registers::no_type();
-    let edition = sheet.edition;
-    let tensors = sheet.tensors;
-    let steps = sheet.steps;
     let mut entries = accesses::no_entries();
-    let mut marks = clashes::no_marks();
-    let mut types = [none; REGISTERS];
+    let mut types = registers::empty_types();
     let mut count: usize = 0;
     let mut k: usize = 0;
-    while k < steps {
-        let c = sheet.step[k];
-        let step = c.step;
-        let got = check_step(
-            &mut entries,
-            &mut marks,
-            edition,
-            tensors,
-            types,
-            memory,
-            step,
-        );
+    while k < given.steps {
+        let turn = turns::turn_at(s, parts, given, types, memory, k);
+        let step = turn.step;
+        let access = turn.access;
+        let got = check_step(&mut entries, given.edition, types, memory, step, access);
         let stop = got.stop;
         if 0 < stop.number {
             return check_refused(refusals::refusal_at(stop.number, k, stop.element));

@@ -306,7 +306,7 @@ fn read_field(
     }
 }
 
-fn nothing_given() -> Given
+pub fn nothing_given() -> Given
     ensures { λ r. ⌜ r ≡ givenOf emptySheet ⌝ }
 {
     Given {

@@ -1,8 +1,11 @@
-use mathlib.Core.Path.{refl, _∙_}
+use mathlib.Core.Path.{ap}
 use borrow.Author.Tests.{le-leb, lt-leb}
 use Rattle.numbers.specs.Choice.{pick}
+use Rattle.refusals.specs.declared.Refusal.{Refusal}
 use Rattle.sheet.specs.Sizes.{memoryLimit}
+use Rattle.sheet_reader.specs.declared.Outline.{Outline}
 use Rattle.checking.specs.Checking.{admitted}
+use native.Mathlib.Omega.{arith}
 use borrow.Author.Needs.{needs}
 use Rattle.checking.proofs.admit.Statement.{statement}
 use Rattle.checking.proofs.admit.Tie as tie
@@ -10,21 +13,25 @@ use Rattle.checking.proofs.admit.Tie as tie
 refusal-at-requires : tie.Need-refusal-at-requires
 refusal-at-requires c κs = search needs
 
-empty-sheet-requires : tie.Need-empty-sheet-requires
-empty-sheet-requires c κs = search needs
+nothing-given-requires : tie.Need-nothing-given-requires
+nothing-given-requires c κs = search needs
 
 returns : tie.Need-returns
 unfolding admitted pick
-returns c = let len = c .before .before .before .before .args .memory-len in rw (lt-leb len memoryLimit (c .before .before .if1 .taken), c .before .refusal-at .ensures, c .empty-sheet .ensures) refl
+returns c =
+    let e = c .before .refusal-at .ensures in
+    (rw (lt-leb _ memoryLimit (c .before .before .if1 .taken)) e, λ z. absurd (omega (arith, z, ap (λ (r : Refusal). r .number) e)))
 
-read-sheet-requires : tie.Need-read-sheet-requires
-read-sheet-requires c κs = search needs
+outline-sheet-requires : tie.Need-outline-sheet-requires
+outline-sheet-requires c κs = search needs
 
 returns-2 : tie.Need-returns-2
 unfolding admitted pick
-returns-2 c = let len = c .before .before .before .args .memory-len in c .read-sheet .ensures ∙ rw (le-leb len memoryLimit (c .before .if1 .left)) refl
+returns-2 c =
+    let e = c .outline-sheet .ensures in
+    (rw (le-leb _ memoryLimit (c .before .before .if1 .left)) (ap (λ (o : Outline). o .refusal) (e .0)), e .1)
 
 pub admit-spec : {M : Type 1} → statement M
 admit-spec =
     tie.close
-    (tie.spec refusal-at-requires empty-sheet-requires returns read-sheet-requires returns-2)
+    (tie.spec refusal-at-requires nothing-given-requires returns outline-sheet-requires returns-2)

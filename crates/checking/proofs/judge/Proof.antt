@@ -1,9 +1,9 @@
-use denote.Ref.{now}
 use mathlib.Core.Path.{_≡_, sym, ap, _∙_}
-use Prim.Native.Nat.{_<_}
-use Rattle.sheet_reader.specs.declared.ReadAnswer.{ReadAnswer}
-use Rattle.checking.specs.Checking.{checkRefused, admitted, checked}
+use denote.Ref.{now}
+use Rattle.sheet.specs.declared.Sheet.{Sheet}
+use Rattle.checking.specs.Checking.{checkRefused, checked}
 use Rattle.checking.specs.Laws.Readable.{admitted-refused, is-admitted}
+use Rattle.checking.specs.declared.CheckAnswer.{CheckAnswer}
 use native.Mathlib.Omega.{arith}
 use borrow.Author.Needs.{needs}
 use Rattle.checking.proofs.judge.Statement.{statement}
@@ -16,31 +16,27 @@ check-refused-requires : tie.Need-check-refused-requires
 check-refused-requires c κs = search needs
 
 returns : tie.Need-returns
-returns c =
-    let a = c .before .before .before .before .before .before .before .args in
-    let e = c .before .before .before .before .before .admit .ensures in
-    let n : 0 < admitted (now (a .sheet)) (a .memory-len) .refusal .number = rw e at (c .before .if1 .taken) in (
-      c .check-refused .ensures ∙ ap (λ (x : ReadAnswer). checkRefused (x .refusal)) e ∙ sym (admitted-refused (now (a .sheet)) (a .memory-len) n),
-      ap (λ (x : ReadAnswer). x .sheet) e,
-    )
+returns c = 
+    let a = c .before .before .before .before .before .before .before .before .args in
+    let e = c .before .before .before .before .before .admit .ensures .0 in
+    let r = c .check-refused .ensures in
+    (r ∙ ap checkRefused e ∙ sym (admitted-refused (now (a .sheet)) (a .memory-len) (rw e at (c .before .if1 .taken))), λ z.
+    absurd (omega (arith, c .before .if1 .taken, z, ap (λ (x : CheckAnswer). x .refusal .number) r)))
 
 check-requires : tie.Need-check-requires
-check-requires c κs =
-    let a = c .before .before .before .before .before .before .args in
-    let e = c .before .before .before .before .admit .ensures in
-    let zero : c .before .before .before .before .admit .result .refusal .number ≡ 0 = omega (arith, c .if1 .left) in
-    let r = is-admitted (now (a .sheet)) (a .memory-len) (rw e at zero) in
-    (rw e (r .within), r .few)
-
-returns-2 : tie.Need-returns-2
-returns-2 c =
-    let a = c .before .before .before .before .before .before .before .args in
+check-requires c κs = 
+    let a = c .before .before .before .before .before .before .before .before .args in
     let e = c .before .before .before .before .before .admit .ensures in
     let zero : c .before .before .before .before .before .admit .result .refusal .number ≡ 0 = omega (arith, c .before .if1 .left) in
-    let r = is-admitted (now (a .sheet)) (a .memory-len) (rw e at zero) in (
-      c .check .ensures ∙ ap (λ (x : ReadAnswer). checked (x .sheet) (a .memory-len)) e ∙ sym (r .check),
-      ap (λ (x : ReadAnswer). x .sheet) e,
-    )
+    (e .1 zero, is-admitted (now (a .sheet)) (a .memory-len) (rw (e .0) at zero) .few)
+
+returns-2 : tie.Need-returns-2
+returns-2 c = 
+    let a = c .before .before .before .before .before .before .before .before .before .args in
+    let e = c .before .before .before .before .before .before .admit .ensures in
+    let zero : c .before .before .before .before .before .before .admit .result .refusal .number ≡ 0 = omega (arith, c .before .before .if1 .left) in
+    let r = is-admitted (now (a .sheet)) (a .memory-len) (rw (e .0) at zero) in
+    (c .check .ensures ∙ ap (λ (x : Sheet). checked x (a .memory-len)) (sym (r .same)) ∙ sym (r .check), λ z. e .1 zero)
 
 pub judge-spec : {M : Type 1} → statement M
 judge-spec =

@@ -1,7 +1,12 @@
-use mathlib.Core.Path.{_∙_}
+
+use mathlib.Core.Path.{_≡_, ap, _∙_}
+use denote.Ref.{now}
+use Rattle.registers.specs.Types.{theType, withType}
 use Rattle.whole_steps.specs.Laws.Within.{whole-ok}
-use Rattle.checking.specs.Laws.Names.{load-register, load-window, load-object, store-register, store-window}
 use Rattle.checking.specs.Steps.{checkedStep}
+use Rattle.checking.specs.Laws.Names.{load-register, load-object}
+use Rattle.checking.specs.Laws.Accesses.{turned-sized, told-none, nothing-bare, whole-bare, load-check, store-check}
+use native.Mathlib.Omega.{arith}
 use borrow.Author.Needs.{needs}
 use Rattle.checking.proofs.checks.check_step.Statement.{statement}
 use Rattle.checking.proofs.checks.check_step.Tie as tie
@@ -19,57 +24,54 @@ object-register-requires : tie.Need-object-register-requires
 object-register-requires c κs = search needs
 
 the-type-requires : tie.Need-the-type-requires
-the-type-requires c κs = rw (c .object-register .ensures) (load-object _ _ _ _ _ _ (rw (c .before .before .step .given .1) at (c .before .before .before .before .pre .3)))
+the-type-requires c κs = rw (c .object-register .ensures) (load-object _ _ _ _ _ _ (rw (c .before .before .step .given .1) at (c .before .before .before .before .pre .0 .1 .ok)))
 
 with-type-requires : tie.Need-with-type-requires
-with-type-requires c κs = load-register _ _ _ _ _ _ (rw (c .before .before .before .step .given .1) at (c .before .before .before .before .before .pre .3))
+with-type-requires c κs = load-register _ _ _ _ _ _ (rw (c .before .before .before .step .given .1) at (c .before .before .before .before .before .pre .0 .1 .ok))
 
-check-window-requires : tie.Need-check-window-requires
-check-window-requires c κs =
-    let s = c .before .before .before .before .before .before .before .before in
-    ((s .pre .0, load-window _ _ _ _ _ _ (rw (c .before .before .before .before .before .before .step .given .1) at (s .pre .3)), s .pre .1), (rw (c .before .before .before .the-type .ensures) (s .pre .2 .each (c .before .before .before .before .object-register .result)), s .pre .4))
+check-moves-requires : tie.Need-check-moves-requires
+check-moves-requires c κs = let s = c .before .before .before .before .before .before .before in (turned-sized (s .pre .0 .1), s .pre .1)
+
+enum-told-2 : tie.Need-enum-told-2
+enum-told-2 c = search needs
+
+check-moves-requires-2 : tie.Need-check-moves-requires-2
+check-moves-requires-2 c κs = let s = c .before .before .before in (turned-sized (s .pre .0 .1), s .pre .1)
 
 enum-known-step-2 : tie.Need-enum-known-step-2
 enum-known-step-2 c = search needs
 
-the-type-requires-2 : tie.Need-the-type-requires-2
-the-type-requires-2 c κs = store-register _ _ _ _ (rw (c .before .step2 .given .1) at (c .before .before .before .pre .3))
-
-check-window-requires-2 : tie.Need-check-window-requires-2
-check-window-requires-2 c κs =
-    let s = c .before .before .before .before .before .before in
-    let g = c .before .before .before .before .step2 .given in
-    ((s .pre .0, store-window _ _ _ _ (rw (g .1) at (s .pre .3)), s .pre .1), (rw (c .before .before .the-type2 .ensures) (s .pre .2 .each (g .0 .0)), s .pre .4))
-
-enum-known-step-3 : tie.Need-enum-known-step-3
-enum-known-step-3 c = search needs
-
 check-whole-requires : tie.Need-check-whole-requires
-check-whole-requires c κs = whole-ok _ _ (rw (c .before .step3 .given .1) at (c .before .before .before .pre .3))
+check-whole-requires c κs = whole-ok _ _ (rw (c .before .step2 .given .1) at (c .before .before .before .pre .0 .1 .ok))
 
 returns : tie.Need-returns
 unfolding checkedStep
-returns c = (c .before .before .before .pre .4, (rw (c .before .enum-told .given .1) (c .plain-check .ensures), λ e. rw (c .before .enum-told .given .1) tt))
+returns c = 
+    let s = c .before .before .before in
+    let g = c .before .enum-told .given .1 in
+    (s .pre .1, (λ tensors q. rw g (c .plain-check .ensures), λ z. told-none (s .args .access) (now (s .args .entries)) (nothing-bare _ _ _ (s .pre .0 .1 .access) g)))
 
 returns-2 : tie.Need-returns-2
-unfolding checkedStep
-returns-2 c =
-    let e = c .check-window .ensures in
-    let t = c .before .before .before .before .the-type .ensures in
-    let o = c .before .before .before .before .before .object-register .ensures in
-    (e .0, rw (c .before .before .before .before .before .before .before .step .given .1) (e .1 .0 ∙ rw (c .before .before .before .with-type .ensures, t, o), λ z. rw (t, o) at (e .1 .1 z)))
+returns-2 c = 
+    let s = c .before .before .before .before .before .before .before .before in
+    let e = c .check-moves .ensures in
+    let g = c .before .before .before .before .before .before .step .given .1 in
+    let t = c .before .before .before .the-type .ensures ∙ ap (theType (s .args .types)) (c .before .before .before .before .object-register .ensures) in
+    let after = c .before .before .with-type .ensures ∙ ap (withType (s .args .types) (c .before .before .before .before .before .before .step .given .0 .0)) t in
+    (e .0, (λ tensors q. rw g (load-check _ tensors _ _ _ _ _ (rw g at q) after (e .1 .0)), e .1 .1))
 
 returns-3 : tie.Need-returns-3
-unfolding checkedStep
-returns-3 c =
-    let e = c .check-window2 .ensures in
-    let t = c .before .before .before .the-type2 .ensures in
-    (e .0, rw (c .before .before .before .before .before .step2 .given .1) (e .1 .0 ∙ rw t, λ z. rw t at (e .1 .1 z)))
+returns-3 c = 
+    let e = c .check-moves2 .ensures in
+    let g = c .before .before .enum-told2 .given .1 in
+    (e .0, (λ tensors q. rw g (store-check _ tensors _ _ _ _ (rw g at q) (e .1 .0)), e .1 .1))
 
 returns-4 : tie.Need-returns-4
 unfolding checkedStep
-returns-4 c =
-    (c .before .before .before .before .pre .4, (rw (c .before .before .step3 .given .1) (c .check-whole .ensures), λ e. rw (c .before .before .step3 .given .1) tt))
+returns-4 c = 
+    let s = c .before .before .before .before in
+    let g = c .before .before .step2 .given .1 in
+    (s .pre .1, (λ tensors q. rw g (c .check-whole .ensures), λ z. told-none (s .args .access) (now (s .args .entries)) (whole-bare _ _ _ (s .pre .0 .1 .access) g)))
 
 pub check-step-spec : {M : Type 1} → statement M
 check-step-spec =
@@ -81,11 +83,10 @@ check-step-spec =
     object-register-requires
     the-type-requires
     with-type-requires
-    check-window-requires
+    check-moves-requires
+    enum-told-2
+    check-moves-requires-2
     enum-known-step-2
-    the-type-requires-2
-    check-window-requires-2
-    enum-known-step-3
     check-whole-requires
     returns
     returns-2
