@@ -1,4 +1,4 @@
 -- What is proved of the definitions.
-pub mod Clear
 pub mod Rests
+pub mod Clear
 pub mod Elements

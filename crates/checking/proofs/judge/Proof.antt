@@ -16,22 +16,24 @@ check-refused-requires : tie.Need-check-refused-requires
 check-refused-requires c κs = search needs
 
 returns : tie.Need-returns
-returns c = 
+returns c =
     let a = c .before .before .before .before .before .before .before .before .args in
     let e = c .before .before .before .before .before .admit .ensures .0 in
-    let r = c .check-refused .ensures in
-    (r ∙ ap checkRefused e ∙ sym (admitted-refused (now (a .sheet)) (a .memory-len) (rw e at (c .before .if1 .taken))), λ z.
-    absurd (omega (arith, c .before .if1 .taken, z, ap (λ (x : CheckAnswer). x .refusal .number) r)))
+    let r = c .check-refused .ensures in (
+      r ∙ ap checkRefused e ∙ sym (admitted-refused (now (a .sheet)) (a .memory-len) (rw e at (c .before .if1 .taken))),
+      λ z.
+          absurd (omega (arith, c .before .if1 .taken, z, ap (λ (x : CheckAnswer). x .refusal .number) r)),
+    )
 
 check-requires : tie.Need-check-requires
-check-requires c κs = 
+check-requires c κs =
     let a = c .before .before .before .before .before .before .before .before .args in
     let e = c .before .before .before .before .before .admit .ensures in
     let zero : c .before .before .before .before .before .admit .result .refusal .number ≡ 0 = omega (arith, c .before .if1 .left) in
     (e .1 zero, is-admitted (now (a .sheet)) (a .memory-len) (rw (e .0) at zero) .few)
 
 returns-2 : tie.Need-returns-2
-returns-2 c = 
+returns-2 c =
     let a = c .before .before .before .before .before .before .before .before .before .args in
     let e = c .before .before .before .before .before .before .admit .ensures in
     let zero : c .before .before .before .before .before .before .admit .result .refusal .number ≡ 0 = omega (arith, c .before .before .if1 .left) in

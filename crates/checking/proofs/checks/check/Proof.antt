@@ -35,7 +35,7 @@ empty-types-requires : tie.Need-empty-types-requires Inv-loop μ-loop
 empty-types-requires c κs = search needs
 
 loop-holds : tie.Need-loop-holds Inv-loop μ-loop
-loop-holds c = 
+loop-holds c =
     let s = c .before .before .before .args in
     let e = c .empty-types .ensures in
     (omega arith, rw e sized-empty, omega arith, c .before .no-entries .ensures, rw e (checked-start (sheetOf (now (s .s))) (s .memory)))
@@ -44,7 +44,7 @@ turn-at-requires : tie.Need-turn-at-requires Inv-loop μ-loop
 turn-at-requires c κs = (c .before .before .before .before .before .before .pre .0, c .if1 .taken)
 
 check-step-requires : tie.Need-check-step-requires Inv-loop μ-loop
-check-step-requires c κs = 
+check-step-requires c κs =
     let s = c .before .before .before .before .before .before .before .before .before in
     let i = c .before .before .before .before .before .loop .inv in
     ((_, met-turned (s .pre .0) (c .before .before .before .if1 .taken) (c .before .before .turn-at .ensures) (s .pre .1) (i .1)), i .3)
@@ -82,7 +82,7 @@ check-refused-requires : tie.Need-check-refused-requires Inv-loop μ-loop
 check-refused-requires c κs = search needs
 
 returns : tie.Need-returns Inv-loop μ-loop
-returns c = 
+returns c =
     let k = c .before .before .before .before .before in
     let i = c .before .before .before .before .before .before .before .before .before .before .before .loop in
     c .check-refused .ensures
@@ -91,13 +91,13 @@ returns c =
     ∙ i .inv .4
 
 add-count : tie.Need-add-count Inv-loop μ-loop
-add-count c = 
+add-count c =
     let k = c .before .before .before .before .before in
     let i = c .before .before .before .before .before .before .before .before .before .before .before .loop .inv in
     omega (arith, few k, i .0, i .2, room k)
 
 add-k : tie.Need-add-k Inv-loop μ-loop
-add-k c = 
+add-k c =
     let k = c .before .before .before .before .before in
     omega (arith, c .before .before .before .before .before .before .before .before .before .before .before .loop .inv .0, room k)
 
@@ -105,10 +105,9 @@ loop-less : tie.Need-loop-less Inv-loop μ-loop
 loop-less c = omega (arith, c .before .before .before .before .before .before .before .before .before .if1 .taken)
 
 loop-again : tie.Need-loop-again Inv-loop μ-loop
-loop-again c = 
+loop-again c =
     let k = c .before .before .before .before .before in
-    let i = c .before .before .before .before .before .before .before .before .before .before .before .loop in
-    (
+    let i = c .before .before .before .before .before .before .before .before .before .before .before .loop in (
       omega (arith, c .before .before .before .before .before .before .before .before .before .if1 .taken),
       rw (is k) (check-sized _ _ (i .types) (memory k) _ _ _ _ (within-step (sh k) (outlined-within (read k)) (i .k) (here k)) (i .inv .1)),
       omega (arith, few k, i .inv .2),
@@ -120,7 +119,7 @@ not-refused-requires : tie.Need-not-refused-requires Inv-loop μ-loop
 not-refused-requires c κs = search needs
 
 returns-2 : tie.Need-returns-2 Inv-loop μ-loop
-returns-2 c = 
+returns-2 c =
     let i = c .before .before .before .loop in
     let s = c .before .before .before .before .before .before .before in
     rw (c .not-refused .ensures)

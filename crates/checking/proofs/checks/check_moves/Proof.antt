@@ -1,4 +1,3 @@
-
 use mathlib.Core.Path.{_≡_, sym, ap, _∙_}
 use borrow.Author.Tests.{eq-eqb, ne-eqb}
 use Rattle.numbers.specs.Laws.Choice.{taken, left}
@@ -14,7 +13,7 @@ plain-check-requires c κs = search needs
 
 returns : tie.Need-returns
 unfolding accessCheck
-returns c = 
+returns c =
     let s = c .before .before .before in
     let z : s .args .access .rows ≡ 0 = omega (arith, c .before .if1 .taken) in
     let e = c .plain-check .ensures in
@@ -25,7 +24,7 @@ check-access-requires c κs = let s = c .before .before .before in (s .pre .0 (o
 
 returns-2 : tie.Need-returns-2
 unfolding accessCheck
-returns-2 c = 
+returns-2 c =
     let s = c .before .before .before .before .before in
     let k = c .before .check-access .ensures in
     (k .0, (λ t q. left _ (ne-eqb (t .rows) 0 (λ z. omega (arith, c .before .before .before .if1 .left, q, z))) (ap (movedCheck (s .args .after)) (k .1 .0)), k .1 .1))

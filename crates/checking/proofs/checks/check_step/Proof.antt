@@ -1,4 +1,3 @@
-
 use mathlib.Core.Path.{_≡_, ap, _∙_}
 use denote.Ref.{now}
 use Rattle.registers.specs.Types.{theType, withType}
@@ -46,13 +45,13 @@ check-whole-requires c κs = whole-ok _ _ (rw (c .before .step2 .given .1) at (c
 
 returns : tie.Need-returns
 unfolding checkedStep
-returns c = 
+returns c =
     let s = c .before .before .before in
     let g = c .before .enum-told .given .1 in
     (s .pre .1, (λ tensors q. rw g (c .plain-check .ensures), λ z. told-none (s .args .access) (now (s .args .entries)) (nothing-bare _ _ _ (s .pre .0 .1 .access) g)))
 
 returns-2 : tie.Need-returns-2
-returns-2 c = 
+returns-2 c =
     let s = c .before .before .before .before .before .before .before .before in
     let e = c .check-moves .ensures in
     let g = c .before .before .before .before .before .before .step .given .1 in
@@ -61,14 +60,14 @@ returns-2 c =
     (e .0, (λ tensors q. rw g (load-check _ tensors _ _ _ _ _ (rw g at q) after (e .1 .0)), e .1 .1))
 
 returns-3 : tie.Need-returns-3
-returns-3 c = 
+returns-3 c =
     let e = c .check-moves2 .ensures in
     let g = c .before .before .enum-told2 .given .1 in
     (e .0, (λ tensors q. rw g (store-check _ tensors _ _ _ _ (rw g at q) (e .1 .0)), e .1 .1))
 
 returns-4 : tie.Need-returns-4
 unfolding checkedStep
-returns-4 c = 
+returns-4 c =
     let s = c .before .before .before .before in
     let g = c .before .before .step2 .given .1 in
     (s .pre .1, (λ tensors q. rw g (c .check-whole .ensures), λ z. told-none (s .args .access) (now (s .args .entries)) (whole-bare _ _ _ (s .pre .0 .1 .access) g)))

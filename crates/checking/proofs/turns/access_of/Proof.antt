@@ -27,7 +27,7 @@ cast-t13 : tie.Need-cast-t13
 cast-t13 c = search needs
 
 returns : tie.Need-returns
-returns c = 
+returns c =
     rw (c .before .before .before .before .before .layout-in .ensures, c .before .before .before .before .view-named .ensures, c .before .before .before .is-viewed .ensures, c .before .before .bytes .ensures)
     refl
 

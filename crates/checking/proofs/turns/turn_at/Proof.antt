@@ -1,4 +1,3 @@
-
 use mathlib.Core.Path.{_≡_, ap, _∙_}
 use denote.Ref.{now}
 use Rattle.sheet_reader.specs.Parts.{sheetOf}
@@ -15,14 +14,14 @@ step-in-requires : tie.Need-step-in-requires
 step-in-requires c κs = search needs
 
 step-access-requires : tie.Need-step-access-requires
-step-access-requires c κs = 
+step-access-requires c κs =
     let s = c .before .before in
     let o = s .pre .0 in
     let sh = sheetOf (now (s .args .s)) in
     ((_, o), (sh .edition, rw (c .step-in .ensures) (within-step sh (outlined-within o) (s .args .k) (rw (o .given) at (s .pre .1)))))
 
 returns : tie.Need-returns
-returns c = 
+returns c =
     let a = c .before .before .before .args in
     record { step = c .before .step-in .ensures; access = c .step-access .ensures ∙ ap (stepAccess (sheetOf (now (a .s)) .tensors) (a .types) (a .memory)) (c .before .step-in .ensures) }
 

@@ -17,7 +17,7 @@ cast-view-in : tie.Need-cast-view-in
 cast-view-in c = search needs
 
 view-in-requires : tie.Need-view-in-requires
-view-in-requires c κs = 
+view-in-requires c κs =
     let s = c .before .before .before .before in
     let v = c .before .view .given in
     (s .pre .0, ltb-true (v .0 .0) _ (rw (v .1) at (s .pre .1)))
