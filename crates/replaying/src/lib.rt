@@ -2,7 +2,7 @@
 ghost use mathlib.Core.Path.{_≡_};
 ghost use Prim.Native.Nat.{_+_, _*_, _<_, _≤_};
 ghost use Rattle.sheet.specs.Sizes.{stepPlaces, matrixPlaces, memoryLimit};
-ghost use Rattle.sheet_ranges.specs.Laws.Within.{Within};
+ghost use Rattle.sheet_reader.specs.Parts.{sheetOf, Outlined};
 ghost use Rattle.checking.specs.Checking.{checked};
 ghost use Rattle.traces.specs.Numbered.{eventsIn};
 ghost use Rattle.expected.specs.Expected.{expected};
@@ -11,10 +11,11 @@ ghost use Rattle.replaying.specs.Verdicts.{verdictAt};
 ghost use Rattle.replaying.specs.Replaying.{replayRefused, replayed};
 ghost use Rattle.replaying.specs.Matching.{matched, goesOn, matchOne, matchAll};
 use checking::checks;
+use checking::turns;
 use refusals::Refusal;
-use sheet::Sheet;
 use sheet::sizes::PLACES;
-use sheet::sizes::REGISTERS;
+use sheet_reader::Given;
+use sheet_reader::PARTS;
 use traces::EVENT_LEN;
 use traces::Event;
 
@@ -96,32 +97,26 @@ fn match_events(
 
 // The steps in order, from empty registers: each is checked, and its events are matched with what its check left in the entries, so that no
 // element is located twice.
-fn match_sheet(trace: &[u8], sheet: Sheet, memory: usize) -> Compared
-    requires { ⌜ Within sheet × (memory ≤ memoryLimit) ⌝ }
-    ensures { λ r. ⌜ r .refusal ≡ checked sheet memory .refusal ⌝ }
-    ensures { λ r. ⌜ (r .refusal .number ≡ 0 → r .events ≡ matchAll (eventsIn (now (trace .entry))) (matched 0 0) (expected sheet memory)) ⌝ }
+fn match_sheet(
+    trace: &[u8],
+    s: &[u8],
+    parts: &[usize; PARTS],
+    given: Given,
+    memory: usize,
+) -> Compared
+    requires { ⌜ Outlined (now s) (now parts) given × (memory ≤ memoryLimit) ⌝ }
+    ensures { λ r. ⌜ r .refusal ≡ checked (sheetOf (now (s .entry))) memory .refusal ⌝ }
+    ensures { λ r. ⌜ (r .refusal .number ≡ 0 → r .events ≡ matchAll (eventsIn (now (trace .entry))) (matched 0 0) (expected (sheetOf (now (s .entry))) memory)) ⌝ }
 {
-    let none = registers::no_type();
-    let edition = sheet.edition;
-    let tensors = sheet.tensors;
-    let steps = sheet.steps;
     let mut entries = accesses::no_entries();
-    let mut marks = clashes::no_marks();
-    let mut types = [none; REGISTERS];
+    let mut types = registers::empty_types();
     let mut m = Matched { index: 0, count: 0 };
     let mut k: usize = 0;
-    while k < steps {
-        let c = sheet.step[k];
-        let step = c.step;
-        let got = checks::check_step(
-            &mut entries,
-            &mut marks,
-            edition,
-            tensors,
-            types,
-            memory,
-            step,
-        );
+    while k < given.steps {
+        let turn = turns::turn_at(s, parts, given, types, memory, k);
+        let step = turn.step;
+        let access = turn.access;
+        let got = checks::check_step(&mut entries, given.edition, types, memory, step, access);
         let stop = got.stop;
         if 0 < stop.number {
             return Compared {
@@ -129,7 +124,7 @@ fn match_sheet(trace: &[u8], sheet: Sheet, memory: usize) -> Compared
                 events: m,
             };
         }
-        let count = expected::count_events(types, step);
+        let count = expected::count_events(access);
         m = match_events(trace, m, &entries, count, k);
         let after = got.types;
         types = after;
@@ -169,13 +164,14 @@ fn replay_refused(refusal: Refusal) -> ReplayAnswer
 pub fn replay(sheet: &[u8], memory_len: usize, trace: &[u8]) -> ReplayAnswer
     ensures { λ r. ⌜ r ≡ replayed (now (sheet .entry)) «memory_len» (now (trace .entry)) ⌝ }
 {
-    let read = checking::admit(sheet, memory_len);
+    let mut parts = sheet_parts::no_parts();
+    let read = checking::admit(sheet, &mut parts, memory_len);
     let unread = read.refusal;
     if 0 < unread.number {
         return replay_refused(unread);
     }
-    let model = read.sheet;
-    let found = match_sheet(trace, model, memory_len);
+    let given = read.given;
+    let found = match_sheet(trace, sheet, &parts, given, memory_len);
     let refused = found.refusal;
     if 0 < refused.number {
         return replay_refused(refused);
