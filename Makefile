@@ -17,6 +17,8 @@
 #   make night-speed  time a night of NIGHT sheets with eight cards
 #   make lint       cppcheck, warnings as errors, and the header as C++
 #   make check      lint, test, text-test and compare: all but the proofs
+#   make edits-apart  try each part of a must-fail edit that has several alone, each a whole check of
+#                   its crate; not part of the gate, which tries them together
 #   make memcheck   the tool's tests with sanitizers, then with each third call (of masks, diff and
 #                   night: each ninth) under valgrind, then 500 sheets of each edition of the comparison
 #                   under it: some 13 minutes
@@ -65,6 +67,9 @@ target/staticlib/libmoonbleat.a: crates.txt $(shell find crates -name '*.rt' -o 
 	@touch $@
 
 archive: target/staticlib/libmoonbleat.a
+
+edits-apart:
+	tools/edits --apart
 
 $(TOOL):
 	mkdir -p $@
@@ -192,4 +197,4 @@ clean:
 
 FORCE:
 
-.PHONY: all archive install uninstall dist demo tool-test test text-test memcheck compare bench night-speed lint check clean FORCE
+.PHONY: all archive edits-apart install uninstall dist demo tool-test test text-test memcheck compare bench night-speed lint check clean FORCE
