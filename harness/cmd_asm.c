@@ -61,6 +61,7 @@ const struct command asm_command = {
     .files_max = 1,
     .takes = SET(OPTION_OUT),
     .needs = SET(OPTION_OUT),
+    .out = "the sheet",
     .summary = "make a sheet of its text form",
     .details = "One line a field, # begins a comment; docs/SHEETS.md describes the form. For instance:\n"
                "\n"

@@ -87,7 +87,7 @@ static int do_run_tape(const struct request *request)
         status = carry_out_or_run(&run_tape_command, request, &sheet, &tape, request->files[2]);
     }
     if (status == DONE && tape.records == 0) {
-        fprintf(stderr, "moonbleat: %s: warning: the tape is empty\n", request->files[1]);
+        complain_of(request->files[1], "warning: the tape is empty");
     }
     free(sheet.at);
     return status;
@@ -99,6 +99,7 @@ const struct command run_command = {
     .files_min = 2,
     .files_max = 2,
     .takes = SET(OPTION_OUT) | SET(OPTION_REGISTERS) | SET(OPTION_JSON),
+    .out = "the memory afterwards",
     .summary = "carry the sheet out on a memory; print the registers",
     .details = "Elements are printed row by row, by their sign. The last line says how many elements of loads\n"
                "and stores had a byte.\n",
@@ -111,6 +112,7 @@ const struct command run_tape_command = {
     .files_min = 3,
     .files_max = 3,
     .takes = SET(OPTION_OUT) | SET(OPTION_REGISTERS) | SET(OPTION_JSON),
+    .out = "the memory afterwards",
     .summary = "run a tape with its sheet on a memory; print the registers",
     .details = "TAPE is as tape prints it: one record a line, six decimal numbers.\n",
     .perform = do_run_tape,

@@ -70,6 +70,7 @@ const struct command trace_command = {
     .files_min = 1,
     .files_max = 1,
     .takes = SET(OPTION_MEMORY) | SET(OPTION_OUT) | SET(OPTION_JSON),
+    .out = "the trace, which is then not printed,",
     .summary = "print what becomes of each element of the sheet's loads and stores, or write it as a trace",
     .details = "One access a line, from 0 on, with step, element and what becomes of it: skipped (outside the\n"
                "view's clip), filled or discarded (outside the tensor), or its byte in memory:\n"

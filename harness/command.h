@@ -22,6 +22,7 @@ struct command {
     size_t files_max;
     unsigned takes;      /* sets of options */
     unsigned needs;      /* ... of those that it takes */
+    const char *out;     /* what -o writes, "the trace"; NULL: it takes none */
     const char *summary; /* one line */
     const char *details; /* further lines; an indented one is printed as it stands */
     int (*perform)(const struct request *request);
@@ -36,5 +37,8 @@ extern const struct command *const commands[];
 
 /* The command of a name, or NULL. */
 const struct command *find_command(const char *name);
+
+/* Says that there is no command of a name, and which one may be meant; gives the exit status. */
+int unknown_command(const char *name);
 
 #endif

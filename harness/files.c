@@ -1,15 +1,30 @@
 #include "files.h"
 
 #include <errno.h>
+#include <stdarg.h>
 #include <stdlib.h>
 #include <string.h>
+
+#include "names.h"
 
 /* A file is read in pieces of at least this size. */
 enum { PIECE = 4096 };
 
+void complain_of(const char *name, const char *format, ...)
+{
+    va_list arguments;
+    va_start(arguments, format);
+    fputs("moonbleat: ", stderr);
+    put_word(stderr, name);
+    fputs(": ", stderr);
+    vfprintf(stderr, format, arguments);
+    fputc('\n', stderr);
+    va_end(arguments);
+}
+
 void complain(const char *name)
 {
-    fprintf(stderr, "moonbleat: %s: %s\n", name, strerror(errno));
+    complain_of(name, "%s", strerror(errno));
 }
 
 FILE *open_input(const char *name)

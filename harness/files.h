@@ -24,6 +24,9 @@ FILE *open_input(const char *name);
 /* Closes what open_input opened. */
 void close_input(FILE *file);
 
+/* Says what is wrong with a file: one line on standard error. */
+void complain_of(const char *name, const char *format, ...) __attribute__((format(printf, 2, 3)));
+
 /* Says that reading or writing a file failed, for the reason in errno. */
 void complain(const char *name);
 

@@ -71,7 +71,9 @@ uint32_t shard_of(const char *name, uint32_t parts)
 
 static void pass_over(const char *path, const char *name)
 {
-    fprintf(stderr, "moonbleat: %s: passing over ", path);
+    fputs("moonbleat: ", stderr);
+    put_word(stderr, path);
+    fputs(": passing over ", stderr);
     put_name(&(struct sink){stderr, put_plain}, name);
     fputs(": not the name of a night's file\n", stderr);
 }

@@ -63,6 +63,18 @@ void print_usage(FILE *file, const struct command *command)
     for (const struct command *const *each = commands; *each != NULL; each++) {
         fprintf(file, "  %s\n", synopsis(*each).at);
     }
+    fputs("  moonbleat --version\n", file);
+}
+
+static void print_option_help(const struct command *command, unsigned option)
+{
+    const struct option_form *form = &option_forms[option];
+    printf("\n  %s %s\n      ", form->name, form->value == NULL ? "" : form->value);
+    if (option == OPTION_OUT) {
+        printf("write %s to OUT\n", command->out);
+    } else {
+        puts(form->help);
+    }
 }
 
 static void print_command_help(const struct command *command)
@@ -74,8 +86,7 @@ static void print_command_help(const struct command *command)
     }
     for (unsigned option = 0; option < OPTIONS; option++) {
         if ((command->takes & SET(option)) != 0) {
-            const struct option_form *form = &option_forms[option];
-            printf("\n  %s %s\n      %s\n", form->name, form->value == NULL ? "" : form->value, form->help);
+            print_option_help(command, option);
         }
     }
 }
@@ -84,7 +95,7 @@ static void print_tool_help(void)
 {
     printf("moonbleat: %s\n\n", purpose);
     print_usage(stdout, NULL);
-    printf("  moonbleat --version\n\n");
+    putchar('\n');
     for (const struct command *const *command = commands; *command != NULL; command++) {
         printf("  %-11s%s\n", (*command)->name, (*command)->summary);
     }
@@ -185,7 +196,7 @@ static int do_help(const struct request *request)
     if (request->file_count > 0) {
         command = find_command(request->files[0]);
         if (command == NULL) {
-            return wrong_use(NULL, "unknown command %s", request->files[0]);
+            return unknown_command(request->files[0]);
         }
     }
     print_help(command);

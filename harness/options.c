@@ -9,6 +9,8 @@
 #include "files.h"
 #include "help.h"
 #include "moonbleat.h"
+#include "names.h"
+#include "nearest.h"
 #include "numbers.h"
 
 const struct option_form option_forms[OPTIONS] = {
@@ -71,11 +73,26 @@ static enum option find_option(const struct command *command, const char *word)
     return (enum option)option;
 }
 
+/* Says that the command does not take an option, and which one may be meant. */
+static int refuse_option(const struct command *command, const char *word)
+{
+    struct nearest nearest = nearest_to(word, name_length(word));
+    for (unsigned option = 0; option < OPTIONS; option++) {
+        if ((command->takes & SET(option)) != 0) {
+            consider(&nearest, option_forms[option].name);
+        }
+    }
+    consider(&nearest, "--help");
+    struct text meant = {.len = 0};
+    add_nearest(&meant, &nearest, "");
+    return wrong_use(command, "%s does not take %s%s", command->name, shown(word).at, meant.at);
+}
+
 static int take_memory(const struct command *command, const char *word, struct request *request)
 {
     uint64_t length;
     if (!parse_number(word, strlen(word), &length) || length > SIZE_MAX) {
-        return wrong_use(command, "--memory %s: not a length in bytes", word);
+        return wrong_use(command, "--memory %s: not a length in bytes", shown(word).at);
     }
     request->memory = (size_t)length;
     return DONE;
@@ -87,7 +104,7 @@ static int take_option(const struct command *command, char **words, size_t count
     const char *word = words[*at];
     enum option option = find_option(command, word);
     if (option == OPTIONS) {
-        return wrong_use(command, "%s does not take %s", command->name, word);
+        return refuse_option(command, word);
     }
     const struct option_form *form = &option_forms[option];
     const char *value = word[name_length(word)] == '=' ? word + name_length(word) + 1 : NULL;
@@ -125,7 +142,8 @@ static int take_words(const struct command *command, char **words, size_t count,
                 return status;
             }
         } else if (request->file_count == command->files_max) {
-            return wrong_use(command, "%s takes %s, and %s is one more", command->name, command->files, words[i]);
+            return wrong_use(command, "%s takes %s, and %s is one more", command->name, command->files,
+                             shown(words[i]).at);
         } else {
             request->files[request->file_count++] = words[i];
         }

@@ -58,7 +58,7 @@ struct request {
 struct command;
 
 /* Says what is wrong with the command line and how the command is used (NULL: any command); gives
- * the exit status. */
+ * the exit status. Words of the command line go in as names.h shows them. */
 int wrong_use(const struct command *command, const char *format, ...) __attribute__((format(printf, 2, 3)));
 
 /* Reads the words after a command's name; gives an exit status. The files are moved to the front

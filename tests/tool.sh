@@ -691,7 +691,7 @@ for words in -h help 'help --'; do
     call 0 $words
     same "$words" stdout help
 done
-sed -n '/^usage:$/,/^ *moonbleat help/p' help > usage
+sed -n '/^usage:$/,/^ *moonbleat --version/p' help > usage
 commands=$(sed -n 's/^  moonbleat \([a-z-]*\) .*/\1/p' usage)
 for command in $commands; do
     call 0 help "$command"
@@ -743,7 +743,7 @@ wrong '--memory 0x: not a length in bytes' check sheet --memory 0x
 wrong '--memory 0x1g: not a length in bytes' check sheet --memory=0x1g
 wrong '--memory 0x10000000000000000: not a length in bytes' check sheet --memory 0x10000000000000000
 wrong '--memory : not a length in bytes' check sheet --memory=
-wrong 'check does not take --memory-' check sheet --memory- 64
+wrong 'check does not take --memory-; did you mean --memory?' check sheet --memory- 64
 wrong 'check does not take --mem' check sheet --mem 64
 wrong '--man takes no word after it' help --man=1
 wrong 'check takes SHEET, and --memory is one more' check sheet -- --memory
@@ -836,16 +836,6 @@ call 0 check -- --help
 rm ./--help
 
 # -- Files that cannot be read -------------------------------------------------------------------
-
-# broken TEXT WORD..: exit status 3, nothing printed, and standard error is the text.
-broken() {
-    text=$1
-    shift
-    call 3 "$@"
-    silent
-    echo "moonbleat: $text" > expected
-    same "$*" stderr expected
-}
 
 gone='No such file or directory'
 broken "nowhere: $gone" check nowhere --memory 64
@@ -1930,7 +1920,7 @@ same 'the commands of README.md' stdout expected
 if [ -s expected ]; then pass; else fail 'no commands in README.md'; fi
 
 # The usage in the manual is the tool's.
-sed -n 's/^    \(moonbleat [a-z]\)/  \1/p' "$root/harness/README.md" > stdout
+sed -n 's/^    \(moonbleat [a-z-]\)/  \1/p' "$root/harness/README.md" > stdout
 sed 1d usage > expected
 same 'the usage in the manual' stdout expected
 
