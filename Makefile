@@ -132,6 +132,7 @@ demo: all
 
 tool-test: all
 	tests/tool.sh $(TOOL)
+	tests/edges.sh $(TOOL)
 	tests/where.sh $(TOOL)
 	tests/masks.sh $(TOOL)
 	tests/examples.sh $(TOOL)
@@ -148,6 +149,7 @@ test: tool-test $(addprefix $(TOOL)/test-,null outcome masks where stack) $(SHEE
 memcheck: all
 	$(MAKE) $(SANITIZED) tool-test
 	RUNNER='$(VALGRIND) $(LEAKS)' EVERY=3 tests/tool.sh $(TOOL)
+	RUNNER='$(VALGRIND) $(LEAKS)' EVERY=3 tests/edges.sh $(TOOL)
 	RUNNER='$(VALGRIND) $(LEAKS)' EVERY=3 tests/where.sh $(TOOL)
 	RUNNER='$(VALGRIND) $(LEAKS)' EVERY=9 tests/masks.sh $(TOOL)
 	RUNNER='$(VALGRIND) $(LEAKS)' EVERY=9 tests/night.sh $(TOOL)

@@ -20,6 +20,7 @@ struct command {
     const char *files; /* as the help calls them, "SHEET MEMORY" */
     size_t files_min;
     size_t files_max;
+    size_t overwrites;   /* the file, counted from 1, that -o may name too and then replaces; 0: none */
     unsigned takes;      /* sets of options */
     unsigned needs;      /* ... of those that it takes */
     const char *out;     /* what -o writes, "the trace"; NULL: it takes none */

@@ -34,6 +34,7 @@ struct option_form {
     const char *value; /* what the help calls the word after it; NULL for a switch */
     const char *help;
     bool repeats; /* may be given more than once */
+    bool writes;  /* the word is a file that is written */
 };
 
 extern const struct option_form option_forms[OPTIONS];

@@ -1034,13 +1034,6 @@ broken 'folder: not a regular file' run sheet memory -o folder
 broken "nowhere/out: $gone" trace sheet -o nowhere/out
 broken 'sheet/out: Not a directory' trace sheet -o sheet/out
 broken 'folder: not a regular file' trace sheet -o folder
-mkfifo pipe
-broken 'pipe: not a regular file' run-tape sheet tape memory -o pipe
-if [ -p pipe ]; then pass; else fail 'a pipe was replaced'; fi
-# Through a link, so that a fault here could not replace the device itself.
-ln -s /dev/null device
-broken 'device: not a regular file' run sheet memory -o device
-if [ -h device ]; then pass; else fail 'a device was replaced'; fi
 # Nobody can make a file in the first folder; in the second, root can.
 call 3 run sheet memory -o /proc/out
 silent
