@@ -87,6 +87,13 @@ static int check_night(const struct request *request)
     return DONE;
 }
 
+/* Whether no report goes to a file that the next night would take for one of its own. */
+static bool is_out_apart(const struct request *request, enum option option)
+{
+    const char *out = request->words[option];
+    return out == NULL || is_standard_output(out) || is_kept_apart(request->files[0], out);
+}
+
 /* -- The report ------------------------------------------------------------------------------- */
 
 static void close_report_out(struct report_out *out)
@@ -242,7 +249,8 @@ static int judge_night(const struct request *request)
     if (status != DONE) {
         return status;
     }
-    if (!open_folder(request->files[0], &shard, &folder)) {
+    if (!is_out_apart(request, OPTION_OUT) || !is_out_apart(request, OPTION_HTML) ||
+        !open_folder(request->files[0], &shard, &folder)) {
         return FAILED;
     }
     if (folder.cards.count > 0) {

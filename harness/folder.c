@@ -1,13 +1,15 @@
-#define _POSIX_C_SOURCE 200809L
+#define _XOPEN_SOURCE 700
 
 #include "folder.h"
 
 #include <errno.h>
 #include <stdio.h>
+#include <stdlib.h>
 #include <string.h>
 
 #include "asm.h"
 #include "names.h"
+#include "same_file.h"
 
 /* A sheet's text may have comments, but not without end. */
 enum { TEXT_MAX = 1 << 20 };
@@ -121,6 +123,24 @@ bool open_folder(const char *path, const struct shard *shard, struct folder *fol
     sort_list(&folder->sheets);
     sort_list(&folder->cards);
     return true;
+}
+
+/* Whether a name is that of a night's file in the folder. */
+static bool is_nights_file(const char *path, const char *name)
+{
+    struct entry entry;
+    return is_in_folder(name, path) && parse_entry(base_name(name), &entry);
+}
+
+bool is_kept_apart(const char *path, const char *out)
+{
+    char *target = realpath(out, NULL);
+    bool apart = !is_nights_file(path, out) && (target == NULL || !is_nights_file(path, target));
+    free(target);
+    if (!apart) {
+        complain_of(out, "the next night would read this as a file of its folder");
+    }
+    return apart;
 }
 
 void close_folder(struct folder *folder)

@@ -176,5 +176,32 @@ if [ $? -eq 0 ]; then pass; else fail 'a tool below nohup'; fi
 same 'an output below nohup' folder/out after
 rm folder/out
 
+# -- An OUT in the night's folder ------------------------------------------------------------------
+
+mkdir night
+cp sheet night/a.sheet
+cp memory night/a.memory
+cp after night/a.card.after
+ls night > before
+for name in report.txt b.sheet b.memory b.card.after b.card.registers; do
+    for out in "night/$name" "./night/../night/$name" "$work/night/$name"; do
+        broken "$out: the next night would read this as a file of its folder" night night -o "$out"
+        broken "$out: the next night would read this as a file of its folder" night night --html "$out"
+    done
+done
+ln -s ../report night/linked.txt
+broken 'night/linked.txt: the next night would read this as a file of its folder' night night -o night/linked.txt
+rm night/linked.txt
+ln -s night/a.memory outside
+broken 'outside: the next night would read this as a file of its folder' night night -o outside
+same 'a memory of the night' night/a.memory memory
+ls night > stdout
+same 'the files of the night' stdout before
+call 0 night night -o night/report --html night/report.html --json
+call 0 night night -o report.txt
+call 0 night night -o /dev/stdout
+contains 'a card agrees' stdout
+kept night/report night --merge night/report -o night/report
+
 echo "tests of the edges: $passed passed, $failed failed"
 [ "$failed" -eq 0 ]
