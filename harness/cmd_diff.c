@@ -12,6 +12,7 @@
 #include "kinds.h"
 #include "names.h"
 #include "refusals.h"
+#include "sheet_file.h"
 
 /* A card on the command line. */
 struct card {

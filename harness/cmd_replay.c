@@ -5,6 +5,7 @@
 #include "answers.h"
 #include "command.h"
 #include "files.h"
+#include "sheet_file.h"
 #include "traces.h"
 
 /* A trace is judged to its end, and none of a sheet's is longer than MOONBLEAT_TRACE_MAX: files of

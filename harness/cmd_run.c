@@ -7,6 +7,7 @@
 #include "files.h"
 #include "outputs.h"
 #include "result.h"
+#include "sheet_file.h"
 #include "tape_text.h"
 
 static void print_answer(const struct command *command, const struct request *request, const struct refused *ran,

@@ -7,6 +7,7 @@
 #include "fields.h"
 #include "files.h"
 #include "moonbleat.h"
+#include "sheet_file.h"
 #include "sheet_text.h"
 #include "show.h"
 

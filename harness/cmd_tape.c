@@ -8,6 +8,7 @@
 #include "files.h"
 #include "outputs.h"
 #include "result.h"
+#include "sheet_file.h"
 #include "tape_text.h"
 #include "translation.h"
 

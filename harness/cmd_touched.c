@@ -8,6 +8,7 @@
 #include "command.h"
 #include "files.h"
 #include "numbers.h"
+#include "sheet_file.h"
 #include "traces.h"
 #include "translation.h"
 

@@ -6,6 +6,7 @@
 #include "command.h"
 #include "files.h"
 #include "outputs.h"
+#include "sheet_file.h"
 #include "traces.h"
 
 static void print_lines(const struct refused *traced, const uint8_t *trace, size_t count)

@@ -8,6 +8,7 @@
 #include "command.h"
 #include "files.h"
 #include "numbers.h"
+#include "sheet_file.h"
 #include "where.h"
 
 /* What is asked for, by the words of the command line. */

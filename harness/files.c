@@ -96,11 +96,6 @@ bool read_file(const char *name, size_t limit, struct bytes *bytes)
     return done;
 }
 
-bool read_sheet(const char *name, struct bytes *sheet)
-{
-    return read_file(name, SHEET_LIMIT, sheet);
-}
-
 bool read_memory(const char *name, struct bytes *memory)
 {
     return read_file(name, MEMORY_LIMIT, memory);

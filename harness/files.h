@@ -41,8 +41,7 @@ bool read_file(const char *name, size_t limit, struct bytes *bytes);
 #define MEMORY_LIMIT ((size_t)MOONBLEAT_MEMORY_MAX + 1)
 #define SHEET_LIMIT ((size_t)MOONBLEAT_SHEET_MAX + 3 + UINT16_MAX)
 
-/* Read a sheet or a memory: as much of it as can change the answer. */
-bool read_sheet(const char *name, struct bytes *sheet);
+/* Reads a memory: as much of it as can change the answer. */
 bool read_memory(const char *name, struct bytes *memory);
 
 #endif

@@ -11,9 +11,6 @@
 #include "names.h"
 #include "same_file.h"
 
-/* A sheet's text may have comments, but not without end. */
-enum { TEXT_MAX = 1 << 20 };
-
 /* -- The names -------------------------------------------------------------------------------- */
 
 /* The part that a suffix stands for, PARTS if it is none's. */
@@ -155,7 +152,7 @@ void close_folder(struct folder *folder)
 /* What a sheet's files are read into. */
 struct rooms {
     uint8_t sheet[SHEET_LIMIT];
-    uint8_t text[TEXT_MAX + 1];
+    uint8_t text[SHEET_TEXT_MAX + 1];
     uint8_t memory[MEMORY_LIMIT];
 };
 
@@ -183,8 +180,8 @@ static bool read_text(const struct location *location, const char *name, struct 
     if (!read_part(location, name, PART_TEXT, room, &len, finding)) {
         return false;
     }
-    if (len > TEXT_MAX) {
-        set_unreadable(finding, PART_TEXT, "it has more than %d bytes", TEXT_MAX);
+    if (len > SHEET_TEXT_MAX) {
+        set_unreadable(finding, PART_TEXT, "it has more than %d bytes", SHEET_TEXT_MAX);
         return false;
     }
     return assemble_into(rooms, len, sheet, finding);

@@ -176,6 +176,83 @@ if [ $? -eq 0 ]; then pass; else fail 'a tool below nohup'; fi
 same 'an output below nohup' folder/out after
 rm folder/out
 
+# -- The text form in place of a sheet -------------------------------------------------------------
+
+# alike STATUS WORD..: the command, of which SHEET is a word, answers the same for the sheet and for its text.
+alike() {
+    wanted=$1
+    shift
+    for sheet in sheet sheet.txt; do
+        tool $(echo "$*" | sed "s/SHEET/$sheet/") > "$sheet.stdout" 2> "$sheet.stderr"
+        if [ $? -eq "$wanted" ]; then pass; else fail "$* with $sheet: $(cat "$sheet.stderr")"; fi
+    done
+    same "$*: printed" sheet.txt.stdout sheet.stdout
+    same "$*: said" sheet.txt.stderr sheet.stderr
+}
+for words in 'check SHEET' 'run SHEET memory' 'tape SHEET' 'run-tape SHEET tape memory' 'trace SHEET' \
+    'replay SHEET trace' 'divisions SHEET' 'where SHEET 1' 'touched SHEET 2 2' 'show SHEET' 'show SHEET --asm' \
+    'show SHEET --json' 'diff SHEET memory --card c=after'; do
+    alike 0 "$words"
+done
+: > empty
+for words in 'check SHEET --memory 8' 'tape SHEET --memory 8' 'trace SHEET --memory 8' 'run SHEET empty'; do
+    alike 1 "$words"
+done
+call 0 check - < sheet.txt
+prints 'accepted, byte-elements: 12'
+# A text with errors is told as asm tells it, by every command.
+sed 's/size 4/size 0/' sheet.txt > bad.txt
+for words in 'check bad.txt' 'run bad.txt memory' 'tape bad.txt' 'run-tape bad.txt tape memory' 'trace bad.txt -o out' \
+    'replay bad.txt trace' 'divisions bad.txt' 'where bad.txt 1' 'touched bad.txt 1 0' 'show bad.txt' \
+    'diff bad.txt memory --card c=after'; do
+    # shellcheck disable=SC2086
+    call 3 $words
+    silent
+    errors 'bad.txt:4:12: size 0 is not within 1 to 4096'
+done
+absent out
+# What is no text is read as bytes: three first bytes tell.
+for hex in '61 62 00' '23 07 0A' '20 0800' '7F 41 41' 'EF BB BF 00' 'FF 41 41 41'; do
+    bytes odd "$hex"
+    tool check odd > stdout 2> stderr
+    case $hex-$(cat stderr) in
+        'EF BB BF 00-odd:1:1: '* | ??' '*-'moonbleat: refusal '*) pass ;;
+        *) fail "bytes $hex: $(cat stderr)" ;;
+    esac
+done
+for line in 'edition 1' '# c' '' ' edition 1' '	edition 1' 'x'; do
+    printf '%s\nedition 1 1\n' "$line" > odd
+    tool check odd > stdout 2> stderr
+    case $(cat stderr) in
+        odd:*) pass ;;
+        *) fail "a text that begins '$line': $(cat stderr)" ;;
+    esac
+done
+yes '# comment' | head -c 1048577 > long
+broken 'long: longer than 1048576 bytes' check long
+# A text may allow what the library refuses.
+printf 'allow refused\nedition 9\n' > refused.txt
+call 1 check refused.txt
+errors 'moonbleat: refusal 6 at byte 0: edition 9 is not within 1 to 3'
+
+# -- Lines of warnings -----------------------------------------------------------------------------
+
+# warns LINE TEXT: asm warns at this line of the text.
+warns() {
+    printf '%b' "$2" > warned
+    call 0 asm warned -o out
+    contains "warned:$1: warning: refusal " stderr
+}
+start='edition 1\nlayout L0 Undefined\n  dim size 8 stride 1 span 8\n'
+warns 5 "${start}fill r0 1x8 u8 0\nload r0 L0 base 8\n"
+errors 'warned:5: warning: refusal 9 at step 1: load: base 8 is not a multiple of 16'
+warns 4 "${start}store r0 L0 base 0\nfill r0 1x8 u8 0\n"
+warns 7 "\n\n${start}# comment\nstore r0 L0 base 0\n"
+warns 6 "${start}fill r0 1x8 u8 0\n\nload r0 L0 base 65536\n"
+warns 3 'allow refused\nedition 1\nlayout L0 9\n  dim size 1 stride 1 span 1\nfill r0 1x1 u8 0\n'
+warns 2 'allow refused\n# nothing\n'
+warns 4 'allow refused\nedition 1\n# bytes\nbytes 12 0000\nbytes 12 0000\n'
+
 # -- An OUT in the night's folder ------------------------------------------------------------------
 
 mkdir night
@@ -202,6 +279,78 @@ call 0 night night -o report.txt
 call 0 night night -o /dev/stdout
 contains 'a card agrees' stdout
 kept night/report night --merge night/report -o night/report
+
+# -- The text form's own edges ---------------------------------------------------------------------
+
+# A byte-order mark is passed over, and columns count from behind it.
+{ printf '\357\273\277'; cat sheet.txt; } > marked.txt
+call 0 asm marked.txt -o out
+same 'a text with a byte-order mark' out sheet
+call 0 check marked.txt
+printf '\357\273\277edition 9\n' > marked.txt
+call 3 check marked.txt
+errors 'marked.txt:1:9: edition 9 is not within 1 to 3'
+# Numbers of a dimension in any order.
+order() {
+    sed "s/^  dim .*/  dim $1/" sheet.txt > ordered.txt
+}
+for words in 'span 8 offset -2 stride 1 size 4' 'offset -2 size 4 span 8 stride 1' 'span 8 block 1 stride 1 size 4 offset -2'; do
+    order "$words"
+    call 0 asm ordered.txt -o out
+    same "dim $words" out sheet
+done
+cat > view.txt << 'END'
+edition 1
+layout L0 Repeat
+  dim size 8 stride 1 span 8
+view V0 permutation 0
+  dim stride 2 size 4
+END
+call 0 show view.txt
+contains '  dimension 0: size 4, stride 2' stdout
+# disordered WORDS ERROR..: the errors of a dimension.
+disordered() {
+    order "$1"
+    shift
+    call 3 check ordered.txt
+    errors "$@"
+}
+disordered 'span 8 size 4' "ordered.txt:4:20: expected 'stride' and a number"
+disordered 'span 8 size 4 size 5 stride 1' "ordered.txt:4:21: 'size' is given twice"
+disordered 'span 9999 sise 4 stride 1' 'ordered.txt:4:12: span 9999 is not within 1 to 4096' \
+    "ordered.txt:4:17: expected 'size' and a number, not 'sise'; did you mean 'size'?"
+disordered 'size stride 1 span 8' "ordered.txt:4:12: expected the size, a number, not 'stride'"
+disordered 'size 4 stride 1 span 8 ofset -2' \
+    "ordered.txt:4:30: expected the end of the line, not 'ofset'; did you mean 'offset'?"
+disordered 'size 4 stride 1 span 8 9' "ordered.txt:4:30: expected the end of the line, not '9'"
+disordered 'sise 4 strid 1 spam 8' "ordered.txt:4:7: expected 'size' and a number, not 'sise'; did you mean 'size'?" \
+    "ordered.txt:4:14: expected 'stride' and a number, not 'strid'; did you mean 'stride'?" \
+    "ordered.txt:4:22: expected 'span' and a number, not 'spam'; did you mean 'span'?"
+# means WORD MEANT LINE: a word in a text, and the one that may be meant.
+means() {
+    printf 'edition 1\n%b\n' "$3" > near.txt
+    call 3 check near.txt
+    contains "'$1'; did you mean '$2'?" stderr
+}
+printf 'edition 1\nlaod r0 L0 base 0\n' > near.txt
+call 3 check near.txt
+errors "near.txt:2:1: 'laod' begins no field; did you mean 'load'?"
+means clampToEdge ClampToEdge 'layout L0 clampToEdge\n  dim size 1 stride 1 span 1'
+means MirorRepeat MirrorRepeat 'layout L0 MirorRepeat\n  dim size 1 stride 1 span 1'
+means colum column 'fill r0 1x1 u8 0\nreduce r1 of r0 1x1 colum add'
+means ofsett offset 'layout L0 Repeat\n  dim size 1 stride 1 ofsett 3 span 1'
+means bass base 'layout L0 Repeat\n  dim size 1 stride 1 span 1\nfill r0 1x1 u8 0\nload r0 L0 bass 0'
+for line in 'frob r0' 'x' 'layout L0 Mirror\n  dim size 1 stride 1 span 1' 'fill r0 1x1 s7 0'; do
+    printf 'edition 1\n%b\n' "$line" > near.txt
+    call 3 check near.txt
+    if grep -q 'did you mean' stderr; then fail "near words of '$line': $(cat stderr)"; else pass; fi
+done
+# A step of a later edition is told where it stands, whatever else is wrong there.
+printf 'edition 1\nfill r0 1x1 u8 0\n vector r9 s32 of r0 as u8 matrix s8 1x1 row-major stride 0 offset 0\nfill r8 1x1 u8 0\n' \
+    > later.txt
+call 3 check later.txt
+errors 'later.txt:3:2: tag 0x26 (vector) comes with edition 2, and the sheet has edition 1' \
+    'later.txt:3:9: result 9 is not within 0 to 3' 'later.txt:4:6: register 8 is not within 0 to 3'
 
 echo "tests of the edges: $passed passed, $failed failed"
 [ "$failed" -eq 0 ]

@@ -109,6 +109,13 @@ carried_strip() {
     fi
 }
 
+# refused_line STRIP: the line of the step that its refusal names.
+refused_line() {
+    step=$(sed 's/.* at step \([0-9]*\)[,:].*/\1/' "$strips/$1/refusal.txt")
+    grep -n -E '^(fill|load|store|reduce|transpose|multiply-add|vector) ' "$strips/$1/sheet.txt" |
+        sed -n "$((step + 1))s/:.*//p"
+}
+
 # put_edition NUMBER: makes the sheet one of this edition.
 put_edition() {
     printf '%b' "\\000$1" | dd of=sheet bs=1 seek=3 conv=notrunc status=none
@@ -143,7 +150,7 @@ for folder in "$strips"/*/; do
     same "$strip: asm" assembled sheet
     : > expected
     if [ -e "$folder/refusal.txt" ]; then
-        sed "s|^|$folder/sheet.txt: warning: |" "$folder/refusal.txt" > expected
+        sed "s|^|$folder/sheet.txt:$(refused_line "$strip"): warning: |" "$folder/refusal.txt" > expected
     fi
     same "$strip: the warnings of asm" stderr expected
     call 0 show --asm sheet
@@ -1350,7 +1357,7 @@ done
 misspelt "${repeat_text}load r1 object zeros L0 base 0\n" 'text:1:1: layout 0 comes before the edition' \
     'text:3:1: step 0 (load) comes before the edition' 'text:3:1: the sheet has no edition'
 misspelt "edition 3\n${repeat_text}load r1 object zero L0 base 0\nload r1 L0 zeros base 0\nstore r1 object zeros L0 base 0\n" \
-    "text:4:16: expected the object as r0, not 'zero'" "text:5:12: expected 'base' and a number, not 'zeros'" \
+    "text:4:16: expected the object as r0, not 'zero'; did you mean 'zeros'?" "text:5:12: expected 'base' and a number, not 'zeros'" \
     "text:6:10: expected the layout as L0, not 'object'" "text:6:17: expected 'base' and a number, not 'zeros'"
 
 weights='matrix s8 2x8 row-major stride 8 offset 0'
@@ -1385,7 +1392,7 @@ misspelt "edition 2\nvector r1 3 of r0 as 7 matrix 6 2x8 2 stride 0 offset 0 bia
     'text:2:61: expected the bias offset, a number'
 misspelt "edition 2\nvector r1 s32 from r0 as u8 $weights bais 8\n" \
     "text:2:15: expected 'of' and a number, not 'from'" \
-    "text:2:71: expected the end of the line, not 'bais'"
+    "text:2:71: expected the end of the line, not 'bais'; did you mean 'bias'?"
 misspelt "edition 2\nvector r1 s32 of r0 as u8 $weights bias 4294967296\n" \
     'text:2:74: bias offset 4294967296 is not within 0 to 4294967295'
 misspelt 'fill r0 1x8 u8 0\n' 'text:1:1: step 0 (fill) comes before the edition' 'text:1:1: the sheet has no edition'
@@ -1401,7 +1408,7 @@ misspelt 'edition 1\n\tlayout L0 Mirror value x\n\tdim block 0 size 4 stride 1 o
     "text:2:12: expected the clamp mode: Undefined or Constant or ClampToEdge or Repeat or MirrorRepeat, not 'Mirror'" \
     "text:2:25: expected the clamp value, a number, not 'x'" \
     'text:3:12: block 0 is not within 1 to 4096' \
-    "text:3:30: expected 'span' and a number, not 'ofset'" \
+    "text:3:30: expected 'span' and a number, not 'ofset'; did you mean 'offset'?" \
     'text:3:43: span 9999 is not within 1 to 4096'
 misspelt 'edition 1\nlayout L1 Repeat\n' "text:2:8: expected 'L0', this layout's name, not 'L1'"
 misspelt 'edition 1\nlayout L0 Repeat\n' 'text:2:1: the layout has no dimensions'
@@ -1444,7 +1451,7 @@ misspelt 'allow\n' 'text:1:1: the sheet has no edition' "text:1:6: expected 'ref
     yes "vector r1 s32 of r0 as u8 $weights bias 0" | head -n 32
 } > text
 call 0 asm text -o sheet
-says 'text: warning: refusal 7 at step 0: vector: register 0 is empty'
+says 'text:50: warning: refusal 7 at step 0: vector: register 0 is empty'
 sed -n 's/^#define MOONBLEAT_SHEET_MAX \([0-9]*\).*/\1/p' "$root/include/moonbleat.h" > expected
 wc -c < sheet > stdout
 same 'the length of the longest sheet' stdout expected
@@ -1465,7 +1472,7 @@ same 'many errors' stderr expected
 # What the library refuses is written where the text allows it, with a warning.
 printf 'allow refused\nlayout L0 7\n  dim size 0 stride 1 span 5000\nfill r9 0x200 9 1\nbytes 77\n' > text
 call 0 asm text -o sheet
-says 'text: warning: refusal 3 at byte 0: layout 0 comes before the edition'
+says 'text:2: warning: refusal 3 at byte 0: layout 0 comes before the edition'
 bytes expected 10 1000 01 07 00000000 0100 0000 0100 0000 8813 20 0800 09 00 C8 09 01000000 77
 same 'a refused sheet of a text' sheet expected
 call 1 show --asm sheet
@@ -1475,12 +1482,12 @@ same 'a refused sheet of its own text' again expected
 misspelt 'allow refused\nfill r256 1x1 u8 0\n' 'text:2:6: register 256 is not within 0 to 255'
 printf 'allow refused\nedition 1\nvector r5 0 of r4 as 7 matrix 255 0x255 9 stride 0 offset 0 bias 1\n' > text
 call 0 asm text -o sheet
-says 'text: warning: refusal 2 at byte 4: tag 0x26 (vector) comes with edition 2, and the sheet has edition 1'
+says 'text:3: warning: refusal 2 at byte 4: tag 0x26 (vector) comes with edition 2, and the sheet has edition 1'
 bytes expected "$edition" 26 1300 05 00 04 07 FF 00 FF 09 0000 00000000 01 01000000
 same 'a vector step that is refused, of a text' sheet expected
 printf 'allow refused\nedition 4\nload r1 object zeros L0 base 0\n' > text
 call 0 asm text -o sheet
-says 'text: warning: refusal 6 at byte 0: edition 4 is not within 1 to 3'
+says 'text:2: warning: refusal 6 at byte 0: edition 4 is not within 1 to 3'
 bytes expected 01 0100 04 "$without"
 same 'a load from zeros of an edition that is refused' sheet expected
 
