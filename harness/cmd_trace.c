@@ -24,12 +24,7 @@ static void print_json(const struct refused *traced, const uint8_t *trace, size_
     struct json json = {false};
     open_answer(&json, &trace_command, traced);
     json_number(&json, "memory", (int64_t)traced->memory_len);
-    json_open(&json, "accesses", '[');
-    for (size_t i = 0; i < count; i++) {
-        struct entry entry = entry_at(trace, i);
-        json_entry(&json, NULL, &entry);
-    }
-    json_close(&json, ']');
+    json_accesses(&json, trace, count);
     close_answer(&json);
 }
 

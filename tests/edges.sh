@@ -280,6 +280,147 @@ call 0 night night -o /dev/stdout
 contains 'a card agrees' stdout
 kept night/report night --merge night/report -o night/report
 
+# -- Files of other forms --------------------------------------------------------------------------
+
+call 0 show trace
+prints 'trace: 192 bytes, 16 accesses' "$(tool trace sheet | sed 's/ ([a-z]*)//')"
+call 0 show - < trace
+same 'a trace from standard input' stdout expected
+json '.form == "trace" and .accepted and .bytes == 192 and (.accesses | length) == 16 and
+    .accesses[8] == {step: 2, element: 0, sort: "discarded", byte: null}' call 0 show trace
+head -c 30 trace > cut
+call 1 show cut
+errors 'moonbleat: refusal 1 at byte 24 of the trace: access 2: length 9 runs past the end of the trace by 6'
+prints 'trace: 30 bytes, refused' '0: step 1, element 0: byte 16' '1: step 1, element 1: byte 16' \
+    "^ $(sed 's/^moonbleat: //' stderr)" '6 more bytes'
+json '(.accepted | not) and .refusal.at == "byte 24 of the trace" and (.accesses | length) == 2' call 1 show cut
+: > empty
+call 0 show empty --as trace
+prints 'trace: 0 bytes, 0 accesses'
+call 1 show empty
+errors 'moonbleat: refusal 3 at byte 0: the sheet has no edition'
+
+call 0 show tape
+prints 'tape: 5 records' '0: whole step 0' '1: take into register 0, 3 from element 0 on, byte 16, step 0' \
+    '2: take into register 0, 3 from element 3 on, byte 17, step 1' \
+    '3: take into register 0, 2 from element 6 on, byte 19, step 0' \
+    '4: put from register 0, 4 from element 2 on, byte 0, step 1'
+printf ' 0 1 2 0 0 0\n3 1 0 4 -1 0\n-1 0 0 0 0 0\n' > records
+call 0 show records
+prints 'tape: 3 records' '0: copy register 2 to register 1' '1: fill register 1, 4 from element 0 on, with bits -1' \
+    '2: no op has number -1'
+json '.form == "tape" and .records == [[0,1,2,0,0,0],[3,1,0,4,-1,0],[-1,0,0,0,0,0]]' call 0 show records
+call 0 show empty --as tape
+prints 'tape: 0 records'
+printf '4 0 0\n' > records
+broken 'records: line 1 is no record of six 32-bit numbers' show records
+yes '4 0 0 0 0 0' | head -n 1025 > records
+broken 'records: a tape has at most 1024 records' show records
+
+call 0 show masks
+prints 'masks: 32 steps' 'step 1: 8 elements: 0 to 7' 'step 2: 4 elements: 2 to 5' '30 steps: nothing'
+json '.form == "masks" and .masks[2] == [2,3,4,5] and (.masks | length) == 32' call 0 show masks
+cp masks odd_masks
+printf '\201' | dd of=odd_masks bs=1 seek=34 conv=notrunc status=none
+call 0 show odd_masks
+prints 'masks: 32 steps' 'step 1: 2 elements: 0, 7; its count is 8' 'step 2: 4 elements: 2 to 5' '30 steps: nothing'
+printf '\001' | dd of=odd_masks bs=1 conv=notrunc status=none
+call 1 show odd_masks
+call 0 show odd_masks --as masks
+contains 'step 0: 1 element: 0; its count is 0' stdout
+broken 'trace: it has fewer bytes than the 1088 of masks' show trace --as masks
+cat masks masks > twice
+broken 'twice: it has more bytes than the 1088 of masks' show twice --as masks
+call 1 show masks --as sheet
+call 1 show masks --as trace
+call 0 show sheet --as sheet
+call 3 show sheet --as tape
+broken 'masks: --asm prints sheets, and the form of this file is masks' show masks --asm
+wrong '--as card: not sheet, trace, tape or masks' show sheet --as card
+json '.form == "sheet"' call 0 show sheet.txt
+
+# -- What masks say, and positions -----------------------------------------------------------------
+
+for element in 0 1 2 3 4 5 6 7; do
+    for words in "sheet 2 $element" "sheet 2 0,$element" "--masks masks 2 $element"; do
+        # shellcheck disable=SC2086
+        tool touched $words > stdout 2> stderr
+        case $?-$element in
+            0-[2-5] | 1-[0167]) pass ;;
+            *) fail "touched $words: $(cat stdout stderr)" ;;
+        esac
+    done
+done
+call 0 touched sheet 2 0,5
+prints 'touched: step 2, element 5: byte 3'
+call 1 touched sheet 0 0,5
+prints 'not touched: step 0, row 0, column 5: fill is no load or store; loads and stores: 1 (load), 2 (store)'
+json '.element == null and .step == 0 and (.touched | not)' call 1 touched sheet 0 0,5
+json '.element == 5 and .touched' call 0 touched sheet 2 0,5
+wrong '1,0: the matrix of step 2 is 1 by 8' touched sheet 2 1,0
+wrong '0,8: the matrix of step 2 is 1 by 8' touched sheet 2 0,8
+call 0 touched --masks masks 2 5
+prints 'touched: step 2, element 5: bit 5 of byte 68 is set'
+call 1 touched 2 --masks=masks 0x0
+prints 'not touched: step 2, element 0: bit 0 of byte 68 is not set'
+call 1 touched --masks - 32 0 < masks
+prints 'not touched: step 32, element 0: masks have 32 steps of 256 elements, from 0 on'
+call 1 touched --masks masks 31 256
+json '. == {command: "touched", accepted: true, refusal: null, step: 2, element: 5, touched: true,
+    reason: "bit 5 of byte 68 is set"}' call 0 touched --masks masks 2 5
+broken 'trace: it has fewer bytes than the 1088 of masks' touched --masks trace 2 5
+broken 'nowhere: No such file or directory' touched --masks nowhere 2 5
+wrong '0,5: masks have no rows and columns, ELEMENT must be a number' touched --masks masks 2 0,5
+wrong 'touched takes one of --masks and --memory' touched --masks masks 2 5 --memory 64
+wrong 'touched takes SHEET STEP ELEMENT' touched 2 5
+
+# -- Memory in hex ---------------------------------------------------------------------------------
+
+# dump FILE: as xxd prints it.
+dump() {
+    od -An -v -tx1 -w16 "$1" | awk '{
+        printf "%08x:", 16 * (NR - 1)
+        for (i = 1; i <= 16; i++) printf "%s%2s", i % 2 == 1 ? " " : "", i <= NF ? $i : ""
+        print ""
+    }'
+}
+cat > stores.txt << 'END'
+edition 1
+layout L0 Undefined
+  dim size 16 stride 1 span 16
+fill r0 1x3 u16 0x4142
+fill r1 1x1 u8 0x7F
+store r0 L0 base 0
+store r1 L0 base 32
+store r1 L0 base 0
+END
+zeros room 45
+call 0 run stores.txt room --hex -o out
+sed -n 's/^\([0-9a-f]\{8\}:.\{40\}\).*/\1/p' stdout > hex
+dump out > expected
+same 'a memory in hex' hex expected
+sed -n 's/^00000000: .*  \([^ ]*\)$/\1/p' stdout > text
+echo '.ABABA..........' | sed 's/^.A/.A/' > expected
+same 'its characters' text expected
+tail -n 4 stdout > writers
+printf '%s\n' 'byte 0: step 4 (store)' 'bytes 1 to 5: step 2 (store)' 'byte 32: step 3 (store)' \
+    'no step writes 38 bytes' > expected
+same 'who wrote it' writers expected
+if command -v xxd > exists; then
+    xxd out > expected
+    grep '^[0-9a-f]\{8\}: ' stdout > hex
+    same 'a memory as xxd prints it' hex expected
+fi
+call 0 run stores.txt room -o out
+if grep -q '^00000000' stdout; then fail 'hex that nobody asked for'; else pass; fi
+: > empty
+printf 'edition 1\n' > nothing.txt
+call 0 run nothing.txt empty --hex
+contains 'no step writes 0 bytes' stdout
+call 1 run stores.txt empty --hex
+silent
+wrong 'run prints one of --hex and --json' run stores.txt room --hex --json
+
 # -- The text form's own edges ---------------------------------------------------------------------
 
 # A byte-order mark is passed over, and columns count from behind it.

@@ -77,8 +77,10 @@ expect 'completion of help' prints 'tape' complete_words help ta
 expect 'completion of options' prints '--memory' complete_words check --m
 expect 'completion of where' prints '--memory --element --json --help' complete_words where sheet 1 -
 expect 'completion of tape' prints '--memory --masks --json --help' complete_words tape sheet -
+expect 'completion of show' prints '--as --json --asm --help' complete_words show file -
+expect 'completion of forms' prints 'sheet trace tape masks' complete_words show --as ''
 expect 'completion of touched' prints 'touched' complete_words to
-expect 'completion of --help' prints '-o --registers --json --help' complete_words run -
+expect 'completion of --help' prints '-o --registers --hex --json --help' complete_words run -
 touch "$work/sheet-file"
 expect 'completion of files' prints "$work/sheet-file" complete_words check "$work/sheet-f"
 

@@ -817,15 +817,16 @@ wrong '--memory 12x: not a length in bytes' where sheet 1 --memory 12x
 wrong 'touched takes SHEET STEP ELEMENT' touched
 wrong 'touched takes SHEET STEP ELEMENT' touched sheet 1
 wrong 'touched takes SHEET STEP ELEMENT, and memory is one more' touched sheet 1 0 memory
-wrong 'touched does not take --masks' touched sheet 1 0 --masks out
+wrong 'touched --masks takes STEP ELEMENT, and sheet is one more' touched sheet 1 0 --masks out
 wrong 'touched does not take -1' touched sheet -1 0
-for word in load 1x '' 0x 1,0 4294967296; do
+for word in load 1x '' 0x 4294967296; do
     wrong "$word: not the number of a step" touched sheet "$word" 0
-    wrong "$word: not the number of an element" touched sheet 1 "$word"
+    wrong "$word: not the number of an element, and not ROW,COLUMN" touched sheet 1 "$word"
 done
+wrong '1,0: not the number of a step' touched sheet 1,0 0
 wrong '--memory 12x: not a length in bytes' touched sheet 1 0 --memory 12x
 wrong '--json takes no word after it' touched sheet 1 0 --json=1
-wrong 'show takes SHEET' show
+wrong 'show takes FILE' show
 wrong 'show does not take --memory' show sheet --memory 64
 
 # Lengths in hex, behind =, and left out; files behind --.
