@@ -493,5 +493,83 @@ call 3 check later.txt
 errors 'later.txt:3:2: tag 0x26 (vector) comes with edition 2, and the sheet has edition 1' \
     'later.txt:3:9: result 9 is not within 0 to 3' 'later.txt:4:6: register 8 is not within 0 to 3'
 
+# -- What is said ----------------------------------------------------------------------------------
+
+# Names that cannot be read are quoted, others stand as they are.
+name=$(printf 'a\nb\033[1m')
+quoted='"a\nb\x1B[1m"'
+gone='No such file or directory'
+broken "$quoted: $gone" check "$name"
+broken "$quoted: $gone" run sheet "$name"
+broken "$quoted: $gone" run-tape sheet "$name" memory
+broken "$quoted: $gone" touched --masks "$name" 0 0
+broken "\"a\\nb/out\": $gone" run sheet memory -o "$(printf 'a\nb/out')"
+broken "a b: $gone" check 'a b'
+broken 'été: No such file or directory' check 'été'
+broken "\"\\xFF\": $gone" check "$(printf '\377')"
+wrong "unknown command $quoted" "$name"
+wrong "unknown command $quoted" help "$name"
+wrong 'check does not take "-\n-"' check sheet "$(printf -- '-\n-')"
+wrong "check takes SHEET, and $quoted is one more" check sheet "$name"
+wrong "--memory $quoted: not a length in bytes" check sheet --memory "$name"
+wrong "$quoted: not the number of a step" where sheet "$name"
+wrong "$quoted: not the number of a step" touched sheet "$name" 0
+wrong "--element $quoted: not the number of an element, and not ROW,COLUMN" where sheet 1 --element "$name"
+wrong "-j $quoted: not a number of processes, 1 to 1024" night night -j "$name"
+wrong "--as $quoted: not sheet, trace, tape or masks" show sheet --as "$name"
+wrong "--card $quoted: not a NAME=AFTER" diff sheet memory --card "$name"
+cp bad.txt "$name"
+call 3 asm "$name" -o out
+errors "$quoted:4:12: size 0 is not within 1 to 4096"
+printf 'edition 1\nfill r0 1x1 u8 0\ntranspose r1 of r2\n' > "$name"
+call 0 asm "$name" -o out
+errors "$quoted:3: warning: refusal 7 at step 1: transpose: register 2 is empty"
+call 3 night --merge "$name"
+says "moonbleat: $quoted: line 1: not a whole report of moonbleat night"
+rm "$name"
+
+# The nearest command or option.
+wrong 'unknown command chek; did you mean check?' chek
+wrong 'unknown command Tape; did you mean tape?' Tape
+wrong 'unknown command run_tape; did you mean run-tape?' help run_tape
+wrong 'unknown command frobnicate' frobnicate
+wrong 'check does not take --memroy; did you mean --memory?' check sheet --memroy 64
+wrong 'check does not take --memry=64; did you mean --memory?' check sheet --memry=64
+wrong 'night does not take --jsno; did you mean --json?' night night --jsno
+wrong 'run does not take --registrs; did you mean --registers?' run sheet memory --registrs out
+wrong 'check does not take --halp; did you mean --help?' check --halp
+wrong 'check does not take --frobnicate' check sheet --frobnicate
+wrong 'check does not take -x' check sheet -x
+
+# Usage and help.
+call 2
+contains '  moonbleat --version' stderr
+call 2 nothing
+contains '  moonbleat --version' stderr
+# writes COMMAND WHAT: the help of -o says what this command writes.
+writes() {
+    call 0 help "$1"
+    contains "      write $2 to OUT" stdout
+}
+writes asm 'the sheet'
+writes run 'the memory afterwards'
+writes run-tape 'the memory afterwards'
+writes trace 'the trace, which is then not printed,'
+writes night 'the report'
+wrong 'night takes DIR' night
+wrong 'night --merge takes the JSON reports of all parts, PART.json ..' night --merge
+wrong 'night --merge takes the JSON reports of all parts, PART.json ..' night --merge --csv
+
+# unhex says what it is.
+for word in --help -h; do
+    "$bin/unhex" "$word" > stdout 2> stderr < /dev/null
+    if [ $? -eq 0 ]; then pass; else fail "unhex $word"; fi
+    contains 'usage: unhex < HEX > BYTES' stdout
+done
+"$bin/unhex" file > stdout 2> stderr < /dev/null
+if [ $? -eq 2 ]; then pass; else fail 'unhex with a word'; fi
+silent
+contains 'usage: unhex < HEX > BYTES' stderr
+
 echo "tests of the edges: $passed passed, $failed failed"
 [ "$failed" -eq 0 ]
