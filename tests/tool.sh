@@ -1914,7 +1914,7 @@ same 'the demo in README.md' stdout expected
 # The commands of README.md, from the sheet above with a size of 0 on, and what it says that they print.
 sed -n 's/^    //;/^-- the sheet$/,/^-- its tape$/p' "$root/README.md" | grep -v '^--' | sed 's/size 4/size 0/' > my.txt
 sed -n '/^    \$ /,/^$/p' "$root/README.md" | sed 's/^    //' > console
-sed -n 's/^\$ //p' console | sed "s|target/tool/moonbleat|$bin/moonbleat|" > commands
+sed -n 's/^\$ //p' console | sed "s|target/tool/|$bin/|g" > commands
 grep -v -e '^\$ ' -e '^$' console > expected
 sh commands > stdout 2>&1
 same 'the commands of README.md' stdout expected
