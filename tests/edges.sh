@@ -183,6 +183,7 @@ alike() {
     wanted=$1
     shift
     for sheet in sheet sheet.txt; do
+        # shellcheck disable=SC2046
         tool $(echo "$*" | sed "s/SHEET/$sheet/") > "$sheet.stdout" 2> "$sheet.stderr"
         if [ $? -eq "$wanted" ]; then pass; else fail "$* with $sheet: $(cat "$sheet.stderr")"; fi
     done
@@ -288,12 +289,12 @@ call 0 show - < trace
 same 'a trace from standard input' stdout expected
 json '.form == "trace" and .accepted and .bytes == 192 and (.accesses | length) == 16 and
     .accesses[8] == {step: 2, element: 0, sort: "discarded", byte: null}' call 0 show trace
-head -c 30 trace > cut
-call 1 show cut
+head -c 30 trace > short
+call 1 show short
 errors 'moonbleat: refusal 1 at byte 24 of the trace: access 2: length 9 runs past the end of the trace by 6'
 prints 'trace: 30 bytes, refused' '0: step 1, element 0: byte 16' '1: step 1, element 1: byte 16' \
     "^ $(sed 's/^moonbleat: //' stderr)" '6 more bytes'
-json '(.accepted | not) and .refusal.at == "byte 24 of the trace" and (.accesses | length) == 2' call 1 show cut
+json '(.accepted | not) and .refusal.at == "byte 24 of the trace" and (.accesses | length) == 2' call 1 show short
 : > empty
 call 0 show empty --as trace
 prints 'trace: 0 bytes, 0 accesses'
@@ -376,7 +377,7 @@ wrong 'touched takes SHEET STEP ELEMENT' touched 2 5
 
 # -- Memory in hex ---------------------------------------------------------------------------------
 
-# dump FILE: as xxd prints it.
+# dump FILE: as xxd prints it, without the characters.
 dump() {
     od -An -v -tx1 -w16 "$1" | awk '{
         printf "%08x:", 16 * (NR - 1)
@@ -400,7 +401,7 @@ sed -n 's/^\([0-9a-f]\{8\}:.\{40\}\).*/\1/p' stdout > hex
 dump out > expected
 same 'a memory in hex' hex expected
 sed -n 's/^00000000: .*  \([^ ]*\)$/\1/p' stdout > text
-echo '.ABABA..........' | sed 's/^.A/.A/' > expected
+echo '.ABABA..........' > expected
 same 'its characters' text expected
 tail -n 4 stdout > writers
 printf '%s\n' 'byte 0: step 4 (store)' 'bytes 1 to 5: step 2 (store)' 'byte 32: step 3 (store)' \
