@@ -12,6 +12,7 @@
 #include "kinds.h"
 #include "names.h"
 #include "refusals.h"
+#include "sheet_file.h"
 
 /* A card on the command line. */
 struct card {
@@ -153,11 +154,11 @@ static int parse_cards(const struct request *request, struct card *cards, size_t
         struct card card = {.registers = NULL};
         if (!parse_pair(repeated->word, card.name, &card.after)) {
             const struct option_form *form = &option_forms[repeated->option];
-            return wrong_use(&diff_command, "%s %s: not a %s", form->name, repeated->word, form->value);
+            return wrong_use(&diff_command, "%s %s: not a %s", form->name, shown(repeated->word).at, form->value);
         }
         if (repeated->option == OPTION_CARD) {
             if (find_card(cards, *count, card.name) != NULL) {
-                return wrong_use(&diff_command, "card %s is given twice", card.name);
+                return wrong_use(&diff_command, "card %s is given twice", shown(card.name).at);
             }
             cards[(*count)++] = card;
         }
@@ -177,10 +178,10 @@ static int parse_registers(const struct request *request, struct card *cards, si
         parse_pair(request->repeated[i].word, name, &file);
         struct card *card = find_card(cards, count, name);
         if (card == NULL) {
-            return wrong_use(&diff_command, "--registers %s: no card has this name", name);
+            return wrong_use(&diff_command, "--registers %s: no card has this name", shown(name).at);
         }
         if (card->registers != NULL) {
-            return wrong_use(&diff_command, "--registers %s is given twice", name);
+            return wrong_use(&diff_command, "--registers %s is given twice", shown(name).at);
         }
         card->registers = file;
     }

@@ -6,6 +6,7 @@
 #include "files.h"
 #include "folder.h"
 #include "merge.h"
+#include "names.h"
 #include "numbers.h"
 #include "outputs.h"
 #include "page.h"
@@ -40,7 +41,8 @@ static int parse_jobs(const struct request *request, uint32_t *jobs)
     const char *word = request->words[OPTION_JOBS];
     *jobs = 1;
     if (word != NULL && !parse_count(word, strlen(word), JOBS_MAX, jobs)) {
-        return wrong_use(&night_command, "-j %s: not a number of processes, 1 to %d", word, JOBS_MAX);
+        return wrong_use(&night_command, "-j %s: not a number of processes, 1 to %d", shown(word).at,
+                         JOBS_MAX);
     }
     return DONE;
 }
@@ -55,16 +57,21 @@ static int parse_shard(const struct request *request, struct shard *shard)
     const char *slash = strchr(word, '/');
     if (slash == NULL || !parse_count(slash + 1, strlen(slash + 1), UINT32_MAX, &shard->parts) ||
         !parse_count(word, (size_t)(slash - word), shard->parts, &shard->part)) {
-        return wrong_use(&night_command, "--shard %s: not K/N, K from 1 to N", word);
+        return wrong_use(&night_command, "--shard %s: not K/N, K from 1 to N", shown(word).at);
     }
     return DONE;
 }
 
-/* What the options leave open: what each means together with the others. */
+/* What the files and options leave open: what each means together with the others. */
 static int check_night(const struct request *request)
 {
     const char *const *words = request->words;
     const char *out = words[OPTION_OUT];
+    if (request->file_count == 0) {
+        return wrong_use(&night_command, words[OPTION_MERGE] == NULL
+                                             ? "night takes DIR"
+                                             : "night --merge takes the JSON reports of all parts, PART.json ..");
+    }
     if (words[OPTION_JSON] != NULL && words[OPTION_CSV] != NULL) {
         return wrong_use(&night_command, "a report is --json or --csv, not both");
     }
@@ -75,9 +82,16 @@ static int check_night(const struct request *request)
         return wrong_use(&night_command, "--merge takes neither --shard nor -j");
     }
     if (words[OPTION_MERGE] == NULL && request->file_count > 1) {
-        return wrong_use(&night_command, "one folder is a night, and %s is one more", request->files[1]);
+        return wrong_use(&night_command, "one folder is a night, and %s is one more", shown(request->files[1]).at);
     }
     return DONE;
+}
+
+/* Whether no report goes to a file that the next night would take for one of its own. */
+static bool is_out_apart(const struct request *request, enum option option)
+{
+    const char *out = request->words[option];
+    return out == NULL || is_standard_output(out) || is_kept_apart(request->files[0], out);
 }
 
 /* -- The report ------------------------------------------------------------------------------- */
@@ -235,14 +249,14 @@ static int judge_night(const struct request *request)
     if (status != DONE) {
         return status;
     }
-    if (!open_folder(request->files[0], &shard, &folder)) {
+    if (!is_out_apart(request, OPTION_OUT) || !is_out_apart(request, OPTION_HTML) ||
+        !open_folder(request->files[0], &shard, &folder)) {
         return FAILED;
     }
     if (folder.cards.count > 0) {
         status = make_report(request, &(struct source){.folder = &folder, .jobs = jobs}, &folder.cards, &shard);
     } else {
-        fprintf(stderr, "moonbleat: %s: no card's file, NAME.CARD.after, is there: nothing to compare\n",
-                request->files[0]);
+        complain_of(request->files[0], "no card's file, NAME.CARD.after, is there: nothing to compare");
         status = FAILED;
     }
     close_folder(&folder);
@@ -261,10 +275,10 @@ static int do_night(const struct request *request)
 const struct command night_command = {
     .name = "night",
     .files = "DIR",
-    .files_min = 1,
     .files_max = SIZE_MAX,
     .takes = SET(OPTION_JOBS) | SET(OPTION_JSON) | SET(OPTION_CSV) | SET(OPTION_OUT) | SET(OPTION_HTML) |
              SET(OPTION_SHARD) | SET(OPTION_MERGE),
+    .out = "the report",
     .summary = "compare every card of a night's folder on every sheet",
     .details = "DIR has files NAME.sheet (or NAME.txt, the text form), NAME.memory, NAME.CARD.after and, if the\n"
                "card has them, NAME.CARD.registers. A line for each sheet and card: agrees, differs, missing,\n"

@@ -1,16 +1,15 @@
-#define _POSIX_C_SOURCE 200809L
+#define _XOPEN_SOURCE 700
 
 #include "folder.h"
 
 #include <errno.h>
 #include <stdio.h>
+#include <stdlib.h>
 #include <string.h>
 
 #include "asm.h"
 #include "names.h"
-
-/* A sheet's text may have comments, but not without end. */
-enum { TEXT_MAX = 1 << 20 };
+#include "same_file.h"
 
 /* -- The names -------------------------------------------------------------------------------- */
 
@@ -71,7 +70,9 @@ uint32_t shard_of(const char *name, uint32_t parts)
 
 static void pass_over(const char *path, const char *name)
 {
-    fprintf(stderr, "moonbleat: %s: passing over ", path);
+    fputs("moonbleat: ", stderr);
+    put_word(stderr, path);
+    fputs(": passing over ", stderr);
     put_name(&(struct sink){stderr, put_plain}, name);
     fputs(": not the name of a night's file\n", stderr);
 }
@@ -121,6 +122,24 @@ bool open_folder(const char *path, const struct shard *shard, struct folder *fol
     return true;
 }
 
+/* Whether a name is that of a night's file in the folder. */
+static bool is_nights_file(const char *path, const char *name)
+{
+    struct entry entry;
+    return is_in_folder(name, path) && parse_entry(base_name(name), &entry);
+}
+
+bool is_kept_apart(const char *path, const char *out)
+{
+    char *target = realpath(out, NULL);
+    bool apart = !is_nights_file(path, out) && (target == NULL || !is_nights_file(path, target));
+    free(target);
+    if (!apart) {
+        complain_of(out, "the next night would read this as a file of its folder");
+    }
+    return apart;
+}
+
 void close_folder(struct folder *folder)
 {
     closedir(folder->stream);
@@ -133,7 +152,7 @@ void close_folder(struct folder *folder)
 /* What a sheet's files are read into. */
 struct rooms {
     uint8_t sheet[SHEET_LIMIT];
-    uint8_t text[TEXT_MAX + 1];
+    uint8_t text[SHEET_TEXT_MAX + 1];
     uint8_t memory[MEMORY_LIMIT];
 };
 
@@ -161,8 +180,8 @@ static bool read_text(const struct location *location, const char *name, struct 
     if (!read_part(location, name, PART_TEXT, room, &len, finding)) {
         return false;
     }
-    if (len > TEXT_MAX) {
-        set_unreadable(finding, PART_TEXT, "it has more than %d bytes", TEXT_MAX);
+    if (len > SHEET_TEXT_MAX) {
+        set_unreadable(finding, PART_TEXT, "it has more than %d bytes", SHEET_TEXT_MAX);
         return false;
     }
     return assemble_into(rooms, len, sheet, finding);

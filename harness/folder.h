@@ -29,6 +29,10 @@ bool open_folder(const char *path, const struct shard *shard, struct folder *fol
 
 void close_folder(struct folder *folder);
 
+/* Whether an output would not be one of the folder's files, which the next night reads as a sheet's or a
+ * card's; else says so on standard error. */
+bool is_kept_apart(const char *path, const char *out);
+
 /* Which part of so many a sheet belongs to. Its name alone decides, so that no sheet is lost or taken
  * twice where one machine sees a file earlier than another. */
 uint32_t shard_of(const char *name, uint32_t parts);

@@ -5,6 +5,7 @@
 #include <string.h>
 
 #include "files.h"
+#include "names.h"
 
 /* How many of the reports are a part. */
 static size_t count_part(const struct merge *merge, uint32_t part)
@@ -45,12 +46,12 @@ static bool fits(const struct report_in *report, const struct report_in *first)
 {
     const struct shard *shard = &report->night.shard;
     if (shard->parts != first->night.shard.parts) {
-        fprintf(stderr, "moonbleat: %s: part %" PRIu32 " of %" PRIu32 ", but %s is one of %" PRIu32 "\n",
-                report->path, shard->part, shard->parts, first->path, first->night.shard.parts);
+        complain_of(report->path, "part %" PRIu32 " of %" PRIu32 ", but %s is one of %" PRIu32, shard->part,
+                    shard->parts, shown(first->path).at, first->night.shard.parts);
         return false;
     }
     if (!same_cards(&report->cards, &first->cards)) {
-        fprintf(stderr, "moonbleat: %s: its cards are not those of %s\n", report->path, first->path);
+        complain_of(report->path, "its cards are not those of %s", shown(first->path).at);
         return false;
     }
     return true;

@@ -361,8 +361,7 @@ static bool read_sheet_findings(struct report_in *report)
 static bool checked(struct report_in *report, bool done)
 {
     if (!done) {
-        fprintf(stderr, "moonbleat: %s: line %zu: not a whole report of moonbleat night\n", report->path,
-                report->json.line);
+        complain_of(report->path, "line %zu: not a whole report of moonbleat night", report->json.line);
     }
     return done;
 }
