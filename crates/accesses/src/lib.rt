@@ -10,6 +10,9 @@ ghost use Rattle.addressing.specs.Valid.{SizedAccess, Planned};
 ghost use Rattle.sheet.specs.Sizes.{rankPlaces, matrixPlaces};
 ghost use Rattle.accesses.specs.Refusals.{elementOutcome, otherRank, blocksOne, storeBlocked, elementsRefusal, placedOne, checkedBy, checkedElements, checkedAccess};
 ghost use Rattle.accesses.specs.Entries.{Near, entryOf, entryOutcome, Surveyed, Told};
+
+pub mod rows;
+
 use addressing::Access;
 use addressing::Plan;
 use clashes::DISCARDED;
@@ -43,7 +46,7 @@ pub fn no_entries() -> [u32; PLACES]
 }
 
 // An element's entry: 0 for a skipped one, one more than its byte for one that has a byte, and two numbers past all bytes.
-fn entry(o: Outcome) -> u32
+pub fn entry(o: Outcome) -> u32
     requires { ⌜ Near o ⌝ }
     ensures { λ r. ⌜ r ≡ entryOf o ⌝ }
 {
@@ -72,7 +75,7 @@ pub fn outcome_of(entry: u32, fill: u32) -> Outcome
     }
 }
 
-fn placed_one(o: Outcome) -> usize
+pub fn placed_one(o: Outcome) -> usize
     ensures { λ r. ⌜ (r ≡ placedOne o) × (r ≤ 1) ⌝ }
 {
     match o {
@@ -83,8 +86,8 @@ fn placed_one(o: Outcome) -> usize
     }
 }
 
-// The elements in order, up to the first that is refused, and each one's entry.
-pub fn survey(entries: &mut [u32; PLACES], p: Plan) -> Tally
+// The elements in order, up to the first that is refused, and each one's entry: each located by itself.
+fn survey_each(entries: &mut [u32; PLACES], p: Plan) -> Tally
     requires { ⌜ Planned p × (length (now entries) ≡ matrixPlaces) ⌝ }
     ensures { λ r. ⌜ Surveyed (elementOutcome (p .access)) (elementsOf (p .access)) r (now (entries .exit)) ⌝ }
 {
@@ -119,6 +122,21 @@ pub fn survey(entries: &mut [u32; PLACES], p: Plan) -> Tally
         },
         placed,
     }
+}
+
+// The elements in order, up to the first that is refused, and each one's entry: without a view row by row, where not all dimensions are fixed.
+pub fn survey(entries: &mut [u32; PLACES], p: Plan) -> Tally
+    requires { ⌜ Planned p × (length (now entries) ≡ matrixPlaces) ⌝ }
+    ensures { λ r. ⌜ Surveyed (elementOutcome (p .access)) (elementsOf (p .access)) r (now (entries .exit)) ⌝ }
+{
+    if p.access.viewed {
+        return survey_each(entries, p);
+    }
+    let tail = p.tail;
+    if tail.rank < 1 {
+        return survey_each(entries, p);
+    }
+    rows::survey_rows(entries, p)
 }
 
 fn refuse(number: u8, element: usize) -> Checked

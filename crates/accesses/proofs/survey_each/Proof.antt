@@ -1,4 +1,5 @@
-use Rattle.accesses.proofs.Laws.{Passed, passed-none, passed-stop, passed-more, passed-end}
+use Rattle.accesses.proofs.Laws.{passed-none, passed-stop, passed-more, passed-end}
+use Rattle.accesses.specs.Rows.{Passed}
 use Rattle.addressing.specs.Laws.Plans.{plan-count}
 use Rattle.accesses.specs.Laws.Surveys.{element-near}
 use Rattle.accesses.specs.Refusals.{elementOutcome, placedCount}
@@ -6,8 +7,8 @@ use mathlib.Core.Path.{refl, ap, _∙_}
 use Prim.Native.Nat.{_-_}
 use borrow.Author.Needs.{needs}
 use native.Mathlib.Omega.{arith}
-use Rattle.accesses.proofs.survey.Statement.{statement}
-use Rattle.accesses.proofs.survey.Tie as tie
+use Rattle.accesses.proofs.survey_each.Statement.{statement}
+use Rattle.accesses.proofs.survey_each.Tie as tie
 
 abbrev Inv-loop : tie.InvT-loop
 Inv-loop entries₀ p count permutation sizes strides numbers placed₀ k₀ entries placed k = Passed (elementOutcome (p .access)) (p .count) k placed entries
@@ -78,8 +79,8 @@ returns-2 c = let i = c .before .loop in
       each = λ z k h. i .inv .each k (omega arith);
     }
 
-pub survey-spec : {M : Type 1} → statement M
-survey-spec =
+pub survey-each-spec : {M : Type 1} → statement M
+survey-each-spec =
     tie.close
     (tie.spec
     Inv-loop
