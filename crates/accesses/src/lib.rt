@@ -87,7 +87,7 @@ pub fn placed_one(o: Outcome) -> usize
 }
 
 // The elements in order, up to the first that is refused, and each one's entry: each located by itself.
-fn survey_each(entries: &mut [u32; PLACES], p: Plan) -> Tally
+pub fn survey_each(entries: &mut [u32; PLACES], p: Plan) -> Tally
     requires { ⌜ Planned p × (length (now entries) ≡ matrixPlaces) ⌝ }
     ensures { λ r. ⌜ Surveyed (elementOutcome (p .access)) (elementsOf (p .access)) r (now (entries .exit)) ⌝ }
 {
@@ -124,7 +124,7 @@ fn survey_each(entries: &mut [u32; PLACES], p: Plan) -> Tally
     }
 }
 
-// The elements in order, up to the first that is refused, and each one's entry: without a view row by row, where not all dimensions are fixed.
+// The elements in order, up to the first that is refused, and each one's entry: without a view row by row, where not all dimensions are fixed and there are some elements.
 pub fn survey(entries: &mut [u32; PLACES], p: Plan) -> Tally
     requires { ⌜ Planned p × (length (now entries) ≡ matrixPlaces) ⌝ }
     ensures { λ r. ⌜ Surveyed (elementOutcome (p .access)) (elementsOf (p .access)) r (now (entries .exit)) ⌝ }
@@ -134,6 +134,9 @@ pub fn survey(entries: &mut [u32; PLACES], p: Plan) -> Tally
     }
     let tail = p.tail;
     if tail.rank < 1 {
+        return survey_each(entries, p);
+    }
+    if p.count < rows::SHORT {
         return survey_each(entries, p);
     }
     rows::survey_rows(entries, p)

@@ -26,6 +26,9 @@ use sheet::Dimension;
 use sheet::sizes::PLACES;
 use view_indices::wide;
 
+// A row of fewer elements takes longer than its elements one by one.
+pub const SHORT: usize = 3;
+
 fn smaller(a: usize, b: usize) -> usize
     ensures { λ r. ⌜ (r ≤ a) × (r ≤ b) × (r < b → r ≡ a) ⌝ }
 {
@@ -142,6 +145,15 @@ fn survey_inside(
     survey_cells(entries, a, x, fill, t, k, from, to, placed)
 }
 
+fn is_whole(from: usize, to: usize, n: usize) -> bool
+    ensures { λ r. ⌜ (r ≡ true → (from ≡ 0) × (n ≤ to)) ⌝ }
+{
+    if 0 < from {
+        return false;
+    }
+    n <= to
+}
+
 // The elements of a row to which the dimensions before the last add t: those before, at and behind the places of the last dimension.
 fn survey_at(
     entries: &mut [u32; PLACES],
@@ -158,8 +170,13 @@ fn survey_at(
     requires { ⌜ Passed (elementOutcome a) (elementsOf a) k placed (now entries) ⌝ }
     ensures { λ r. ⌜ Went (elementOutcome a) (elementsOf a) (k + n) r (now (entries .exit)) ⌝ }
 {
-    let from = smaller(inner.from as usize, n);
-    let to = smaller(inner.to as usize, n);
+    let start = inner.from as usize;
+    let end = inner.to as usize;
+    if is_whole(start, end, n) {
+        return survey_inside(entries, a, x, inner, fill, t, k, 0, n, placed);
+    }
+    let from = smaller(start, n);
+    let to = smaller(end, n);
     let low = survey_cells(entries, a, x, fill, t, k, 0, from, placed);
     let first = low.stop;
     if first.number != 0 {
@@ -214,6 +231,9 @@ pub fn survey_rows(entries: &mut [u32; PLACES], p: Plan) -> Tally
     let numbers = p.numbers;
     let x = addressing::rows::last_dimension(p, &numbers);
     let span = x.span as usize;
+    if span < SHORT {
+        return crate::survey_each(entries, p);
+    }
     let inner = addressing::rows::inner_of(x);
     let mut placed: usize = 0;
     let mut row: u32 = 0;

@@ -25,11 +25,17 @@ last-dimension-requires c κs = let s = c .before .before .before in (s .pre .0,
 cast-span : tie.Need-cast-span Inv-loop μ-loop
 cast-span c = search needs
 
+survey-each-requires : tie.Need-survey-each-requires Inv-loop μ-loop
+survey-each-requires c κs = let s = c .before .before .before .before .before .before .before in (s .pre .0, s .pre .1)
+
+returns : tie.Need-returns Inv-loop μ-loop
+returns c = c .survey-each .ensures
+
 inner-of-requires : tie.Need-inner-of-requires Inv-loop μ-loop
-inner-of-requires c κs = c .before .last-dimension .ensures .2
+inner-of-requires c κs = c .before .before .last-dimension .ensures .2
 
 loop-holds : tie.Need-loop-holds Inv-loop μ-loop
-loop-holds c = let s = c .before .before .before .before .before .before in (passed-none _ _ _ (s .pre .0 .valid .sized .area) (s .pre .1), zero-le, λ h. omega arith)
+loop-holds c = let s = c .before .before .before .before .before .before .before in (passed-none _ _ _ (s .pre .0 .valid .sized .area) (s .pre .1), zero-le, λ h. omega arith)
 
 sub-smaller : tie.Need-sub-smaller Inv-loop μ-loop
 sub-smaller c = omega arith
@@ -38,13 +44,13 @@ smaller-requires : tie.Need-smaller-requires Inv-loop μ-loop
 smaller-requires c κs = search needs
 
 row-start-requires : tie.Need-row-start-requires Inv-loop μ-loop
-row-start-requires c κs = let s = c .before .before .before .before .before .before .before .before .before .before in (s .pre .0, refl, s .pre .3)
+row-start-requires c κs = let s = c .before .before .before .before .before .before .before .before .before .before .before in (s .pre .0, refl, s .pre .3)
 
 survey-row-requires : tie.Need-survey-row-requires Inv-loop μ-loop
-survey-row-requires c κs = let s = c .before .before .before .before .before .before .before .before .before .before .before .before in
+survey-row-requires c κs = let s = c .before .before .before .before .before .before .before .before .before .before .before .before .before in
     let p = s .args .p in
     let i = c .before .before .before .before .before .loop in
-    let d = c .before .before .before .before .before .before .before .before .last-dimension .ensures in
+    let d = c .before .before .before .before .before .before .before .before .before .last-dimension .ensures in
     let n = c .before .before .before .smaller in
     let h = c .before .before .before .before .loop-test .taken in
     let count = plan-count p (s .pre .0) in
@@ -54,39 +60,39 @@ survey-row-requires c κs = let s = c .before .before .before .before .before .b
     let r = row-of (p .access) (s .pre .0 .valid) (s .pre .2) (i .row) (n .result) e (rw (← d .0) (n .ensures .0)) (omega (arith, n .ensures .1, m, count)) (q .0) in
     ((record { valid = s .pre .0 .valid; last = d .0; bits = plan-fill p (s .pre .0) }, q .1, r, c .before .before .before .before .before .before .inner-of .ensures, smaller-some (d .1 .some) (omega (arith, h)) (n .ensures .2)), i .inv .0)
 
-returns : tie.Need-returns Inv-loop μ-loop
-returns c = went-refused _ (c .before .before .before .survey-row .ensures) (c .if1 .taken)
+returns-2 : tie.Need-returns-2 Inv-loop μ-loop
+returns-2 c = went-refused _ (c .before .before .before .survey-row .ensures) (c .if2 .taken)
 
 add-row : tie.Need-add-row Inv-loop μ-loop
-add-row c = let s = c .before .before .before .before .before .before .before .before .before .before .before .before .before .before .before .before in
+add-row c = let s = c .before .before .before .before .before .before .before .before .before .before .before .before .before .before .before .before .before in
     let i = c .before .before .before .before .before .before .before .before .before .loop in
     omega (arith, i .inv .1, s .pre .0 .few, c .before .before .before .before .before .before .before .before .loop-test .taken)
 
 add-k : tie.Need-add-k Inv-loop μ-loop
-add-k c = let s = c .before .before .before .before .before .before .before .before .before .before .before .before .before .before .before .before in
+add-k c = let s = c .before .before .before .before .before .before .before .before .before .before .before .before .before .before .before .before .before in
     omega (arith, s .pre .0 .few, c .before .before .before .before .before .before .before .before .loop-test .taken, c .before .before .before .before .before .before .before .smaller .ensures .1)
 
 loop-less : tie.Need-loop-less Inv-loop μ-loop
 loop-less c = let n = c .before .before .before .before .before .before .before .smaller in
-    let g = smaller-some {r = n .result} (c .before .before .before .before .before .before .before .before .before .before .before .before .last-dimension .ensures .1 .some) (omega (arith, c .before .before .before .before .before .before .before .before .loop-test .taken)) (n .ensures .2) in
+    let g = smaller-some {r = n .result} (c .before .before .before .before .before .before .before .before .before .before .before .before .before .last-dimension .ensures .1 .some) (omega (arith, c .before .before .before .before .before .before .before .before .loop-test .taken)) (n .ensures .2) in
     omega (arith, g, c .before .before .before .before .before .before .before .before .loop-test .taken)
 
 loop-again : tie.Need-loop-again Inv-loop μ-loop
-loop-again c = let s = c .before .before .before .before .before .before .before .before .before .before .before .before .before .before .before .before in
+loop-again c = let s = c .before .before .before .before .before .before .before .before .before .before .before .before .before .before .before .before .before in
     let p = s .args .p in
     let i = c .before .before .before .before .before .before .before .before .before .loop in
     let n = c .before .before .before .before .before .before .before .smaller in
     let h = c .before .before .before .before .before .before .before .before .loop-test .taken in
-    let span = c .before .before .before .before .before .before .before .before .before .before .before .before .last-dimension .result .span in
-    let g = smaller-some {r = n .result} (c .before .before .before .before .before .before .before .before .before .before .before .before .last-dimension .ensures .1 .some) (omega (arith, h)) (n .ensures .2) in
+    let span = c .before .before .before .before .before .before .before .before .before .before .before .before .before .last-dimension .result .span in
+    let g = smaller-some {r = n .result} (c .before .before .before .before .before .before .before .before .before .before .before .before .before .last-dimension .ensures .1 .some) (omega (arith, h)) (n .ensures .2) in
     let count = plan-count p (s .pre .0) in
-    (c .before .before .before .survey-row .ensures .passed (c .if1 .left), omega (arith, i .inv .1, g), λ l. omega (arith, n .ensures .2 (omega (arith, l, count)), i .inv .2 (omega (arith, h, count)), add-mul (i .row) 1 span))
+    (c .before .before .before .survey-row .ensures .passed (c .if2 .left), omega (arith, i .inv .1, g), λ l. omega (arith, n .ensures .2 (omega (arith, l, count)), i .inv .2 (omega (arith, h, count)), add-mul (i .row) 1 span))
 
 stopped-requires : tie.Need-stopped-requires Inv-loop μ-loop
 stopped-requires c κs = search needs
 
-returns-2 : tie.Need-returns-2 Inv-loop μ-loop
-returns-2 c = let s = c .before .before .before .before .before .before .before .before .before in
+returns-3 : tie.Need-returns-3 Inv-loop μ-loop
+returns-3 c = let s = c .before .before .before .before .before .before .before .before .before .before in
     let i = c .before .before .loop in
     let e = c .stopped .ensures in
     passed-all _ (i .inv .0) (omega (arith, c .before .loop-test .left, plan-count (s .args .p) (s .pre .0))) (c .stopped .result) (e .0) (e .1) (e .2)
@@ -99,16 +105,18 @@ survey-rows-spec =
     μ-loop
     last-dimension-requires
     cast-span
+    survey-each-requires
+    returns
     inner-of-requires
     loop-holds
     sub-smaller
     smaller-requires
     row-start-requires
     survey-row-requires
-    returns
+    returns-2
     add-row
     add-k
     loop-less
     loop-again
     stopped-requires
-    returns-2)
+    returns-3)
