@@ -8,15 +8,15 @@ use lib.Dec.{ltb, leb}
 use lib.IntN.{ℤ, pos, negsuc, _+ℤ_}
 use lib.ListN.{getD}
 use mathlib.Core.List.{List}
-use borrow.Author.Tests.{le-ltb, le-leb, lt-leb, ltb-false}
+use borrow.Author.Tests.{lt-ltb, le-ltb, le-leb, lt-leb, ltb-false}
 use Rattle.refusals.specs.Refusals.{indexTooLarge}
 use Rattle.numbers.specs.Choice.{pick}
-use Rattle.numbers.specs.Laws.Choice.{pick-case}
+use Rattle.numbers.specs.Laws.Choice.{pick-case, by-order}
 use Rattle.tensor_ranges.specs.Laws.Facts.{InSize, layout-some, layout-block, layout-size, layout-span, view-most, view-size}
 use Rattle.tensor_ranges.specs.Layouts.{layoutOk}
 use Rattle.tensor_ranges.specs.Views.{theViewDimension}
 use Rattle.addressing.specs.Valid.{ValidAccess, Planned, AtMost}
-use Rattle.addressing.specs.Rows.{upTo, lastOf, cellOf, Inside}
+use Rattle.addressing.specs.Rows.{upTo, lastOf, cellOf, Out, Inside}
 use Rattle.addressing.specs.Laws.Rows.{tensor-is-up}
 use Rattle.addressing.specs.declared.Plan.{Plan}
 use Rattle.sheet.specs.declared.ClampMode.{ClampMode}
@@ -27,7 +27,7 @@ use Rattle.sheet.specs.declared.View.{View}
 use Rattle.addressing.specs.declared.Access.{Access}
 use Rattle.clamps.specs.declared.Clamped.{Clamped}
 use Rattle.clamps.specs.declared.Clamped.the-variants.{Refused, Discarded, Filled, At}
-use Rattle.sheet.specs.Sizes.{rankPlaces, matrixPlaces}
+use Rattle.sheet.specs.Sizes.{rankPlaces, matrixPlaces, sizeLimit}
 use Rattle.view_indices.specs.Plans.{sizesOf, stridesOf}
 use Rattle.view_indices.specs.Laws.Indices.{five-at}
 use Rattle.dimensions.specs.declared.Tail.{Tail}
@@ -126,6 +126,28 @@ part-inside load mode d s c e h = rw (e, lt-leb (d .size) c h)
 past : (s b c : ℕ) → s ≡ b + 1 + c → pos s +ℤ negsuc b ≡ pos c
 past s b c e = simp (le-ltb s (suc b) (omega arith)) (ap pos (omega arith))
 
+before : (s b : ℕ) → s ≤ b → pos s +ℤ negsuc b ≡ negsuc (b - s)
+before s b h = simp (lt-ltb s (suc b) (omega arith)) (ap negsuc (omega arith))
+
+-- the same by the low 16 bits of the sum: an offset is 16 bits, and below 0 they are past every size
+pub part-near : (load : Bool) (mode : ClampMode) (d : Dimension) (s : ℕ) {raw c : ℕ} → InSize (d .size) → s < sizeLimit → raw ≡ d .offset → raw < 65536
+    → c ≡ (s + raw) % 65536 → c < d .size → part load mode d s ≡ At (c / d .block * d .stride)
+part-near load mode d s {raw} {c} ok h e m f g =
+    part-inside load mode d s c
+    (by-order raw 32768
+    (λ l. let z : twos (d .offset) ≡ pos raw = rw (← e) (lower raw l) in rw z (ap pos (omega arith)))
+    (λ l. let z : twos (d .offset) ≡ negsuc (65535 - raw) = rw (← e) (upper raw m l) in rw z (past s (65535 - raw) c (omega (arith, ok .most)))))
+    g
+
+-- coordinates outside
+out-below : (d : Dimension) (s b : ℕ) → coordinateOf d s ≡ negsuc b → Out d s
+unfolding clamped
+out-below d s b e load mode = rw e refl
+
+out-above : (d : Dimension) (s c : ℕ) → coordinateOf d s ≡ pos c → d .size ≤ c → Out d s
+unfolding clamped pick
+out-above d s c e h load mode = rw (e, le-leb (d .size) c h) refl
+
 module _ (d : Dimension) (ok : InSize (d .size)) {raw size : ℕ} (e : raw ≡ d .offset) (f : size ≡ d .size) where
   pub inside-lower : {to : ℕ} → raw < 32768 → to ≡ size - raw → Inside d (record { from = 0; to = to; first = raw })
   inside-lower h t =
@@ -134,6 +156,8 @@ module _ (d : Dimension) (ok : InSize (d .size)) {raw size : ℕ} (e : raw ≡ d
         starts = omega arith;
         most = λ l. omega (arith, ok .most);
         each = λ load mode i l. part-inside load mode d (0 + i) (raw + i) (rw z (ap pos (omega arith))) (omega arith);
+        below = λ s l. absurd (not-suc-le-zero l);
+        above = λ s l. out-above d s (s + raw) (rw z refl) (omega arith);
       }
 
   pub inside-upper : raw < 65536 → 32768 ≤ raw → Inside d (record { from = 65536 - raw; to = 65536 - raw + size; first = 0 })
@@ -143,6 +167,8 @@ module _ (d : Dimension) (ok : InSize (d .size)) {raw size : ℕ} (e : raw ≡ d
         starts = omega arith;
         most = λ m. omega (arith, ok .most);
         each = λ load mode i m. part-inside load mode d (65536 - raw + i) (0 + i) (rw z (past (65536 - raw + i) (65535 - raw) (0 + i) (omega arith))) (omega arith);
+        below = λ s m. out-below d s (65535 - raw - s) (rw z (before s (65535 - raw) (omega arith)));
+        above = λ s m. out-above d s (s - (65536 - raw)) (rw z (past s (65535 - raw) (s - (65536 - raw)) (omega arith))) (omega arith);
       }
 
 module _ (a : Access) where

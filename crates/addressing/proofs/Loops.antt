@@ -15,52 +15,16 @@ use Rattle.clamps.specs.declared.Clamped.{Clamped}
 use Rattle.clamps.specs.declared.Clamped.the-variants.{Refused, Discarded, Filled, At}
 use Rattle.view_indices.specs.Indices.{spanOf}
 use Rattle.spans.specs.Spans.{splitBy}
-use Rattle.addressing.specs.Rules.{scaled, part, plus}
+use Rattle.addressing.specs.Rules.{part, plus}
 use Rattle.addressing.specs.Rows.{upTo}
-use Rattle.addressing.specs.Laws.Rows.{up-last}
-use Rattle.clamps.specs.Clamps.{coordinateOf, clamped}
-use Rattle.clamps.specs.Laws.Clamps.{stopOf, AtOr, clamped-one}
+use Rattle.addressing.specs.Laws.Rows.{part-one, up-one, plus-stop, up-last}
+use Rattle.clamps.specs.Laws.Clamps.{stopOf, AtOr}
 use Rattle.spans.specs.Laws.Splits.{split-rest, split-quotient}
 use Rattle.spans.specs.declared.Split.{Split}
 use Rattle.dimensions.specs.Dimensions.{dimensionNumbers, dimensionIn, lead, leadStart, tailOf, tailNumbers, partLimit}
 use Rattle.dimensions.specs.Laws.Tails.{lead-most, tail-dimension}
 use Rattle.dimensions.specs.declared.Tail.{Tail}
 use Rattle.addressing.proofs.Tails.{lead-sum}
-
--- Rules 4 and 5: an index, or what all dimensions that are outside have in common
-scaled-one : (z : Clamped) (d : Dimension) (x : Clamped) → AtOr z x → AtOr z (scaled d x)
-scaled-one z d Refused h = h
-scaled-one z d Discarded h = h
-scaled-one z d Filled h = h
-scaled-one z d (At x) h = h
-
-part-one : (load : Bool) (mode : ClampMode) (d : Dimension) (s : ℕ) → AtOr (stopOf load mode) (part load mode d s)
-unfolding part
-part-one load mode d s =
-    scaled-one (stopOf load mode) d (clamped load mode (coordinateOf d s) (d .size)) (clamped-one load mode (coordinateOf d s) (d .size))
-
-plus-one : (z x y : Clamped) → AtOr z x → AtOr z y → AtOr z (plus x y)
-plus-one z Refused y g h = g
-plus-one z Discarded y g h = g
-plus-one z Filled y g h = g
-plus-one z (At x) Refused g h = h
-plus-one z (At x) Discarded g h = h
-plus-one z (At x) Filled g h = h
-plus-one z (At x) (At y) g h = tt
-
-up-one : (load : Bool) (l : Layout) (n index : ℕ) → AtOr (stopOf load (l .mode)) (upTo load l n index)
-unfolding upTo
-up-one load l zero index = tt
-up-one load l (suc n) index =
-    plus-one (stopOf load (l .mode)) (upTo load l n (index / spanOf l n)) (part load (l .mode) (theDimension (l .dimensions) n) (index % spanOf l n))
-    (up-one load l n (index / spanOf l n)) (part-one load (l .mode) (theDimension (l .dimensions) n) (index % spanOf l n))
-
--- beside one that is outside the others do not count
-plus-stop : (z x y : Clamped) → AtOr z x → z ≡ y → ((a : ℕ) → plus (At a) y ≡ y) → plus x y ≡ y
-plus-stop z Refused y g h after = sym g ∙ h
-plus-stop z Discarded y g h after = sym g ∙ h
-plus-stop z Filled y g h after = sym g ∙ h
-plus-stop z (At a) y g h after = after a
 
 plus-zero : (x : Clamped) → plus x (At 0) ≡ x
 plus-zero Refused = refl

@@ -8,6 +8,7 @@ use Rattle.sheet.specs.declared.ClampMode.{ClampMode}
 use Rattle.sheet.specs.declared.Dimension.{Dimension}
 use Rattle.sheet.specs.declared.Layout.{Layout}
 use Rattle.view_indices.specs.Indices.{spanOf}
+use Rattle.clamps.specs.Clamps.{coordinateOf, clamped, outside}
 use Rattle.clamps.specs.declared.Clamped.{Clamped}
 use Rattle.clamps.specs.declared.Clamped.the-variants.{At}
 use Rattle.addressing.specs.declared.Access.{Access}
@@ -28,8 +29,14 @@ lastOf l = theDimension (l .dimensions) (l .rank - 1)
 abbrev pub cellOf : Access → Clamped → ℕ → Located
 cellOf a before s = settled a (plus before (part (a .load) (a .layout .mode) (lastOf (a .layout)) s))
 
--- between these span coordinates the coordinate is inside, and goes up by one
+-- rule 4 takes the coordinate at span coordinate s as one outside
+abbrev pub Out : Dimension → ℕ → Type 0
+Out d s = (load : Bool) (mode : ClampMode) → clamped load mode (coordinateOf d s) (d .size) ≡ outside load mode (coordinateOf d s) (d .size)
+
+-- between these span coordinates the coordinate is inside, and goes up by one; below and from the end on it is outside
 pub record Inside (d : Dimension) (r : Inner) : Type 0 where
   pub starts : r .from ≤ r .to
   pub most : r .from < r .to → r .first + (r .to - r .from) ≤ sizeLimit
   pub each : (load : Bool) (mode : ClampMode) (i : ℕ) → r .from + i < r .to → part load mode d (r .from + i) ≡ At ((r .first + i) / d .block * d .stride)
+  pub below : (s : ℕ) → s < r .from → Out d s
+  pub above : (s : ℕ) → r .to ≤ s → Out d s

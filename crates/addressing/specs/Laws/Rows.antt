@@ -17,10 +17,15 @@ use Rattle.sheet.specs.declared.Layout.{Layout}
 use Rattle.view_indices.specs.Indices.{spanOf, coordinates}
 use Rattle.spans.specs.Spans.{spanCoordinates}
 use Rattle.spans.specs.Laws.Coordinates.{coordinates-keep}
+use Rattle.sheet.specs.declared.ClampMode.{ClampMode}
+use Rattle.sheet.specs.declared.Dimension.{Dimension}
+use Rattle.clamps.specs.Clamps.{coordinateOf, clamped}
+use Rattle.clamps.specs.Laws.Clamps.{stopOf, AtOr, clamped-one}
 use Rattle.clamps.specs.declared.Clamped.{Clamped}
+use Rattle.clamps.specs.declared.Clamped.the-variants.{Refused, Discarded, Filled, At}
 use Rattle.addressing.specs.declared.Access.{Access}
 use Rattle.addressing.specs.declared.Indexed.the-variants.{Index}
-use Rattle.addressing.specs.Rules.{part, plus, tensorIndex, settled, reached, indexed, landed, located}
+use Rattle.addressing.specs.Rules.{scaled, part, plus, tensorIndex, settled, reached, indexed, landed, located}
 use Rattle.addressing.specs.Rows.{upTo, lastOf, cellOf}
 use Rattle.addressing.specs.Valid.{ValidAccess}
 
@@ -46,6 +51,41 @@ pub up-last : (load : Bool) (l : Layout) (d index : ℕ) → 0 < d
 unfolding upTo
 up-last load l zero index h = absurd (not-suc-le-zero h)
 up-last load l (suc d) index h = let q : suc d - 1 ≡ d = omega arith in rw q refl
+
+-- Rules 4 and 5: an index, or what all dimensions that are outside have in common
+scaled-one : (z : Clamped) (d : Dimension) (x : Clamped) → AtOr z x → AtOr z (scaled d x)
+scaled-one z d Refused h = h
+scaled-one z d Discarded h = h
+scaled-one z d Filled h = h
+scaled-one z d (At x) h = h
+
+pub part-one : (load : Bool) (mode : ClampMode) (d : Dimension) (s : ℕ) → AtOr (stopOf load mode) (part load mode d s)
+unfolding part
+part-one load mode d s =
+    scaled-one (stopOf load mode) d (clamped load mode (coordinateOf d s) (d .size)) (clamped-one load mode (coordinateOf d s) (d .size))
+
+plus-one : (z x y : Clamped) → AtOr z x → AtOr z y → AtOr z (plus x y)
+plus-one z Refused y g h = g
+plus-one z Discarded y g h = g
+plus-one z Filled y g h = g
+plus-one z (At x) Refused g h = h
+plus-one z (At x) Discarded g h = h
+plus-one z (At x) Filled g h = h
+plus-one z (At x) (At y) g h = tt
+
+pub up-one : (load : Bool) (l : Layout) (n index : ℕ) → AtOr (stopOf load (l .mode)) (upTo load l n index)
+unfolding upTo
+up-one load l zero index = tt
+up-one load l (suc n) index =
+    plus-one (stopOf load (l .mode)) (upTo load l n (index / spanOf l n)) (part load (l .mode) (theDimension (l .dimensions) n) (index % spanOf l n))
+    (up-one load l n (index / spanOf l n)) (part-one load (l .mode) (theDimension (l .dimensions) n) (index % spanOf l n))
+
+-- beside one that is outside the others do not count
+pub plus-stop : (z x y : Clamped) → AtOr z x → z ≡ y → ((a : ℕ) → plus (At a) y ≡ y) → plus x y ≡ y
+plus-stop z Refused y g h after = sym g ∙ h
+plus-stop z Discarded y g h after = sym g ∙ h
+plus-stop z Filled y g h after = sym g ∙ h
+plus-stop z (At a) y g h after = after a
 
 -- the element at span coordinate s of row q
 module _ (a : Access) (ok : ValidAccess a) (plain : a .viewed ≡ false) where
