@@ -2,10 +2,14 @@
 use Prim.Native.Nat.{ℕ, _+_, _-_, _*_, _<_, _≤_}
 use mathlib.Core.Path.{_≡_}
 use mathlib.Core.List.{List}
+use lib.IntN.{negsuc}
 use lib.ListN.{length, getD}
 use Rattle.sheet.specs.Sizes.{matrixPlaces}
 use Rattle.sheet.specs.declared.Dimension.{Dimension}
+use Rattle.clamps.specs.Clamps.{outside}
 use Rattle.clamps.specs.declared.Clamped.{Clamped}
+use Rattle.clamps.specs.declared.Clamped.the-variants.{Refused, Discarded, Filled, At}
+use Rattle.clashes.specs.Entries.{filledEntry, discardedEntry}
 use Rattle.addressing.specs.declared.Access.{Access}
 use Rattle.addressing.specs.declared.Located.{Located}
 use Rattle.addressing.specs.Rules.{elementsOf, lowBits}
@@ -47,3 +51,13 @@ pub record Even (block size memory byte step n : ℕ) : Type 0 where
   pub flat : block ≡ 1
   pub some : 0 < n
   pub fits : byte + (n - 1) * step + size ≤ memory
+
+-- the entry of every element that is outside, where all have the same and none is refused; otherwise 0
+abbrev pub sameEntryOf : Clamped → ℕ
+sameEntryOf Refused = 0
+sameEntryOf Discarded = discardedEntry
+sameEntryOf Filled = filledEntry
+sameEntryOf (At x) = 0
+
+abbrev pub farOf : Access → ℕ
+farOf a = sameEntryOf (outside (a .load) (a .layout .mode) (negsuc 0) 1)

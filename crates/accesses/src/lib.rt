@@ -1,6 +1,6 @@
 // All elements of a load or a store: refusals 9 to 15, and how many elements have a byte.
 ghost use mathlib.Core.Path.{_≡_};
-ghost use mathlib.Core.Bool.{true};
+ghost use mathlib.Core.Bool.{true, false};
 ghost use Prim.Native.Nat.{_≤_, _<_};
 ghost use lib.ListN.{length};
 ghost use Rattle.refusals.specs.Refusals.{stopAt};
@@ -17,6 +17,7 @@ use addressing::Access;
 use addressing::Plan;
 use clashes::DISCARDED;
 use clashes::FILLED;
+use dimensions::LAYOUT_NUMBERS;
 use outcomes::Outcome;
 use refusals::BLOCKED_STORE;
 use refusals::BYTE_TWICE;
@@ -86,8 +87,31 @@ pub fn placed_one(o: Outcome) -> usize
     }
 }
 
-// The elements in order, up to the first that is refused, and each one's entry: each located by itself.
-pub fn survey_each(entries: &mut [u32; PLACES], p: Plan) -> Tally
+// Fewer elements, or rows of fewer, take longer row by row than one by one.
+const FEW: usize = 8;
+
+const SHORT: u16 = 3;
+
+// Whether the elements go row by row: without a view, where not all dimensions are fixed.
+fn by_rows(viewed: bool, numbers: &[u16; LAYOUT_NUMBERS], rank: u8, count: usize) -> bool
+    requires { ⌜ rank ≤ rankPlaces ⌝ }
+    ensures { λ r. ⌜ (r ≡ true → (viewed ≡ false) × (0 < rank)) ⌝ }
+{
+    if count < FEW {
+        return false;
+    }
+    if viewed {
+        return false;
+    }
+    if rank < 1 {
+        return false;
+    }
+    let last = dimensions::dimension_at(numbers, rank as usize - 1);
+    SHORT <= last.span
+}
+
+// The elements in order, up to the first that is refused, and each one's entry: row by row, or each located by itself.
+pub fn survey(entries: &mut [u32; PLACES], p: Plan) -> Tally
     requires { ⌜ Planned p × (length (now entries) ≡ matrixPlaces) ⌝ }
     ensures { λ r. ⌜ Surveyed (elementOutcome (p .access)) (elementsOf (p .access)) r (now (entries .exit)) ⌝ }
 {
@@ -97,6 +121,10 @@ pub fn survey_each(entries: &mut [u32; PLACES], p: Plan) -> Tally
     let sizes = p.sizes;
     let strides = p.strides;
     let numbers = p.numbers;
+    let tail = p.tail;
+    if by_rows(p.access.viewed, &numbers, tail.rank, count) {
+        return rows::survey_rows(entries, p);
+    }
     let mut placed = 0;
     let mut k = 0;
     while k < count {
@@ -122,24 +150,6 @@ pub fn survey_each(entries: &mut [u32; PLACES], p: Plan) -> Tally
         },
         placed,
     }
-}
-
-// The elements in order, up to the first that is refused, and each one's entry: without a view row by row, where not all dimensions are fixed and there are some elements.
-pub fn survey(entries: &mut [u32; PLACES], p: Plan) -> Tally
-    requires { ⌜ Planned p × (length (now entries) ≡ matrixPlaces) ⌝ }
-    ensures { λ r. ⌜ Surveyed (elementOutcome (p .access)) (elementsOf (p .access)) r (now (entries .exit)) ⌝ }
-{
-    if p.access.viewed {
-        return survey_each(entries, p);
-    }
-    let tail = p.tail;
-    if tail.rank < 1 {
-        return survey_each(entries, p);
-    }
-    if p.count < rows::SHORT {
-        return survey_each(entries, p);
-    }
-    rows::survey_rows(entries, p)
 }
 
 fn refuse(number: u8, element: usize) -> Checked

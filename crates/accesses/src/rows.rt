@@ -1,33 +1,34 @@
 // The elements of a load or a store without a view, row by row of the layout's last dimension.
 ghost use mathlib.Core.Path.{_≡_};
 ghost use mathlib.Core.Bool.{true, false};
-ghost use Prim.Native.Nat.{_+_, _-_, _*_, _≤_, _<_};
+ghost use Prim.Native.Nat.{ℕ, _+_, _-_, _*_, _≤_, _<_};
+ghost use lib.IntN.{negsuc};
 ghost use lib.ListN.{length};
 ghost use Rattle.numbers.specs.Lists.{line};
 ghost use Rattle.sheet.specs.Sizes.{matrixPlaces, rankPlaces, sizeLimit};
 ghost use Rattle.dimensions.specs.Dimensions.{partLimit};
+ghost use Rattle.clamps.specs.Clamps.{outside};
 ghost use Rattle.clamps.specs.declared.Clamped.the-variants.{At};
 ghost use Rattle.addressing.specs.Rules.{elementsOf, lowBits};
-ghost use Rattle.addressing.specs.Rows.{lastOf, Inside};
+ghost use Rattle.addressing.specs.Rows.{lastOf, Out, Inside};
 ghost use Rattle.addressing.specs.Valid.{ValidAccess, Planned, AtMost};
 ghost use Rattle.accesses.specs.Refusals.{elementOutcome};
 ghost use Rattle.accesses.specs.Entries.{Surveyed};
-ghost use Rattle.accesses.specs.Rows.{Passed, Went, Row, Shared, Even};
+ghost use Rattle.accesses.specs.Rows.{Passed, Went, Row, Shared, Even, sameEntryOf, farOf};
 use crate::Tally;
 use addressing::Access;
 use addressing::Plan;
 use addressing::rows::Inner;
 use clamps::Clamped;
+use clamps::Coordinate;
 use clashes::DISCARDED;
 use clashes::FILLED;
 use refusals::OUTSIDE_UNDEFINED;
 use refusals::Stop;
+use sheet::ClampMode;
 use sheet::Dimension;
 use sheet::sizes::PLACES;
 use view_indices::wide;
-
-// A row of fewer elements takes longer than its elements one by one.
-pub const SHORT: usize = 3;
 
 fn smaller(a: usize, b: usize) -> usize
     ensures { λ r. ⌜ (r ≤ a) × (r ≤ b) × (r < b → r ≡ a) ⌝ }
@@ -145,13 +146,40 @@ fn survey_inside(
     survey_cells(entries, a, x, fill, t, k, from, to, placed)
 }
 
-fn is_whole(from: usize, to: usize, n: usize) -> bool
-    ensures { λ r. ⌜ (r ≡ true → (from ≡ 0) × (n ≤ to)) ⌝ }
+// The entry of every element outside the last dimension, or 0 where each has to be looked at.
+fn far_entry(load: bool, mode: ClampMode) -> u32
+    ensures { λ r. ⌜ r ≡ sameEntryOf (outside load mode (negsuc 0) 1) ⌝ }
 {
-    if 0 < from {
-        return false;
+    match clamps::outside(load, mode, Coordinate::Below(0), 1) {
+        Clamped::Refused => 0,
+        Clamped::Discarded => DISCARDED,
+        Clamped::Filled => FILLED,
+        Clamped::At(_) => 0,
     }
-    n <= to
+}
+
+// The elements of a row from span coordinate `from` to before `to`, which are outside the last dimension.
+fn survey_outside(
+    entries: &mut [u32; PLACES],
+    a: Access,
+    x: Dimension,
+    far: u32,
+    fill: u32,
+    t: u32,
+    k: usize,
+    from: usize,
+    to: usize,
+    placed: usize,
+) -> Tally
+    requires { ⌜ Shared a x fill × (t ≤ (rankPlaces - 1) * partLimit) × Row a (At t) k to × (from ≤ to) × (far ≡ farOf a) × ((s : ℕ) → from ≤ s → s < to → Out x s) ⌝ }
+    requires { ⌜ Passed (elementOutcome a) (elementsOf a) (k + from) placed (now entries) ⌝ }
+    ensures { λ r. ⌜ Went (elementOutcome a) (elementsOf a) (k + to) r (now (entries .exit)) ⌝ }
+{
+    if 0 < far {
+        put_same(entries, far, k + from, to - from);
+        return stopped(0, 0, placed);
+    }
+    survey_cells(entries, a, x, fill, t, k, from, to, placed)
 }
 
 // The elements of a row to which the dimensions before the last add t: those before, at and behind the places of the last dimension.
@@ -160,24 +188,20 @@ fn survey_at(
     a: Access,
     x: Dimension,
     inner: Inner,
+    far: u32,
     fill: u32,
     t: u32,
     k: usize,
     n: usize,
     placed: usize,
 ) -> Tally
-    requires { ⌜ Shared a x fill × (t ≤ (rankPlaces - 1) * partLimit) × Row a (At t) k n × Inside x inner ⌝ }
+    requires { ⌜ Shared a x fill × (t ≤ (rankPlaces - 1) * partLimit) × Row a (At t) k n × Inside x inner × (far ≡ farOf a) ⌝ }
     requires { ⌜ Passed (elementOutcome a) (elementsOf a) k placed (now entries) ⌝ }
     ensures { λ r. ⌜ Went (elementOutcome a) (elementsOf a) (k + n) r (now (entries .exit)) ⌝ }
 {
-    let start = inner.from as usize;
-    let end = inner.to as usize;
-    if is_whole(start, end, n) {
-        return survey_inside(entries, a, x, inner, fill, t, k, 0, n, placed);
-    }
-    let from = smaller(start, n);
-    let to = smaller(end, n);
-    let low = survey_cells(entries, a, x, fill, t, k, 0, from, placed);
+    let from = smaller(inner.from as usize, n);
+    let to = smaller(inner.to as usize, n);
+    let low = survey_outside(entries, a, x, far, fill, t, k, 0, from, placed);
     let first = low.stop;
     if first.number != 0 {
         return low;
@@ -187,7 +211,7 @@ fn survey_at(
     if second.number != 0 {
         return middle;
     }
-    survey_cells(entries, a, x, fill, t, k, to, n, middle.placed)
+    survey_outside(entries, a, x, far, fill, t, k, to, n, middle.placed)
 }
 
 // The n elements of a row from element k on, by what the dimensions before the last give for all of them.
@@ -196,13 +220,14 @@ fn survey_row(
     a: Access,
     x: Dimension,
     inner: Inner,
+    far: u32,
     fill: u32,
     before: Clamped,
     k: usize,
     n: usize,
     placed: usize,
 ) -> Tally
-    requires { ⌜ Shared a x fill × AtMost ((rankPlaces - 1) * partLimit) before × Row a before k n × Inside x inner × (0 < n) ⌝ }
+    requires { ⌜ Shared a x fill × AtMost ((rankPlaces - 1) * partLimit) before × Row a before k n × Inside x inner × (0 < n) × (far ≡ farOf a) ⌝ }
     requires { ⌜ Passed (elementOutcome a) (elementsOf a) k placed (now entries) ⌝ }
     ensures { λ r. ⌜ Went (elementOutcome a) (elementsOf a) (k + n) r (now (entries .exit)) ⌝ }
 {
@@ -216,8 +241,21 @@ fn survey_row(
             put_same(entries, FILLED, k, n);
             stopped(0, 0, placed)
         }
-        Clamped::At(t) => survey_at(entries, a, x, inner, fill, t, k, n, placed),
+        Clamped::At(t) => survey_at(entries, a, x, inner, far, fill, t, k, n, placed),
     }
+}
+
+// Every element is outside the last dimension, and all have the same entry.
+fn is_far(far: u32, from: u32, to: u32, span: u32) -> bool
+    ensures { λ r. ⌜ (r ≡ true → (0 < far) × ((s : ℕ) → s < span → from ≤ s → to ≤ s)) ⌝ }
+{
+    if far < 1 {
+        return false;
+    }
+    if to <= from {
+        return true;
+    }
+    span <= from
 }
 
 // The elements in order, up to the first that is refused, and each one's entry.
@@ -231,17 +269,21 @@ pub fn survey_rows(entries: &mut [u32; PLACES], p: Plan) -> Tally
     let numbers = p.numbers;
     let x = addressing::rows::last_dimension(p, &numbers);
     let span = x.span as usize;
-    if span < SHORT {
-        return crate::survey_each(entries, p);
-    }
     let inner = addressing::rows::inner_of(x);
+    let l = a.layout;
+    let mode = l.mode;
+    let far = far_entry(a.load, mode);
+    if is_far(far, inner.from, inner.to, wide(x.span)) {
+        put_same(entries, far, 0, count);
+        return stopped(0, 0, 0);
+    }
     let mut placed: usize = 0;
     let mut row: u32 = 0;
     let mut k: usize = 0;
     while k < count {
         let n = smaller(span, count - k);
         let before = addressing::rows::row_start(p, &numbers, row);
-        let r = survey_row(entries, a, x, inner, fill, before, k, n, placed);
+        let r = survey_row(entries, a, x, inner, far, fill, before, k, n, placed);
         let stop = r.stop;
         if stop.number != 0 {
             return r;

@@ -44,7 +44,7 @@ enum-known-before c = search needs
 survey-at-requires : tie.Need-survey-at-requires
 survey-at-requires c κs = let s = c .before .before .before .before in
     let e = c .before .before .before2 .given .1 in
-    ((s .pre .0 .0, rw e at (s .pre .0 .1), subst (λ (z : Clamped). Row (s .args .a) z (s .args .k) (s .args .n)) e (s .pre .0 .2), s .pre .0 .3), s .pre .1)
+    ((s .pre .0 .0, rw e at (s .pre .0 .1), subst (λ (z : Clamped). Row (s .args .a) z (s .args .k) (s .args .n)) e (s .pre .0 .2), s .pre .0 .3, s .pre .0 .5), s .pre .1)
 
 returns : tie.Need-returns
 returns c = let s = c .before .before .before in
