@@ -37,7 +37,7 @@ pub fn part(load: bool, mode: ClampMode, d: Dimension, s: u32) -> Clamped
 }
 
 // Rules 3 to 5 in the fixed dimensions and in `rank` after them, where rule 3 leaves them this index. All dimensions that are outside have the same
-// outcome, so that the last one decides as well as the first. The fixed dimensions are done: the sum starts with what they add.
+// outcome, so that the last one decides as well as the first. A coordinate that is inside needs no rule of the mode. The fixed dimensions are done: the sum starts with what they add.
 pub fn tensor_index(
     load: bool,
     l: Layout,
@@ -57,6 +57,11 @@ pub fn tensor_index(
         let x = dimension_at(numbers, d);
         let s = split_by(left, wide(x.span));
         left = s.quotient;
+        let c = (s.rest + wide(x.offset)) % 65536;
+        if c < wide(x.size) {
+            sum += block_of(c, wide(x.block)) * wide(x.stride);
+            continue;
+        }
         let mode = l.mode;
         match part(load, mode, x, s.rest) {
             Clamped::Refused => return Clamped::Refused,
