@@ -36,11 +36,7 @@ pub extern "C" fn moonbleat_read(
     let mut parts = sheet_parts::no_parts();
     let read = sheet_reader::outline_sheet(sheet, &mut parts);
     let given = read.given;
-    *counts = [
-        given.layouts as u32,
-        given.views as u32,
-        given.steps as u32,
-    ];
+    *counts = [given.layouts as u32, given.views as u32, given.steps as u32];
     rows::put_answer(answer, read.refusal, 0)
 }
 
