@@ -402,29 +402,26 @@ unfolding found noObjectZeros
 no-object-zeros-right = refl
 
 -- so all of them do
-abbrev Right : List Strip → Type 0
-Right l = map found l ≡ map (λ (s : Strip). s .wanted) l
+also : {x y : Answer} {xs ys : List Answer} → x ≡ y → xs ≡ ys → x ∷ xs ≡ y ∷ ys
+also p q = ap₂ _∷_ p q
 
-joined : (s : Strip) (l : List Strip) → found s ≡ s .wanted → Right l → Right (s ∷ l)
-joined s l p q = ap₂ _∷_ p q
-
-pub strips-right : Right strips
+pub strips-right : map found strips ≡ map (λ (s : Strip). s .wanted) strips
 unfolding strips
 strips-right =
-    (joined constant _ constant-right
-    (joined clampToEdge _ clamp-to-edge-right
-    (joined repeated _ repeated-right
-    (joined mirrored _ mirrored-right
-    (joined mirroredOfOne _ mirrored-of-one-right
-    (joined undefined _ undefined-right
-    (joined clampedStore _ clamped-store-right
-    (joined permuted _ permuted-right
-    (joined clipped _ clipped-right
-    (joined largeIndex _ large-index-right
-    (joined strideZeroSingle _ stride-zero-single-right
-    (joined strideZeroPair _ stride-zero-pair-right
-    (joined twoByTwo _ two-by-two-right
-    (joined blocksOfTwo _ blocks-of-two-right
-    (joined twoLayers _ two-layers-right
-    (joined noObjectKept _ no-object-kept-right
-    (joined noObjectZeros _ no-object-zeros-right refl)))))))))))))))))
+    (also constant-right
+    (also clamp-to-edge-right
+    (also repeated-right
+    (also mirrored-right
+    (also mirrored-of-one-right
+    (also undefined-right
+    (also clamped-store-right
+    (also permuted-right
+    (also clipped-right
+    (also large-index-right
+    (also stride-zero-single-right
+    (also stride-zero-pair-right
+    (also two-by-two-right
+    (also blocks-of-two-right
+    (also two-layers-right
+    (also no-object-kept-right
+    (also no-object-zeros-right refl)))))))))))))))))
