@@ -49,6 +49,7 @@ HEADERS = include/moonbleat.h $(wildcard harness/*.h)
 PROGRAMS = harness/example.c harness/unhex.c harness/moonbleat.c
 OBJECTS = $(patsubst harness/%.c,$(TOOL)/%.o,$(filter-out $(PROGRAMS),$(wildcard harness/*.c)))
 SHEET_FILES = target/sheets/$(SEED)-$(SHEETS)
+LDLIBS = -lm
 VERSION = $(shell sed -n 's/^.define MOONBLEAT_VERSION_[A-Z]* //p' include/moonbleat.h | paste -s -d. -)
 
 # Cargo needs no network, writes to target/ alone, and links the archive by its absolute path.

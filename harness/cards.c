@@ -117,14 +117,14 @@ static bool read_registers(const struct location *location, const char *name, st
 }
 
 void judge_card(struct reference *reference, const struct location *location, const char *after, const char *registers,
-                struct card_files *files, struct finding *finding)
+                struct card_files *files, struct finding *finding, uint32_t *counts)
 {
     struct finding unread;
     if (!read_after(reference, location, after, files, finding)) {
         return;
     }
     files->has_registers = registers != NULL && read_registers(location, registers, files, &unread);
-    compare_card(reference, files->after, files->has_registers ? &files->registers : NULL, finding);
+    compare_card(reference, files->after, files->has_registers ? &files->registers : NULL, finding, counts);
     if (registers != NULL && !files->has_registers && finding->verdict == VERDICT_AGREES) {
         *finding = unread;
     }

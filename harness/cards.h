@@ -43,9 +43,9 @@ void set_unreadable(struct finding *finding, enum part part, const char *format,
 /* Says that the reference's sheet is refused. */
 void set_refused(struct finding *finding, const struct refused *refused);
 
-/* Reads a card's memory, and its registers unless `registers` is NULL, and compares them. A memory
- * that differs is a difference also where the registers cannot be read. */
+/* Reads a card's memory, and its registers unless `registers` is NULL, and compares them, as compare_card does. A
+ * memory that differs is a difference also where the registers cannot be read. */
 void judge_card(struct reference *reference, const struct location *location, const char *after, const char *registers,
-                struct card_files *files, struct finding *finding);
+                struct card_files *files, struct finding *finding, uint32_t *counts);
 
 #endif

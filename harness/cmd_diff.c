@@ -65,7 +65,7 @@ static void print_run(const struct reference *reference, const uint8_t *after, c
     }
 }
 
-static void print_runs(struct reference *reference, const uint8_t *after)
+static void print_runs(const struct reference *reference, const uint8_t *after)
 {
     struct run run = {0, 0};
     while (find_run(reference, after, run.end, &run)) {
@@ -191,10 +191,11 @@ static int parse_registers(const struct request *request, struct card *cards, si
 static unsigned diff_card(struct reference *reference, const struct card *card, bool all)
 {
     static struct card_files files;
+    static uint32_t counts[CENSUS_MAX];
     const struct sink sink = {stdout, put_plain};
     const struct location here = {AT_FDCWD, false};
     struct finding finding;
-    judge_card(reference, &here, card->after, card->registers, &files, &finding);
+    judge_card(reference, &here, card->after, card->registers, &files, &finding, counts);
     put_name(&sink, card->name);
     putchar(' ');
     put_finding(&sink, &finding, finding.part == PART_REGISTERS ? card->registers : card->after);

@@ -100,34 +100,48 @@ static bool open_report_out(const struct request *request, const struct night *n
         .file = words[OPTION_OUT] == NULL ? stdout : open_spool(),
         .page_name = words[OPTION_HTML],
     };
-    out->page = out->page_name == NULL ? NULL : new_page();
+    out->page = out->page_name == NULL ? NULL : new_page(night);
     if (out->file == NULL || (out->page_name != NULL && out->page == NULL)) {
         close_report_out(out);
         return false;
     }
-    if (out->form->begin != NULL) {
-        out->form->begin(out->file, night);
-    }
     return true;
 }
 
-static void report_sheet(struct report_out *out, struct night *night, const char *name,
-                         const struct finding *findings)
+/* Reports all sheets of a night. */
+static bool report_sheets(const struct report_out *out, struct night *night, struct finding *findings)
 {
-    out->form->sheet(out->file, night, name, findings);
-    if (out->page != NULL) {
-        put_page_sheet(out->page, night, name, findings);
+    char name[NAME_ROOM];
+    bool done = rewind_kept(&night->kept);
+    for (size_t i = 0; done && i < night->sheets; i++) {
+        done = next_kept(&night->kept, name, findings);
+        if (done) {
+            out->form->sheet(out->file, night, i, name, findings);
+        }
+        if (done && out->page != NULL) {
+            put_page_sheet(out->page, night, name, findings);
+        }
     }
-    count_findings(night, findings);
+    return done;
+}
+
+static bool report_night(const struct report_out *out, struct night *night)
+{
+    struct finding *findings = calloc(night->cards->count + 1, sizeof findings[0]);
+    if (findings == NULL) {
+        complain("the report");
+        return false;
+    }
+    bool done = (out->form->begin == NULL || out->form->begin(out->file, night)) &&
+                report_sheets(out, night, findings) && (out->form->end == NULL || out->form->end(out->file, night));
+    free(findings);
+    return done;
 }
 
 /* Writes the files that are named: all of them, or none. */
-static bool write_report(struct report_out *out, const struct night *night)
+static bool write_report(const struct report_out *out, struct night *night)
 {
     FILE *page = NULL;
-    if (out->form->end != NULL) {
-        out->form->end(out->file, night);
-    }
     if (out->page != NULL && (page = finish_page(out->page, night)) == NULL) {
         return false;
     }
@@ -137,47 +151,30 @@ static bool write_report(struct report_out *out, const struct night *night)
 
 /* -- From a folder ---------------------------------------------------------------------------- */
 
-static bool report_folder(const struct folder *folder, const struct workers *workers, struct report_out *out,
-                          struct night *night)
+static bool take_sheets(const struct folder *folder, const struct workers *workers, struct night *night)
 {
     struct progress progress;
-    struct finding *findings = calloc(folder->cards.count, sizeof findings[0]);
-    bool done = findings != NULL;
+    struct judged *judged = new_judged(folder->cards.count);
+    bool done = judged != NULL;
     start_progress(&progress, folder->sheets.count);
     for (size_t i = 0; done && i < folder->sheets.count; i++) {
-        done = get_findings(workers, i, findings);
-        hide_progress(&progress);
-        if (done) {
-            report_sheet(out, night, folder->sheets.at[i], findings);
-            show_progress(&progress, i + 1);
-        }
+        done = get_judged(workers, i, judged) && take_judged(night, folder->sheets.at[i], judged);
+        show_progress(&progress, i + 1);
     }
     hide_progress(&progress);
-    free(findings);
+    free_judged(judged);
     return done;
 }
 
-static bool judge_folder(const struct folder *folder, size_t jobs, struct report_out *out, struct night *night)
+static bool take_folder(const struct folder *folder, size_t jobs, struct night *night)
 {
     struct workers workers;
     size_t most = folder->sheets.count > 1 ? folder->sheets.count : 1;
     if (!start_workers(folder, jobs < most ? jobs : most, &workers)) {
         return false;
     }
-    bool done = report_folder(folder, &workers, out, night);
+    bool done = take_sheets(folder, &workers, night);
     stop_workers(&workers);
-    return done;
-}
-
-/* -- From reports ----------------------------------------------------------------------------- */
-
-static bool report_merge(const struct merge *merge, struct report_out *out, struct night *night)
-{
-    bool done = true;
-    for (struct report_in *next = next_report(merge); done && next != NULL; next = next_report(merge)) {
-        report_sheet(out, night, next->name, next->findings);
-        done = next_sheet(next);
-    }
     return done;
 }
 
@@ -188,22 +185,28 @@ struct source {
     const struct folder *folder;
     size_t jobs;
     const struct merge *merge;
+    const struct identity *identity;
+    const struct list *cards;
+    struct shard shard;
 };
 
-static int make_report(const struct request *request, const struct source *source, const struct list *cards,
-                       const struct shard *shard)
+static bool take_source(const struct source *source, struct night *night)
+{
+    return (source->merge != NULL ? take_merge(source->merge, night)
+                                  : take_folder(source->folder, source->jobs, night)) &&
+           find_night_causes(night);
+}
+
+static int make_report(const struct request *request, const struct source *source)
 {
     struct night night;
     struct report_out out;
-    if (!begin_night(&night, cards, shard)) {
-        complain(request->files[0]);
+    if (!begin_night(&night, source->identity, source->cards, &source->shard)) {
         return FAILED;
     }
     int status = FAILED;
-    if (open_report_out(request, &night, &out)) {
-        bool done = source->merge != NULL ? report_merge(source->merge, &out, &night)
-                                          : judge_folder(source->folder, source->jobs, &out, &night);
-        if (done && write_report(&out, &night)) {
+    if (take_source(source, &night) && open_report_out(request, &night, &out)) {
+        if (report_night(&out, &night) && write_report(&out, &night)) {
             status = tally_status(&night.total);
         }
         close_report_out(&out);
@@ -218,7 +221,9 @@ static int merge_night(const struct request *request)
     if (!open_merge(request->files, request->file_count, &merge)) {
         return FAILED;
     }
-    int status = make_report(request, &(struct source){.merge = &merge}, merged_cards(&merge), &(struct shard){1, 1});
+    const struct report_in *first = &merge.reports[0];
+    int status = make_report(request, &(struct source){
+        .merge = &merge, .identity = &first->identity, .cards = &first->cards, .shard = {1, 1}});
     close_merge(&merge);
     return status;
 }
@@ -239,7 +244,8 @@ static int judge_night(const struct request *request)
         return FAILED;
     }
     if (folder.cards.count > 0) {
-        status = make_report(request, &(struct source){.folder = &folder, .jobs = jobs}, &folder.cards, &shard);
+        status = make_report(request, &(struct source){.folder = &folder, .jobs = jobs, .identity = &folder.identity,
+                                                       .cards = &folder.cards, .shard = shard});
     } else {
         fprintf(stderr, "moonbleat: %s: no card's file, NAME.CARD.after, is there: nothing to compare\n",
                 request->files[0]);

@@ -48,6 +48,15 @@ static const char *differ(uint32_t count)
     return count == 1 ? "differs" : "differ";
 }
 
+void add_lead(struct text *text, const struct lead *lead)
+{
+    if (lead->there != 0) {
+        add_text(text, "step %" PRIu32 " %s r%" PRIu32 ", element %" PRIu32 " (%" PRIu32 ", %" PRIu32 ")", lead->step,
+                 field_of_tag((uint8_t)lead->tag)->name, lead->reg, lead->element, lead->row, lead->column);
+        add_making(text, &lead->traits);
+    }
+}
+
 void add_origin(struct text *text, const struct origin *origin)
 {
     if (origin == NULL) {
@@ -127,12 +136,20 @@ void add_register_difference(struct text *text, const struct register_difference
              differ(difference->registers));
 }
 
-void add_words(struct text *text, const struct finding *finding)
+/* Adds what separates a part of a sentence from the one before. */
+static void add_mark(struct text *text, bool has_part)
 {
-    add_memory_difference(text, &finding->memory);
-    if (finding->memory.bytes > 0 && finding->registers.registers > 0) {
+    if (text->len > 0 && has_part) {
         add_text(text, "; ");
     }
+}
+
+void add_words(struct text *text, const struct finding *finding)
+{
+    add_lead(text, &finding->lead);
+    add_mark(text, finding->memory.bytes > 0);
+    add_memory_difference(text, &finding->memory);
+    add_mark(text, finding->registers.registers > 0);
     add_register_difference(text, &finding->registers);
     add_text(text, "%s", finding->reason);
 }

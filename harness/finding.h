@@ -10,6 +10,7 @@
 #include "names.h"
 #include "origins.h"
 #include "text.h"
+#include "traits.h"
 
 /* For one sheet and one card. Only the first two are of the card; the others say why it could not
  * be judged. */
@@ -51,7 +52,19 @@ struct register_difference {
     struct register_state has;
 };
 
-/* The matrix of the first difference: of the store's, or of the register. */
+/* The first element that differs of the earliest step that made one, or, of a store, must leave one out. */
+struct lead {
+    uint32_t there; /* 0: no step has to do with what differs, and the rest is 0 too */
+    uint32_t step;
+    uint32_t tag;
+    uint32_t reg;
+    uint32_t element;
+    uint32_t row;
+    uint32_t column;
+    struct traits traits;
+};
+
+/* The matrix of that step; without one that of a register whose type agrees. */
 enum cell { CELL_ELSEWHERE = '.', CELL_AGREES = '=', CELL_DIFFERS = 'x' };
 struct map {
     uint32_t rows; /* 0: there is none */
@@ -59,10 +72,16 @@ struct map {
     char cells[MOONBLEAT_REGISTER_ELEMENTS];
 };
 
+enum { SHOWS_MEMORY = 1, SHOWS_REGISTERS = 2 };
+
 struct finding {
     uint32_t verdict;
     uint32_t part; /* of a missing or unreadable file */
     uint32_t refusal[3];
+    uint32_t shows; /* what of the card was compared, SHOWS_ below */
+    uint32_t sorts_at; /* of a card that differs: where its sorts stand in the night's spectrum, */
+    uint32_t sorts;    /* .. and how many */
+    struct lead lead;
     struct memory_difference memory;
     struct register_difference registers;
     struct map map;
@@ -85,6 +104,10 @@ bool is_cards_part(unsigned part);
 
 /* The name of a file of the night: NAME.SUFFIX, or NAME.CARD.SUFFIX. */
 void add_part_name(struct text *text, const char *name, const char *card, unsigned part);
+
+/* Adds the earliest step and its element: "step 1 load r1, element 0 (0, 0), which MirrorRepeat clamps below in
+ * dimension 0"; nothing where there is none. */
+void add_lead(struct text *text, const struct lead *lead);
 
 /* Adds where a byte comes from: "step 6 store r2, element 11 (0, 11), byte 0 of 4", or "no step writes
  * there" for NULL. */

@@ -5,6 +5,7 @@
 #include <errno.h>
 #include <stdio.h>
 #include <string.h>
+#include <sys/stat.h>
 
 #include "asm.h"
 #include "names.h"
@@ -85,9 +86,20 @@ static bool add_entry(const struct entry *entry, const char *name, const struct 
            (entry->card == NULL || add_to_list(&folder->cards, entry->card, entry->card_len));
 }
 
+/* Takes a file into the listing; one that is not there any more, or leads nowhere, by its name alone. */
+static void list_entry(DIR *stream, const char *name, struct listing *listing)
+{
+    struct stat status;
+    if (fstatat(dirfd(stream), name, &status, 0) != 0) {
+        status = (struct stat){.st_size = 0};
+    }
+    list_file(listing, name, &status);
+}
+
 /* Lists all entries; false and errno if that fails. */
 static bool list_entries(DIR *stream, const char *path, const struct shard *shard, struct folder *folder)
 {
+    struct listing listing = {.files = 0};
     errno = 0;
     for (const struct dirent *next = readdir(stream); next != NULL; next = readdir(stream)) {
         struct entry entry;
@@ -95,12 +107,15 @@ static bool list_entries(DIR *stream, const char *path, const struct shard *shar
             if (!add_entry(&entry, next->d_name, shard, folder)) {
                 return false;
             }
+            list_entry(stream, next->d_name, &listing);
         } else if (strcmp(next->d_name, ".") != 0 && strcmp(next->d_name, "..") != 0) {
             pass_over(path, next->d_name);
         }
         errno = 0;
     }
-    return errno == 0;
+    bool done = errno == 0;
+    folder->identity = identity_of(path, &listing);
+    return done;
 }
 
 bool open_folder(const char *path, const struct shard *shard, struct folder *folder)
@@ -211,26 +226,40 @@ static bool make_reference(const struct location *location, const char *name, st
 }
 
 static void judge_pair(const struct folder *folder, struct reference *reference, const char *name, const char *card,
-                       struct finding *finding)
+                       struct finding *finding, uint32_t *counts)
 {
     static struct card_files files;
     struct text after = {.len = 0}, registers = {.len = 0};
     add_part_name(&after, name, card, PART_AFTER);
     add_part_name(&registers, name, card, PART_REGISTERS);
     bool has_registers = is_there(&folder->location, registers.at);
-    judge_card(reference, &folder->location, after.at, has_registers ? registers.at : NULL, &files, finding);
+    judge_card(reference, &folder->location, after.at, has_registers ? registers.at : NULL, &files, finding, counts);
 }
 
-void judge_sheet(const struct folder *folder, const char *name, struct finding *findings)
+/* Takes the census of a sheet that was carried out. */
+static bool take_census(const struct census *census, struct judged *judged)
+{
+    judged->census.count = census->count;
+    memcpy(judged->census.at, census->at, census->count * sizeof census->at[0]);
+    return make_counts(judged);
+}
+
+bool judge_sheet(const struct folder *folder, const char *name, struct judged *judged)
 {
     static struct reference reference;
     struct finding common;
     bool made = make_reference(&folder->location, name, &reference, &common);
+    judged->census.count = 0;
+    if (made && !take_census(&reference.shown.census, judged)) {
+        complain(name);
+        return false;
+    }
     for (size_t i = 0; i < folder->cards.count; i++) {
         if (made) {
-            judge_pair(folder, &reference, name, folder->cards.at[i], &findings[i]);
+            judge_pair(folder, &reference, name, folder->cards.at[i], &judged->findings[i], counts_of(judged, i));
         } else {
-            findings[i] = common;
+            judged->findings[i] = common;
         }
     }
+    return true;
 }

@@ -1,28 +1,6 @@
 #include "report.h"
 
 #include <inttypes.h>
-#include <stdlib.h>
-
-bool begin_night(struct night *night, const struct list *cards, const struct shard *shard)
-{
-    *night = (struct night){.cards = cards, .shard = *shard};
-    night->tallies = calloc(cards->count + 1, sizeof night->tallies[0]);
-    return night->tallies != NULL;
-}
-
-void end_night(struct night *night)
-{
-    free(night->tallies);
-}
-
-void count_findings(struct night *night, const struct finding *findings)
-{
-    night->sheets++;
-    for (size_t i = 0; i < night->cards->count; i++) {
-        night->tallies[i].counts[findings[i].verdict]++;
-        night->total.counts[findings[i].verdict]++;
-    }
-}
 
 void put_night_finding(const struct sink *sink, const struct finding *finding, const char *sheet, const char *card)
 {
@@ -33,9 +11,21 @@ void put_night_finding(const struct sink *sink, const struct finding *finding, c
 
 /* -- Text ------------------------------------------------------------------------------------- */
 
-/* A line for each card. */
-static void put_text_sheet(FILE *file, const struct night *night, const char *name, const struct finding *findings)
+static bool begin_text(FILE *file, struct night *night)
 {
+    struct text identity = {.len = 0};
+    add_identity(&identity, &night->identity);
+    fputs("night ", file);
+    put_name(&(struct sink){file, put_plain}, night->identity.name);
+    fprintf(file, ", %s\n\n", identity.at);
+    return true;
+}
+
+/* A line for each card. */
+static void put_text_sheet(FILE *file, const struct night *night, size_t number, const char *name,
+                           const struct finding *findings)
+{
+    (void)number;
     const struct sink sink = {file, put_plain};
     for (size_t i = 0; i < night->cards->count; i++) {
         const char *card = night->cards->at[i];
@@ -55,10 +45,63 @@ static void put_tally(FILE *file, const struct tally *tally)
             counts[VERDICT_DIFFERS], counts[VERDICT_MISSING], counts[VERDICT_REFUSED], counts[VERDICT_UNREADABLE]);
 }
 
-static void end_text(FILE *file, const struct night *night)
+/* The sheets of a cause, on one line. */
+static void put_cause_sheets(FILE *file, const struct night *night, size_t card, size_t cause)
+{
+    const char *mark = "  sheets: ";
+    for (size_t i = 0; i < night->kept.count; i++) {
+        const struct kept_difference *difference = &night->kept.differences[i];
+        if (difference->card == card && has_cause(night, difference, cause)) {
+            fputs(mark, file);
+            put_name(&(struct sink){file, put_plain}, difference->sheet);
+            mark = ", ";
+        }
+    }
+    putc('\n', file);
+}
+
+/* A cause of a card: its headline, a worked example, and its sheets. */
+static bool put_text_cause(FILE *file, struct night *night, size_t card, size_t cause)
+{
+    const struct sink sink = {file, put_plain};
+    const struct kept_difference *example = find_example(night, card, cause);
+    struct text headline = {.len = 0};
+    struct finding finding;
+    if (!get_kept(&night->kept, example, &finding)) {
+        return false;
+    }
+    add_headline(&headline, night, card, cause);
+    put_name(&sink, night->cards->at[card]);
+    fprintf(file, ": %s\n  for instance ", headline.at);
+    put_name(&sink, example->sheet);
+    putc(' ', file);
+    put_finding(&sink, &finding, NULL);
+    putc('\n', file);
+    put_cause_sheets(file, night, card, cause);
+    return true;
+}
+
+static bool put_text_causes(FILE *file, struct night *night)
+{
+    bool done = true;
+    for (size_t i = 0; i < night->cards->count; i++) {
+        for (size_t j = 0; done && j < night->causes[i].count; j++) {
+            done = put_text_cause(file, night, i, j);
+        }
+    }
+    if (night->total.counts[VERDICT_DIFFERS] > 0) {
+        putc('\n', file);
+    }
+    return done;
+}
+
+static bool end_text(FILE *file, struct night *night)
 {
     const struct sink sink = {file, put_plain};
     putc('\n', file);
+    if (!put_text_causes(file, night)) {
+        return false;
+    }
     for (size_t i = 0; i < night->cards->count; i++) {
         put_name(&sink, night->cards->at[i]);
         fputs(": ", file);
@@ -67,16 +110,20 @@ static void end_text(FILE *file, const struct night *night)
     fprintf(file, "night: %zu sheet%s, %zu card%s: ", night->sheets, plural(night->sheets), night->cards->count,
             plural(night->cards->count));
     put_tally(file, &night->total);
+    return true;
 }
 
-const struct form text_form = {NULL, put_text_sheet, end_text};
+const struct form text_form = {begin_text, put_text_sheet, end_text};
 
 /* -- CSV -------------------------------------------------------------------------------------- */
 
-static void begin_csv(FILE *file, const struct night *night)
+/* wants and has are decimal, as all numbers; the words of the detail have them in hex. */
+static bool begin_csv(FILE *file, struct night *night)
 {
     (void)night;
-    fputs("sheet,card,verdict,bytes,runs,byte,wants,has,step,register,element,row,column,registers,detail\r\n", file);
+    fputs("sheet,card,verdict,bytes,runs,byte,wants,has,step,register,element,row,column,registers,detail,lead_step,"
+          "lead_element,causes,night,date,version,edition,digest\r\n", file);
+    return true;
 }
 
 /* The numbers of a difference in memory; where there is none, or no step stores there, the fields
@@ -98,8 +145,36 @@ static void put_csv_difference(FILE *file, const struct memory_difference *memor
     }
 }
 
-static void put_csv_sheet(FILE *file, const struct night *night, const char *name, const struct finding *findings)
+/* The names of a finding's causes, as one field. */
+static void put_csv_causes(FILE *file, const struct night *night, size_t card, const struct finding *finding)
 {
+    const struct causes *causes = &night->causes[card];
+    const char *mark = "";
+    putc('"', file);
+    for (size_t i = 0; i < causes->count; i++) {
+        if (finding_has_cause(night, finding, card, i)) {
+            struct text name = {.len = 0};
+            add_cause_name(&name, &causes->at[i]);
+            fprintf(file, "%s%s", mark, name.at);
+            mark = "; ";
+        }
+    }
+    putc('"', file);
+}
+
+/* Which night it is of: the same on every row, so that rows of several nights may stand in one table. */
+static void put_csv_identity(FILE *file, const struct identity *identity)
+{
+    putc(',', file);
+    put_csv(file, identity->name);
+    fprintf(file, ",%s,%s,%" PRIu32 ",%s\r\n", identity->date, identity->version, identity->edition,
+            identity->digest);
+}
+
+static void put_csv_sheet(FILE *file, const struct night *night, size_t number, const char *name,
+                          const struct finding *findings)
+{
+    (void)number;
     for (size_t i = 0; i < night->cards->count; i++) {
         const char *card = night->cards->at[i];
         const struct finding *finding = &findings[i];
@@ -114,7 +189,15 @@ static void put_csv_sheet(FILE *file, const struct night *night, const char *nam
         putc(',', file);
         putc('"', file);
         put_night_finding(&(struct sink){file, put_quoted}, finding, name, card);
-        fputs("\"\r\n", file);
+        fputs("\",", file);
+        if (finding->lead.there != 0) {
+            fprintf(file, "%" PRIu32 ",%" PRIu32, finding->lead.step, finding->lead.element);
+        } else {
+            putc(',', file);
+        }
+        putc(',', file);
+        put_csv_causes(file, night, i, finding);
+        put_csv_identity(file, &night->identity);
     }
 }
 

@@ -1,0 +1,56 @@
+/* A night: its cards, what was found on all sheets, and what the differences of each card have in common. */
+#ifndef NIGHT_H
+#define NIGHT_H
+
+#include <stdbool.h>
+#include <stddef.h>
+
+#include "causes.h"
+#include "finding.h"
+#include "folder.h"
+#include "identity.h"
+#include "judged.h"
+#include "kept.h"
+#include "list.h"
+#include "spectrum.h"
+
+/* The tallies, the spectrum and what is kept grow as sheets are taken. */
+struct night {
+    struct identity identity;
+    const struct list *cards;
+    struct shard shard;
+    size_t sheets;
+    struct tally *tallies; /* for each card */
+    struct tally total;
+    struct spectrum spectrum;
+    struct kept kept;
+    struct causes *causes; /* for each card, once all sheets are taken */
+};
+
+/* A night of some cards; says on standard error what goes wrong. To be ended. */
+bool begin_night(struct night *night, const struct identity *identity, const struct list *cards,
+                 const struct shard *shard);
+void end_night(struct night *night);
+
+/* Takes what was judged on a sheet, or findings whose sorts are in the spectrum already. */
+bool take_judged(struct night *night, const char *name, struct judged *judged);
+bool take_findings(struct night *night, const char *name, const struct finding *findings);
+
+/* Finds the causes, behind the last sheet. */
+bool find_night_causes(struct night *night);
+
+/* Whether a difference has elements of one of its card's causes. */
+bool has_cause(const struct night *night, const struct kept_difference *difference, size_t cause);
+
+/* The same of a finding. */
+bool finding_has_cause(const struct night *night, const struct finding *finding, size_t card, size_t cause);
+
+/* How many sheets a card's cause has, and the difference that shows it best: the first whose first element is one
+ * of its elements, or else the first that has any. */
+size_t count_cause_sheets(const struct night *night, size_t card, size_t cause);
+const struct kept_difference *find_example(const struct night *night, size_t card, size_t cause);
+
+/* Adds a cause of a card with its sheets: "40 sheets, 960 of 960 elements that MirrorRepeat clamps differ, ..". */
+void add_headline(struct text *text, const struct night *night, size_t card, size_t cause);
+
+#endif

@@ -1,0 +1,100 @@
+#include "spectrum.h"
+
+#include <stdlib.h>
+#include <string.h>
+
+/* The rooms that a spectrum gets first; the hash has twice as many slots as there is room for sorts. */
+enum { FIRST_ROOM = 64, SLOTS_PER_SORT = 2 };
+
+void free_spectrum(struct spectrum *spectrum)
+{
+    free(spectrum->sorts);
+    free(spectrum->counts);
+    free(spectrum->slots);
+    free(spectrum->pairs);
+    *spectrum = (struct spectrum){.cards = spectrum->cards};
+}
+
+/* FNV-1a. */
+static uint64_t hash_of(const struct traits *traits)
+{
+    uint64_t hash = UINT64_C(14695981039346656037);
+    for (unsigned i = 0; i < TRAITS; i++) {
+        hash = (hash ^ traits->at[i]) * UINT64_C(1099511628211);
+    }
+    return hash;
+}
+
+/* The slot that has a sort, or the free one where it belongs. */
+static uint32_t *find_slot(const struct spectrum *spectrum, const struct traits *traits)
+{
+    size_t slots = SLOTS_PER_SORT * spectrum->room;
+    size_t i = hash_of(traits) % slots;
+    while (spectrum->slots[i] != 0 &&
+           memcmp(&spectrum->sorts[spectrum->slots[i] - 1], traits, sizeof *traits) != 0) {
+        i = (i + 1) % slots;
+    }
+    return &spectrum->slots[i];
+}
+
+/* Makes room for twice as many sorts. */
+static bool grow(struct spectrum *spectrum)
+{
+    size_t room = spectrum->room == 0 ? FIRST_ROOM : 2 * spectrum->room;
+    struct traits *sorts = realloc(spectrum->sorts, room * sizeof sorts[0]);
+    spectrum->sorts = sorts == NULL ? spectrum->sorts : sorts;
+    struct spectrum_count *counts = realloc(spectrum->counts, room * spectrum->cards * sizeof counts[0]);
+    spectrum->counts = counts == NULL ? spectrum->counts : counts;
+    uint32_t *slots = calloc(SLOTS_PER_SORT * room, sizeof slots[0]);
+    if (sorts == NULL || counts == NULL || slots == NULL) {
+        free(slots);
+        return false;
+    }
+    free(spectrum->slots);
+    spectrum->slots = slots;
+    spectrum->room = room;
+    for (size_t i = 0; i < spectrum->count; i++) {
+        *find_slot(spectrum, &sorts[i]) = (uint32_t)(i + 1);
+    }
+    return true;
+}
+
+bool find_spectrum_sort(struct spectrum *spectrum, const struct traits *traits, uint32_t *sort)
+{
+    if (spectrum->count == spectrum->room && !grow(spectrum)) {
+        return false;
+    }
+    uint32_t *slot = find_slot(spectrum, traits);
+    if (*slot == 0) {
+        spectrum->sorts[spectrum->count] = *traits;
+        memset(spectrum_count(spectrum, spectrum->count, 0), 0, spectrum->cards * sizeof spectrum->counts[0]);
+        *slot = (uint32_t)++spectrum->count;
+    }
+    *sort = *slot - 1;
+    return true;
+}
+
+uint32_t known_sort(const struct spectrum *spectrum, const struct traits *traits)
+{
+    return *find_slot(spectrum, traits) - 1;
+}
+
+struct spectrum_count *spectrum_count(const struct spectrum *spectrum, size_t sort, size_t card)
+{
+    return &spectrum->counts[sort * spectrum->cards + card];
+}
+
+bool add_pair(struct spectrum *spectrum, uint32_t sort, uint32_t differ)
+{
+    if (spectrum->pair_count == spectrum->pair_room) {
+        size_t room = spectrum->pair_room == 0 ? FIRST_ROOM : 2 * spectrum->pair_room;
+        struct sort_pair *pairs = realloc(spectrum->pairs, room * sizeof pairs[0]);
+        if (pairs == NULL) {
+            return false;
+        }
+        spectrum->pairs = pairs;
+        spectrum->pair_room = room;
+    }
+    spectrum->pairs[spectrum->pair_count++] = (struct sort_pair){sort, differ};
+    return true;
+}
