@@ -77,6 +77,9 @@ static int check_night(const struct request *request)
     if (words[OPTION_MERGE] == NULL && request->file_count > 1) {
         return wrong_use(&night_command, "one folder is a night, and %s is one more", request->files[1]);
     }
+    if (words[OPTION_NAME] != NULL && (words[OPTION_NAME][0] == '\0' || strlen(words[OPTION_NAME]) >= NAME_ROOM)) {
+        return wrong_use(&night_command, "--name %s: not a name of 1 to %d bytes", words[OPTION_NAME], NAME_ROOM - 1);
+    }
     return DONE;
 }
 
@@ -154,7 +157,7 @@ static bool write_report(const struct report_out *out, struct night *night)
 static bool take_sheets(const struct folder *folder, const struct workers *workers, struct night *night)
 {
     struct progress progress;
-    struct judged *judged = new_judged(folder->cards.count);
+    struct judged *judged = new_judged(night->cards->count);
     bool done = judged != NULL;
     start_progress(&progress, folder->sheets.count);
     for (size_t i = 0; done && i < folder->sheets.count; i++) {
@@ -170,7 +173,7 @@ static bool take_folder(const struct folder *folder, size_t jobs, struct night *
 {
     struct workers workers;
     size_t most = folder->sheets.count > 1 ? folder->sheets.count : 1;
-    if (!start_workers(folder, jobs < most ? jobs : most, &workers)) {
+    if (!start_workers(folder, night->cards, jobs < most ? jobs : most, &workers)) {
         return false;
     }
     bool done = take_sheets(folder, &workers, night);
@@ -185,8 +188,8 @@ struct source {
     const struct folder *folder;
     size_t jobs;
     const struct merge *merge;
-    const struct identity *identity;
-    const struct list *cards;
+    struct identity identity;
+    const struct list *cards; /* all of them */
     struct shard shard;
 };
 
@@ -197,21 +200,62 @@ static bool take_source(const struct source *source, struct night *night)
            find_night_causes(night);
 }
 
-static int make_report(const struct request *request, const struct source *source)
+/* Makes the report of a night whose sheets are all to be taken. */
+static int report_source(const struct request *request, const struct source *source, struct night *night)
 {
-    struct night night;
     struct report_out out;
-    if (!begin_night(&night, source->identity, source->cards, &source->shard)) {
-        return FAILED;
-    }
     int status = FAILED;
-    if (take_source(source, &night) && open_report_out(request, &night, &out)) {
-        if (report_night(&out, &night) && write_report(&out, &night)) {
-            status = tally_status(&night.total);
+    if (take_source(source, night) && open_report_out(request, night, &out)) {
+        if (report_night(&out, night) && write_report(&out, night)) {
+            status = tally_status(&night->total);
         }
         close_report_out(&out);
     }
-    end_night(&night);
+    return status;
+}
+
+/* The cards that are asked for, or all; false if there is none of a name. */
+static bool choose_cards(const struct request *request, const struct list *all, struct list *chosen)
+{
+    bool has_choice = request->words[OPTION_ONLY_CARD] != NULL;
+    size_t number;
+    for (size_t i = 0; i < request->repeated_count; i++) {
+        const char *name = request->repeated[i].word;
+        if (!find_in_list(all, name, &number)) {
+            fprintf(stderr, "moonbleat: %s: no card ", request->files[0]);
+            put_name(&(struct sink){stderr, put_plain}, name);
+            fputs(" is there\n", stderr);
+            return false;
+        }
+        if (!add_to_list(chosen, name, strlen(name))) {
+            complain(name);
+            return false;
+        }
+    }
+    for (size_t i = 0; !has_choice && i < all->count; i++) {
+        if (!add_to_list(chosen, all->at[i], strlen(all->at[i]))) {
+            complain(all->at[i]);
+            return false;
+        }
+    }
+    sort_list(chosen);
+    return true;
+}
+
+static int make_report(const struct request *request, struct source *source)
+{
+    struct night night;
+    struct list cards = {NULL, 0, 0};
+    int status = FAILED;
+    if (request->words[OPTION_NAME] != NULL) {
+        snprintf(source->identity.name, sizeof source->identity.name, "%s", request->words[OPTION_NAME]);
+    }
+    if (choose_cards(request, source->cards, &cards) &&
+        begin_night(&night, &source->identity, &cards, &source->shard)) {
+        status = report_source(request, source, &night);
+        end_night(&night);
+    }
+    free_list(&cards);
     return status;
 }
 
@@ -222,8 +266,8 @@ static int merge_night(const struct request *request)
         return FAILED;
     }
     const struct report_in *first = &merge.reports[0];
-    int status = make_report(request, &(struct source){
-        .merge = &merge, .identity = &first->identity, .cards = &first->cards, .shard = {1, 1}});
+    struct source source = {.merge = &merge, .identity = first->identity, .cards = &first->cards, .shard = {1, 1}};
+    int status = make_report(request, &source);
     close_merge(&merge);
     return status;
 }
@@ -244,8 +288,9 @@ static int judge_night(const struct request *request)
         return FAILED;
     }
     if (folder.cards.count > 0) {
-        status = make_report(request, &(struct source){.folder = &folder, .jobs = jobs, .identity = &folder.identity,
-                                                       .cards = &folder.cards, .shard = shard});
+        struct source source = {.folder = &folder, .jobs = jobs, .identity = folder.identity, .cards = &folder.cards,
+                                .shard = shard};
+        status = make_report(request, &source);
     } else {
         fprintf(stderr, "moonbleat: %s: no card's file, NAME.CARD.after, is there: nothing to compare\n",
                 request->files[0]);
@@ -270,7 +315,7 @@ const struct command night_command = {
     .files_min = 1,
     .files_max = SIZE_MAX,
     .takes = SET(OPTION_JOBS) | SET(OPTION_JSON) | SET(OPTION_CSV) | SET(OPTION_OUT) | SET(OPTION_HTML) |
-             SET(OPTION_SHARD) | SET(OPTION_MERGE),
+             SET(OPTION_SHARD) | SET(OPTION_MERGE) | SET(OPTION_NAME) | SET(OPTION_ONLY_CARD),
     .summary = "compare every card of a night's folder on every sheet",
     .details = "DIR has files NAME.sheet (or NAME.txt, the text form), NAME.memory, NAME.CARD.after and, if the\n"
                "card has them, NAME.CARD.registers. A line for each sheet and card: agrees, differs, missing,\n"

@@ -244,7 +244,7 @@ static bool take_census(const struct census *census, struct judged *judged)
     return make_counts(judged);
 }
 
-bool judge_sheet(const struct folder *folder, const char *name, struct judged *judged)
+bool judge_sheet(const struct folder *folder, const struct list *cards, const char *name, struct judged *judged)
 {
     static struct reference reference;
     struct finding common;
@@ -254,9 +254,9 @@ bool judge_sheet(const struct folder *folder, const char *name, struct judged *j
         complain(name);
         return false;
     }
-    for (size_t i = 0; i < folder->cards.count; i++) {
+    for (size_t i = 0; i < cards->count; i++) {
         if (made) {
-            judge_pair(folder, &reference, name, folder->cards.at[i], &judged->findings[i], counts_of(judged, i));
+            judge_pair(folder, &reference, name, cards->at[i], &judged->findings[i], counts_of(judged, i));
         } else {
             judged->findings[i] = common;
         }

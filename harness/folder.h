@@ -36,7 +36,7 @@ void close_folder(struct folder *folder);
  * twice where one machine sees a file earlier than another. */
 uint32_t shard_of(const char *name, uint32_t parts);
 
-/* Judges every card of a folder on a sheet; false if memory runs out. */
-bool judge_sheet(const struct folder *folder, const char *name, struct judged *judged);
+/* Judges cards of a folder on a sheet; false if memory runs out. */
+bool judge_sheet(const struct folder *folder, const struct list *cards, const char *name, struct judged *judged);
 
 #endif

@@ -91,17 +91,25 @@ bool open_merge(char **paths, size_t count, struct merge *merge)
     return done;
 }
 
+/* The number that a card of the night has in a report. */
+static size_t card_in(const struct report_in *report, const struct night *night, size_t card)
+{
+    size_t number;
+    find_in_list(&report->cards, night->cards->at[card], &number);
+    return number;
+}
+
 /* Adds the counts of a report's head to the night's. */
-static bool add_counts(const struct report_in *report, struct spectrum *spectrum)
+static bool add_counts(const struct report_in *report, struct night *night)
 {
     for (size_t i = 0; i < report->spectrum.count; i++) {
         uint32_t sort;
-        if (!find_spectrum_sort(spectrum, &report->spectrum.sorts[i], &sort)) {
+        if (!find_spectrum_sort(&night->spectrum, &report->spectrum.sorts[i], &sort)) {
             return false;
         }
-        for (size_t card = 0; card < report->cards.count; card++) {
-            const struct spectrum_count *added = spectrum_count(&report->spectrum, i, card);
-            struct spectrum_count *count = spectrum_count(spectrum, sort, card);
+        for (size_t card = 0; card < night->cards->count; card++) {
+            const struct spectrum_count *added = spectrum_count(&report->spectrum, i, card_in(report, night, card));
+            struct spectrum_count *count = spectrum_count(&night->spectrum, sort, card);
             count->differ += added->differ;
             count->of += added->of;
         }
@@ -137,29 +145,32 @@ static struct report_in *next_report(const struct merge *merge)
     return next;
 }
 
-static bool take_report_sheet(struct report_in *report, struct night *night)
+static bool take_report_sheet(struct report_in *report, struct night *night, struct finding *findings)
 {
-    for (size_t i = 0; i < report->cards.count; i++) {
-        if (!renumber(report, &report->findings[i], &night->spectrum)) {
+    for (size_t i = 0; i < night->cards->count; i++) {
+        findings[i] = report->findings[card_in(report, night, i)];
+        if (!renumber(report, &findings[i], &night->spectrum)) {
             complain(report->path);
             return false;
         }
     }
-    return take_findings(night, report->name, report->findings) && next_sheet(report);
+    return take_findings(night, report->name, findings) && next_sheet(report);
 }
 
 bool take_merge(const struct merge *merge, struct night *night)
 {
-    bool done = true;
-    for (size_t i = 0; i < merge->count; i++) {
-        if (!add_counts(&merge->reports[i], &night->spectrum)) {
-            complain(merge->reports[i].path);
-            return false;
-        }
+    struct finding *findings = calloc(night->cards->count + 1, sizeof findings[0]);
+    bool done = findings != NULL;
+    for (size_t i = 0; done && i < merge->count; i++) {
+        done = add_counts(&merge->reports[i], night);
+    }
+    if (!done) {
+        complain(merge->reports[0].path);
     }
     for (struct report_in *next = next_report(merge); done && next != NULL; next = next_report(merge)) {
-        done = take_report_sheet(next, night);
+        done = take_report_sheet(next, night, findings);
     }
+    free(findings);
     return done;
 }
 

@@ -108,13 +108,14 @@ bool take_findings(struct night *night, const char *name, const struct finding *
 
 bool find_night_causes(struct night *night)
 {
-    for (size_t i = 0; i < night->cards->count; i++) {
-        if (!find_causes(&night->spectrum, i, &night->causes[i])) {
-            complain("a night");
-            return false;
-        }
+    bool done = order_spectrum(&night->spectrum);
+    for (size_t i = 0; done && i < night->cards->count; i++) {
+        done = find_causes(&night->spectrum, i, &night->causes[i]);
     }
-    return true;
+    if (!done) {
+        complain("a night");
+    }
+    return done;
 }
 
 static bool sorts_have_cause(const struct night *night, uint32_t first, uint32_t count, size_t card, size_t cause)

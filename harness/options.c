@@ -31,6 +31,9 @@ const struct option_form option_forms[OPTIONS] = {
     [OPTION_HTML] = {"--html", "FILE", "also write the report to FILE as a page to send"},
     [OPTION_SHARD] = {"--shard", "K/N", "take the K-th of N parts of the folder's sheets"},
     [OPTION_MERGE] = {"--merge", NULL, "make one report of the JSON reports of all parts"},
+    [OPTION_NAME] = {"--name", "NAME", "call the night NAME in place of its folder's name"},
+    [OPTION_SINCE] = {"--since", "LAST", "say what is new, mended and still differs since the JSON report LAST"},
+    [OPTION_ONLY_CARD] = {"--card", "NAME", "report this card alone; may be given more than once", .repeats = true},
 };
 
 int wrong_use(const struct command *command, const char *format, ...)

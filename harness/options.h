@@ -23,6 +23,9 @@ enum option {
     OPTION_HTML,
     OPTION_SHARD,
     OPTION_MERGE,
+    OPTION_NAME,
+    OPTION_SINCE,
+    OPTION_ONLY_CARD,
     OPTIONS
 };
 

@@ -98,3 +98,55 @@ bool add_pair(struct spectrum *spectrum, uint32_t sort, uint32_t differ)
     spectrum->pairs[spectrum->pair_count++] = (struct sort_pair){sort, differ};
     return true;
 }
+
+/* -- The order -------------------------------------------------------------------------------- */
+
+struct numbered {
+    struct traits traits;
+    size_t number;
+};
+
+static int compare_numbered(const void *one, const void *other)
+{
+    return memcmp(&((const struct numbered *)one)->traits, &((const struct numbered *)other)->traits,
+                  sizeof(struct traits));
+}
+
+/* Moves sorts and counts to their new numbers, and notes these by the old ones. */
+static void move_sorts(struct spectrum *spectrum, const struct numbered *order, const struct spectrum_count *counts,
+                       uint32_t *numbers)
+{
+    for (size_t i = 0; i < spectrum->count; i++) {
+        spectrum->sorts[i] = order[i].traits;
+        memcpy(spectrum_count(spectrum, i, 0), counts + order[i].number * spectrum->cards,
+               spectrum->cards * sizeof counts[0]);
+        numbers[order[i].number] = (uint32_t)i;
+    }
+    for (size_t i = 0; i < spectrum->pair_count; i++) {
+        spectrum->pairs[i].sort = numbers[spectrum->pairs[i].sort];
+    }
+    for (size_t i = 0; i < SLOTS_PER_SORT * spectrum->room; i++) {
+        spectrum->slots[i] = spectrum->slots[i] == 0 ? 0 : numbers[spectrum->slots[i] - 1] + 1;
+    }
+}
+
+bool order_spectrum(struct spectrum *spectrum)
+{
+    size_t count = spectrum->count, size = count * spectrum->cards * sizeof spectrum->counts[0];
+    struct numbered *order = calloc(count + 1, sizeof order[0]);
+    struct spectrum_count *counts = malloc(size + 1);
+    uint32_t *numbers = calloc(count + 1, sizeof numbers[0]);
+    bool done = order != NULL && counts != NULL && numbers != NULL;
+    if (done && count > 0) {
+        for (size_t i = 0; i < count; i++) {
+            order[i] = (struct numbered){spectrum->sorts[i], i};
+        }
+        memcpy(counts, spectrum->counts, size);
+        qsort(order, count, sizeof order[0], compare_numbered);
+        move_sorts(spectrum, order, counts, numbers);
+    }
+    free(order);
+    free(counts);
+    free(numbers);
+    return done;
+}

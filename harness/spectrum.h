@@ -44,6 +44,10 @@ uint32_t known_sort(const struct spectrum *spectrum, const struct traits *traits
 
 struct spectrum_count *spectrum_count(const struct spectrum *spectrum, size_t sort, size_t card);
 
+/* Numbers the sorts by their traits, so that a merged night has the numbers of one that was judged at once; false if
+ * memory runs out. */
+bool order_spectrum(struct spectrum *spectrum);
+
 /* Adds elements that differ to the last finding's; false if memory runs out. */
 bool add_pair(struct spectrum *spectrum, uint32_t sort, uint32_t differ);
 

@@ -179,6 +179,7 @@ void add_making(struct text *text, const struct traits *traits)
         add_traits(text, traits, TRAIT_SIDE, TRAIT_REDUCE);
     } else if (made != MADE_BY_FILL && made != MADE_BY_TRANSPOSE && made != MADE_BY_MULTIPLY_ADD) {
         add_text(text, ",");
-        add_traits(text, traits, TRAIT_REDUCE, TRAIT_CLIP);
+        add_traits(text, traits, TRAIT_REDUCE, TRAIT_PACKED);
+        add_traits(text, traits, TRAIT_BIAS, TRAIT_CLIP);
     }
 }

@@ -36,10 +36,10 @@ static void work(const struct workers *workers, size_t number, int pipe_end)
 {
     const struct folder *folder = workers->folder;
     FILE *stream = fdopen(pipe_end, "wb");
-    struct judged *judged = new_judged(folder->cards.count);
+    struct judged *judged = new_judged(workers->cards->count);
     bool done = stream != NULL && judged != NULL;
     for (size_t i = number; done && i < folder->sheets.count; i += workers->count) {
-        done = judge_sheet(folder, folder->sheets.at[i], judged) && write_judged(judged, stream);
+        done = judge_sheet(folder, workers->cards, folder->sheets.at[i], judged) && write_judged(judged, stream);
     }
     _exit(done && fflush(stream) == 0 ? EXIT_SUCCESS : EXIT_FAILURE);
 }
@@ -69,9 +69,9 @@ static bool start_worker(struct workers *workers, size_t number)
     return true;
 }
 
-bool start_workers(const struct folder *folder, size_t count, struct workers *workers)
+bool start_workers(const struct folder *folder, const struct list *cards, size_t count, struct workers *workers)
 {
-    *workers = (struct workers){.folder = folder, .count = count};
+    *workers = (struct workers){.folder = folder, .cards = cards, .count = count};
     if (count == 1) {
         return true;
     }
@@ -93,7 +93,7 @@ bool get_judged(const struct workers *workers, size_t i, struct judged *judged)
 {
     const struct folder *folder = workers->folder;
     if (workers->at == NULL) {
-        return judge_sheet(folder, folder->sheets.at[i], judged);
+        return judge_sheet(folder, workers->cards, folder->sheets.at[i], judged);
     }
     if (!read_judged(judged, workers->at[i % workers->count].judged)) {
         fputs("moonbleat: a process ended before its sheets did\n", stderr);

@@ -12,6 +12,7 @@
 /* Sheet i is worker i mod `count`'s. A single worker is this process itself. */
 struct workers {
     const struct folder *folder;
+    const struct list *cards; /* that they judge */
     size_t count;
     struct worker {
         pid_t process;
@@ -20,7 +21,7 @@ struct workers {
 };
 
 /* Starts workers; says on standard error what went wrong. */
-bool start_workers(const struct folder *folder, size_t count, struct workers *workers);
+bool start_workers(const struct folder *folder, const struct list *cards, size_t count, struct workers *workers);
 
 /* Gets what is found on sheet i; to be asked for in order. */
 bool get_judged(const struct workers *workers, size_t i, struct judged *judged);

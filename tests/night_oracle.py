@@ -278,7 +278,6 @@ class Machine:
             sums.append((products + addend) % (1 << 32))
         self.registers[result] = (kind, m, 1, sums)
         words = f" with a matrix that is {'row' if order == ROW_MAJOR else 'column'}-major"
-        words += " with a packed input" if interpretation in (PACKED_S8, PACKED_U8) else ""
         words += " with a bias" if has_bias else ""
         packed = {PACKED_S8: "packed-s8", PACKED_U8: "packed-u8"}
         words += f" with an input as {packed[interpretation] if interpretation in packed else NAMES[interpretation]}"
