@@ -46,7 +46,7 @@ static double score(const struct cell *cell)
 /* Of two patterns that tell the same: the one with fewer traits, then the one whose traits come first. */
 static bool is_simpler(const struct traits *one, const struct traits *other)
 {
-    unsigned counts[] = {count_traits(one), count_traits(other)};
+    const unsigned counts[] = {count_traits(one), count_traits(other)};
     for (unsigned i = 0; counts[0] == counts[1] && i < TRAITS; i++) {
         if ((one->at[i] != 0) != (other->at[i] != 0)) {
             return one->at[i] != 0;
@@ -57,7 +57,7 @@ static bool is_simpler(const struct traits *one, const struct traits *other)
 
 static void keep_better(const struct cell *cell, struct cell *best)
 {
-    double scores[] = {score(cell), best->of == 0 ? 0 : score(best)};
+    const double scores[] = {score(cell), best->of == 0 ? 0 : score(best)};
     if (cell->differ > 0 &&
         (scores[0] > scores[1] || (scores[0] == scores[1] && is_simpler(&cell->traits, &best->traits)))) {
         *best = *cell;

@@ -11,6 +11,7 @@
 #include "page.h"
 #include "progress.h"
 #include "report.h"
+#include "since.h"
 #include "spool.h"
 #include "workers.h"
 
@@ -201,11 +202,12 @@ static bool take_source(const struct source *source, struct night *night)
 }
 
 /* Makes the report of a night whose sheets are all to be taken. */
-static int report_source(const struct request *request, const struct source *source, struct night *night)
+static int report_source(const struct request *request, const struct source *source, struct since *since,
+                         struct night *night)
 {
     struct report_out out;
     int status = FAILED;
-    if (take_source(source, night) && open_report_out(request, night, &out)) {
+    if (take_source(source, night) && (since == NULL || compare_nights(since, night)) && open_report_out(request, night, &out)) {
         if (report_night(&out, night) && write_report(&out, night)) {
             status = tally_status(&night->total);
         }
@@ -242,7 +244,7 @@ static bool choose_cards(const struct request *request, const struct list *all, 
     return true;
 }
 
-static int make_report(const struct request *request, struct source *source)
+static int report_cards(const struct request *request, struct source *source, struct since *since)
 {
     struct night night;
     struct list cards = {NULL, 0, 0};
@@ -252,17 +254,34 @@ static int make_report(const struct request *request, struct source *source)
     }
     if (choose_cards(request, source->cards, &cards) &&
         begin_night(&night, &source->identity, &cards, &source->shard)) {
-        status = report_source(request, source, &night);
+        night.since = since;
+        status = report_source(request, source, since, &night);
         end_night(&night);
     }
     free_list(&cards);
     return status;
 }
 
+/* The last night is read first: if it is no report, no sheet is judged in vain. */
+static int make_report(const struct request *request, struct source *source)
+{
+    struct since since;
+    const char *last = request->words[OPTION_SINCE];
+    if (last == NULL) {
+        return report_cards(request, source, NULL);
+    }
+    if (!open_since(last, &since)) {
+        return FAILED;
+    }
+    int status = report_cards(request, source, &since);
+    close_since(&since);
+    return status;
+}
+
 static int merge_night(const struct request *request)
 {
     struct merge merge;
-    if (!open_merge(request->files, request->file_count, &merge)) {
+    if (!open_merge((const char *const *)request->files, request->file_count, &merge)) {
         return FAILED;
     }
     const struct report_in *first = &merge.reports[0];
@@ -315,7 +334,8 @@ const struct command night_command = {
     .files_min = 1,
     .files_max = SIZE_MAX,
     .takes = SET(OPTION_JOBS) | SET(OPTION_JSON) | SET(OPTION_CSV) | SET(OPTION_OUT) | SET(OPTION_HTML) |
-             SET(OPTION_SHARD) | SET(OPTION_MERGE) | SET(OPTION_NAME) | SET(OPTION_ONLY_CARD),
+             SET(OPTION_SHARD) | SET(OPTION_MERGE) | SET(OPTION_NAME) | SET(OPTION_SINCE) |
+             SET(OPTION_ONLY_CARD),
     .summary = "compare every card of a night's folder on every sheet",
     .details = "DIR has files NAME.sheet (or NAME.txt, the text form), NAME.memory, NAME.CARD.after and, if the\n"
                "card has them, NAME.CARD.registers. A line for each sheet and card: agrees, differs, missing,\n"

@@ -62,7 +62,7 @@ static bool fits(const struct report_in *report, const struct report_in *first)
     return true;
 }
 
-static bool open_reports(char **paths, size_t count, struct merge *merge)
+static bool open_reports(const char *const *paths, size_t count, struct merge *merge)
 {
     for (; merge->count < count; merge->count++) {
         struct report_in *report = &merge->reports[merge->count];
@@ -77,7 +77,7 @@ static bool open_reports(char **paths, size_t count, struct merge *merge)
     return has_all_parts(merge);
 }
 
-bool open_merge(char **paths, size_t count, struct merge *merge)
+bool open_merge(const char *const *paths, size_t count, struct merge *merge)
 {
     *merge = (struct merge){calloc(count, sizeof merge->reports[0]), 0};
     if (merge->reports == NULL) {

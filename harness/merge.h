@@ -13,7 +13,7 @@ struct merge {
 };
 
 /* Opens the reports, which must be all parts of one night; says on standard error what is wrong. */
-bool open_merge(char **paths, size_t count, struct merge *merge);
+bool open_merge(const char *const *paths, size_t count, struct merge *merge);
 
 /* Reads all sheets of all parts into a night of some of their cards, to the end of each report. */
 bool take_merge(const struct merge *merge, struct night *night);

@@ -14,6 +14,8 @@
 #include "list.h"
 #include "spectrum.h"
 
+struct since;
+
 /* The tallies, the spectrum and what is kept grow as sheets are taken. */
 struct night {
     struct identity identity;
@@ -25,6 +27,7 @@ struct night {
     struct spectrum spectrum;
     struct kept kept;
     struct causes *causes; /* for each card, once all sheets are taken */
+    const struct since *since; /* what has changed; NULL: it is not asked for */
 };
 
 /* A night of some cards; says on standard error what goes wrong. To be ended. */

@@ -9,6 +9,7 @@
 #include "map.h"
 #include "names.h"
 #include "page_style.h"
+#include "since.h"
 #include "spool.h"
 
 /* The parts of a page that grow with each sheet: rows of the grid, what differs in words and maps, and what could
@@ -342,6 +343,24 @@ static bool put_causes(struct page *page, struct night *night)
     return done;
 }
 
+/* What has changed since another night. */
+static void put_changes(FILE *file, const struct since *since)
+{
+    fputs("<section><h2>Since night ", file);
+    put_page_name(file, since->last.identity.name);
+    fprintf(file, ", %s</h2><ul>\n", since->last.identity.date);
+    for (size_t i = 0; i < since->count; i++) {
+        struct text change = {.len = 0};
+        add_change(&change, &since->lines[i]);
+        fputs("<li><b>", file);
+        put_page_name(file, since->lines[i].card);
+        fputs("</b>: ", file);
+        put_html(file, change.at);
+        fputs("</li>\n", file);
+    }
+    fputs(since->count == 0 ? "<li>No card differs or did.</li></ul></section>\n" : "</ul></section>\n", file);
+}
+
 static bool put_spool(struct page *page, unsigned spool, const char *before, const char *behind)
 {
     fputs(before, page->spools[WHOLE]);
@@ -355,6 +374,9 @@ static bool put_whole(struct page *page, struct night *night)
     FILE *file = page->spools[WHOLE];
     bool done = true;
     put_head(file, night);
+    if (night->since != NULL) {
+        put_changes(file, night->since);
+    }
     put_card_table(file, night);
     if (page->differing > 0) {
         done = put_causes(page, night) &&

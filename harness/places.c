@@ -78,7 +78,7 @@ static bool find_matrix_index(const struct access *access, unsigned element, boo
         place->matrix_index = element;
         return true;
     }
-    enum bound bounds[] = {bound_of(&view->rows, row), bound_of(&view->columns, column)};
+    const enum bound bounds[] = {bound_of(&view->rows, row), bound_of(&view->columns, column)};
     if (bounds[0] == BEFORE || bounds[1] == BEFORE || (has_end && (bounds[0] == BEHIND || bounds[1] == BEHIND))) {
         return false;
     }

@@ -2,6 +2,8 @@
 
 #include <inttypes.h>
 
+#include "since.h"
+
 void put_night_finding(const struct sink *sink, const struct finding *finding, const char *sheet, const char *card)
 {
     struct text file = {.len = 0};
@@ -11,6 +13,23 @@ void put_night_finding(const struct sink *sink, const struct finding *finding, c
 
 /* -- Text ------------------------------------------------------------------------------------- */
 
+/* What has changed since another night, a line for each card and cause. */
+static void put_text_changes(FILE *file, const struct since *since)
+{
+    const struct sink sink = {file, put_plain};
+    fputs("since night ", file);
+    put_name(&sink, since->last.identity.name);
+    fprintf(file, ", %s:%s\n", since->last.identity.date, since->count == 0 ? " no card differs or did" : "");
+    for (size_t i = 0; i < since->count; i++) {
+        struct text change = {.len = 0};
+        add_change(&change, &since->lines[i]);
+        fputs("  ", file);
+        put_name(&sink, since->lines[i].card);
+        fprintf(file, ": %s\n", change.at);
+    }
+    putc('\n', file);
+}
+
 static bool begin_text(FILE *file, struct night *night)
 {
     struct text identity = {.len = 0};
@@ -18,6 +37,9 @@ static bool begin_text(FILE *file, struct night *night)
     fputs("night ", file);
     put_name(&(struct sink){file, put_plain}, night->identity.name);
     fprintf(file, ", %s\n\n", identity.at);
+    if (night->since != NULL) {
+        put_text_changes(file, night->since);
+    }
     return true;
 }
 
@@ -122,7 +144,7 @@ static bool begin_csv(FILE *file, struct night *night)
 {
     (void)night;
     fputs("sheet,card,verdict,bytes,runs,byte,wants,has,step,register,element,row,column,registers,detail,lead_step,"
-          "lead_element,causes,night,date,version,edition,digest\r\n", file);
+          "lead_element,causes,since,night,date,version,edition,digest\r\n", file);
     return true;
 }
 
@@ -197,6 +219,7 @@ static void put_csv_sheet(FILE *file, const struct night *night, size_t number, 
         }
         putc(',', file);
         put_csv_causes(file, night, i, finding);
+        fprintf(file, ",%s", night->since == NULL ? "" : change_of(night->since, night, name, i));
         put_csv_identity(file, &night->identity);
     }
 }

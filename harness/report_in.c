@@ -177,10 +177,11 @@ static bool read_spectrum(struct json_in *json, const struct list *cards, struct
     return json_sign(json, ']') && json_sign(json, ',');
 }
 
-/* The causes follow from the spectrum, and are found anew. */
+/* The causes follow from the spectrum, and are found anew; what has changed is asked for anew. */
 static bool pass_over_causes(struct json_in *json)
 {
-    return json_key(json, "causes") && json_skip(json) && json_sign(json, ',');
+    return json_key(json, "causes") && json_skip(json) && json_sign(json, ',') && json_key(json, "since") &&
+           json_skip(json) && json_sign(json, ',');
 }
 
 /* Reads up to the format; one that is not this tool's is said to be so. */

@@ -4,6 +4,7 @@
 
 #include "report.h"
 #include "report_fields.h"
+#include "since.h"
 
 static void put_numbers(FILE *file, const struct number_fields *fields, const void *object)
 {
@@ -130,6 +131,32 @@ static void put_causes(FILE *file, const struct night *night)
     fputs("],\n", file);
 }
 
+/* What has changed since another night; null where it is not asked for. */
+static void put_since(FILE *file, const struct since *since)
+{
+    fputs(" \"since\": ", file);
+    if (since == NULL) {
+        fputs("null,\n", file);
+        return;
+    }
+    putc('{', file);
+    put_member(file, "name", since->last.identity.name);
+    fputs(", ", file);
+    put_member(file, "date", since->last.identity.date);
+    fputs(", \"changes\": [", file);
+    for (size_t i = 0; i < since->count; i++) {
+        const struct change_line *line = &since->lines[i];
+        struct text cause = {.len = 0};
+        add_cause_name(&cause, line->cause);
+        fprintf(file, "%s\n  {", comma(i));
+        put_member(file, "card", line->card);
+        fprintf(file, ", \"change\": \"%s\", \"sheets\": %zu, ", change_name(line->change), line->sheets);
+        put_member(file, "cause", cause.at);
+        putc('}', file);
+    }
+    fputs("]},\n", file);
+}
+
 static bool begin_json(FILE *file, struct night *night)
 {
     fprintf(file, "{\"report\": \"%s\",\n \"format\": %d,\n", REPORT_TITLE, REPORT_FORMAT);
@@ -145,6 +172,7 @@ static bool begin_json(FILE *file, struct night *night)
     put_sorts(file, &night->spectrum);
     put_spectrum(file, night);
     put_causes(file, night);
+    put_since(file, night->since);
     fputs(" \"sheets\": [", file);
     return true;
 }
