@@ -138,6 +138,7 @@ tool-test: all
 	tests/examples.sh $(TOOL)
 	tests/night.sh $(TOOL)
 	tests/causes.sh $(TOOL)
+	tests/nights.sh $(TOOL)
 
 test: tool-test $(addprefix $(TOOL)/test-,null outcome masks where stack) $(SHEET_FILES)
 	$(TOOL)/test-null
@@ -154,6 +155,7 @@ memcheck: all
 	RUNNER='$(VALGRIND) $(LEAKS)' EVERY=9 tests/masks.sh $(TOOL)
 	RUNNER='$(VALGRIND) $(LEAKS)' EVERY=9 tests/night.sh $(TOOL)
 	RUNNER='$(VALGRIND) $(LEAKS)' tests/causes.sh $(TOOL)
+	RUNNER='$(VALGRIND) $(LEAKS)' EVERY=9 tests/nights.sh $(TOOL)
 	CARGO_TARGET_X86_64_UNKNOWN_LINUX_GNU_RUNNER='$(VALGRIND)' $(CARGO) run $(CARGO_WORDS) -- --sheets 500
 
 # The sheets of the comparison as files.

@@ -25,11 +25,6 @@ struct cells {
     size_t count;
 };
 
-static bool is_stray(const struct traits *traits)
-{
-    return traits->at[TRAIT_MADE] == MADE_BY_NONE && count_traits(traits) == 1;
-}
-
 /* -- The best pattern ------------------------------------------------------------------------- */
 
 static int compare_cells(const void *one, const void *other)
@@ -176,34 +171,32 @@ static bool add_causes(struct cells *sorts, struct cell *room, struct causes *ca
     return true;
 }
 
-/* The sorts that a card shows; places that no step writes are no elements, and apart. */
-static void take_sorts(const struct spectrum *spectrum, size_t card, struct cells *sorts, struct cell *stray)
+/* The sorts that a card shows, and those that are apart. */
+static void take_sorts(const struct spectrum *spectrum, size_t card, struct cells *sorts, struct cells *apart)
 {
-    *stray = (struct cell){.of = 0};
     for (size_t i = 0; i < spectrum->count; i++) {
         const struct spectrum_count *count = spectrum_count(spectrum, i, card);
         struct cell cell = {spectrum->sorts[i], count->differ, count->of};
-        if (is_stray(&cell.traits)) {
-            *stray = cell;
-        } else if (cell.of > 0) {
-            sorts->at[sorts->count++] = cell;
+        struct cells *cells = is_apart(&cell.traits) ? apart : sorts;
+        if (cell.of > 0) {
+            cells->at[cells->count++] = cell;
         }
     }
 }
 
 bool find_causes(const struct spectrum *spectrum, size_t card, struct causes *causes)
 {
-    struct cells sorts = {calloc(spectrum->count + 1, sizeof(struct cell)), 0};
+    struct cell aparts[MADES - MADE_APART];
+    struct cells sorts = {calloc(spectrum->count + 1, sizeof(struct cell)), 0}, apart = {aparts, 0};
     struct cell *room = calloc(spectrum->count + 1, sizeof room[0]);
-    struct cell stray;
     *causes = (struct causes){NULL, 0};
     bool done = sorts.at != NULL && room != NULL;
     if (done) {
-        take_sorts(spectrum, card, &sorts, &stray);
+        take_sorts(spectrum, card, &sorts, &apart);
         done = add_causes(&sorts, room, causes);
     }
-    if (done && stray.differ > 0) {
-        struct cause cause = cause_from(&stray, &stray);
+    for (size_t i = 0; done && i < apart.count; i++) {
+        struct cause cause = cause_from(&aparts[i], &aparts[i]);
         done = add_cause_to(causes, &cause);
     }
     free(sorts.at);
@@ -220,7 +213,7 @@ void free_causes(struct causes *causes)
 size_t cause_of(const struct causes *causes, const struct traits *sort)
 {
     size_t i = 0;
-    while (i + 1 < causes->count && (is_stray(sort) != is_stray(&causes->at[i].pattern) ||
+    while (i + 1 < causes->count && (is_apart(sort) != is_apart(&causes->at[i].pattern) ||
                                      !has_traits(sort, &causes->at[i].pattern))) {
         i++;
     }
@@ -263,9 +256,11 @@ void add_cause_name(struct text *text, const struct cause *cause)
 
 void add_cause(struct text *text, const struct cause *cause)
 {
-    if (is_stray(&cause->pattern)) {
+    if (is_apart(&cause->pattern)) {
         add_grouped(text, cause->differ);
-        add_text(text, " place%s that no step writes differ%s", plural(cause->differ), cause->differ == 1 ? "s" : "");
+        add_text(text, " ");
+        add_apart(text, &cause->pattern, cause->differ);
+        add_text(text, " differ%s", cause->differ == 1 ? "s" : "");
         return;
     }
     add_share(text, cause->differ, cause->of);

@@ -6,6 +6,7 @@
 #include "files.h"
 #include "folder.h"
 #include "merge.h"
+#include "missing.h"
 #include "numbers.h"
 #include "outputs.h"
 #include "page.h"
@@ -77,6 +78,15 @@ static int check_night(const struct request *request)
     }
     if (words[OPTION_MERGE] == NULL && request->file_count > 1) {
         return wrong_use(&night_command, "one folder is a night, and %s is one more", request->files[1]);
+    }
+    if (words[OPTION_NUL] != NULL && words[OPTION_MISSING] == NULL) {
+        return wrong_use(&night_command, "-0 goes with --missing");
+    }
+    for (unsigned i = 0; words[OPTION_MISSING] != NULL && i < OPTIONS; i++) {
+        bool fits = i == OPTION_MISSING || i == OPTION_NUL || i == OPTION_SHARD || i == OPTION_ONLY_CARD;
+        if (words[i] != NULL && !fits) {
+            return wrong_use(&night_command, "--missing does not go with %s", option_forms[i].name);
+        }
     }
     if (words[OPTION_NAME] != NULL && (words[OPTION_NAME][0] == '\0' || strlen(words[OPTION_NAME]) >= NAME_ROOM)) {
         return wrong_use(&night_command, "--name %s: not a name of 1 to %d bytes", words[OPTION_NAME], NAME_ROOM - 1);
@@ -216,14 +226,15 @@ static int report_source(const struct request *request, const struct source *sou
     return status;
 }
 
-/* The cards that are asked for, or all; false if there is none of a name. */
+/* The cards that are asked for, or all; false if there is none of a name. Where no result is there yet, a card may
+ * have no file at all. */
 static bool choose_cards(const struct request *request, const struct list *all, struct list *chosen)
 {
-    bool has_choice = request->words[OPTION_ONLY_CARD] != NULL;
+    bool has_choice = request->words[OPTION_ONLY_CARD] != NULL, may_lack = request->words[OPTION_MISSING] != NULL;
     size_t number;
     for (size_t i = 0; i < request->repeated_count; i++) {
         const char *name = request->repeated[i].word;
-        if (!find_in_list(all, name, &number)) {
+        if (!may_lack && !find_in_list(all, name, &number)) {
             fprintf(stderr, "moonbleat: %s: no card ", request->files[0]);
             put_name(&(struct sink){stderr, put_plain}, name);
             fputs(" is there\n", stderr);
@@ -291,6 +302,26 @@ static int merge_night(const struct request *request)
     return status;
 }
 
+/* Says which results are missing in a folder. */
+static int list_missing(const struct request *request)
+{
+    struct shard shard;
+    struct folder folder;
+    struct list cards = {NULL, 0, 0};
+    int status = parse_shard(request, &shard);
+    if (status != DONE) {
+        return status;
+    }
+    if (!open_folder(request->files[0], &shard, &folder)) {
+        return FAILED;
+    }
+    bool done = choose_cards(request, &folder.cards, &cards) &&
+                print_missing(&folder, &cards, request->words[OPTION_NUL] != NULL);
+    free_list(&cards);
+    close_folder(&folder);
+    return done ? DONE : FAILED;
+}
+
 static int judge_night(const struct request *request)
 {
     uint32_t jobs;
@@ -325,6 +356,9 @@ static int do_night(const struct request *request)
     if (status != DONE) {
         return status;
     }
+    if (request->words[OPTION_MISSING] != NULL) {
+        return list_missing(request);
+    }
     return request->words[OPTION_MERGE] != NULL ? merge_night(request) : judge_night(request);
 }
 
@@ -335,11 +369,12 @@ const struct command night_command = {
     .files_max = SIZE_MAX,
     .takes = SET(OPTION_JOBS) | SET(OPTION_JSON) | SET(OPTION_CSV) | SET(OPTION_OUT) | SET(OPTION_HTML) |
              SET(OPTION_SHARD) | SET(OPTION_MERGE) | SET(OPTION_NAME) | SET(OPTION_SINCE) |
-             SET(OPTION_ONLY_CARD),
+             SET(OPTION_ONLY_CARD) | SET(OPTION_MISSING) | SET(OPTION_NUL),
     .summary = "compare every card of a night's folder on every sheet",
     .details = "DIR has files NAME.sheet (or NAME.txt, the text form), NAME.memory, NAME.CARD.after and, if the\n"
-               "card has them, NAME.CARD.registers. A line for each sheet and card: agrees, differs, missing,\n"
-               "refused or unreadable, then totals. With --merge the files are JSON reports of all parts that\n"
+               "card has them, NAME.CARD.registers, NAME.CARD.trace and, where it refuses the sheet,\n"
+               "NAME.CARD.refusal. A line for each sheet and card: agrees, differs, missing, refused or\n"
+               "unreadable, then what each card's differing elements have in common, then totals. With --merge the files are JSON reports of all parts that\n"
                "--shard made, in place of DIR, and the report is that of one run.\n"
                "Exit status: 1 some card differs; else 3 a file is missing or cannot be read; else 4 a sheet is\n"
                "refused; else 0, all agree. 2 is wrong use.\n",

@@ -83,7 +83,7 @@ void count_differing(const struct differing *differing, const struct origins *or
 {
     struct pane pane;
     memset(counts, 0, shown->census.count * sizeof counts[0]);
-    counts[shown->stray] = differing->strays;
+    counts[STRAYS] = differing->strays;
     for (unsigned i = 0; i < PANES; i++) {
         if (!get_pane(differing, origins, shown, i, &pane)) {
             continue;

@@ -17,7 +17,16 @@
 enum verdict { VERDICT_AGREES, VERDICT_DIFFERS, VERDICT_MISSING, VERDICT_REFUSED, VERDICT_UNREADABLE, VERDICTS };
 
 /* The files that a verdict needs. */
-enum part { PART_SHEET, PART_TEXT, PART_MEMORY, PART_AFTER, PART_REGISTERS, PARTS };
+enum part {
+    PART_SHEET,
+    PART_TEXT,
+    PART_MEMORY,
+    PART_AFTER,
+    PART_REGISTERS,
+    PART_TRACE,
+    PART_REFUSAL,
+    PARTS
+};
 
 /* The bytes of memory that differ. */
 struct memory_difference {
@@ -52,6 +61,33 @@ struct register_difference {
     struct register_state has;
 };
 
+/* An access of a trace; a trace that has ended has none. */
+struct access_state {
+    uint32_t there;
+    uint32_t step;
+    uint32_t element;
+    uint32_t sort;
+    uint32_t byte;
+};
+
+/* Where a card's trace first differs. */
+struct trace_difference {
+    uint32_t differs; /* if 0, the rest is 0 too */
+    uint32_t index;
+    uint32_t wants_accesses;
+    uint32_t has_accesses;
+    struct access_state wants;
+    struct access_state has;
+};
+
+/* What the reference and the card answer, where it is not the same: number and place, or zeros for a sheet that is
+ * accepted. */
+struct refusal_difference {
+    uint32_t differs; /* if 0, the rest is 0 too */
+    uint32_t wants[3];
+    uint32_t has[3];
+};
+
 /* The first element that differs of the earliest step that made one, or, of a store, must leave one out. */
 struct lead {
     uint32_t there; /* 0: no step has to do with what differs, and the rest is 0 too */
@@ -84,6 +120,8 @@ struct finding {
     struct lead lead;
     struct memory_difference memory;
     struct register_difference registers;
+    struct trace_difference trace;
+    struct refusal_difference claim;
     struct map map;
     char reason[TEXT_ROOM]; /* why a file is unreadable or the sheet refused */
 };
@@ -123,6 +161,11 @@ void add_register(struct text *text, const struct register_difference *differenc
  * where nothing differs. */
 void add_memory_difference(struct text *text, const struct memory_difference *difference);
 void add_register_difference(struct text *text, const struct register_difference *difference);
+void add_trace_difference(struct text *text, const struct trace_difference *difference);
+void add_refusal_difference(struct text *text, const struct refusal_difference *difference);
+
+/* Whether anything of a card differs. */
+bool has_difference(const struct finding *finding);
 
 /* Adds what is wrong in words: the differences, or the reason; nothing for a card that agrees and a
  * file that is missing. */

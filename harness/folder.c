@@ -225,23 +225,48 @@ static bool make_reference(const struct location *location, const char *name, st
     return true;
 }
 
+/* The names of a card's files that are there; the memory that it left must be. */
+struct pair_names {
+    struct text room[PARTS];
+    struct card_names names;
+};
+
+static const char *name_if_there(const struct folder *folder, struct pair_names *pair, const char *name,
+                                 const char *card, enum part part)
+{
+    struct text *room = &pair->room[part];
+    room->len = 0;
+    add_part_name(room, name, card, part);
+    return is_there(&folder->location, room->at) ? room->at : NULL;
+}
+
+static void find_names(const struct folder *folder, const char *name, const char *card, struct pair_names *pair)
+{
+    pair->names = (struct card_names){
+        .after = name_if_there(folder, pair, name, card, PART_AFTER),
+        .registers = name_if_there(folder, pair, name, card, PART_REGISTERS),
+        .trace = name_if_there(folder, pair, name, card, PART_TRACE),
+        .refusal = name_if_there(folder, pair, name, card, PART_REFUSAL),
+    };
+}
+
 static void judge_pair(const struct folder *folder, struct reference *reference, const char *name, const char *card,
                        struct finding *finding, uint32_t *counts)
 {
     static struct card_files files;
-    struct text after = {.len = 0}, registers = {.len = 0};
-    add_part_name(&after, name, card, PART_AFTER);
-    add_part_name(&registers, name, card, PART_REGISTERS);
-    bool has_registers = is_there(&folder->location, registers.at);
-    judge_card(reference, &folder->location, after.at, has_registers ? registers.at : NULL, &files, finding, counts);
+    static struct pair_names pair;
+    find_names(folder, name, card, &pair);
+    pair.names.after = pair.room[PART_AFTER].at;
+    judge_card(reference, &folder->location, &pair.names, &files, finding, counts);
 }
 
-/* Takes the census of a sheet that was carried out. */
-static bool take_census(const struct census *census, struct judged *judged)
+/* Of a sheet that is refused: what the card answers. */
+static void judge_refused_pair(const struct folder *folder, const struct finding *refused, const char *name,
+                               const char *card, struct finding *finding, uint32_t *counts)
 {
-    judged->census.count = census->count;
-    memcpy(judged->census.at, census->at, census->count * sizeof census->at[0]);
-    return make_counts(judged);
+    static struct pair_names pair;
+    find_names(folder, name, card, &pair);
+    judge_refusal(refused, &folder->location, &pair.names, finding, counts);
 }
 
 bool judge_sheet(const struct folder *folder, const struct list *cards, const char *name, struct judged *judged)
@@ -249,16 +274,24 @@ bool judge_sheet(const struct folder *folder, const struct list *cards, const ch
     static struct reference reference;
     struct finding common;
     bool made = make_reference(&folder->location, name, &reference, &common);
-    judged->census.count = 0;
-    if (made && !take_census(&reference.shown.census, judged)) {
+    if (made) {
+        judged->census.count = reference.shown.census.count;
+        memcpy(judged->census.at, reference.shown.census.at, judged->census.count * sizeof judged->census.at[0]);
+    } else {
+        begin_census(&judged->census);
+    }
+    if (!make_counts(judged)) {
         complain(name);
         return false;
     }
     for (size_t i = 0; i < cards->count; i++) {
+        struct finding *finding = &judged->findings[i];
         if (made) {
-            judge_pair(folder, &reference, name, cards->at[i], &judged->findings[i], counts_of(judged, i));
+            judge_pair(folder, &reference, name, cards->at[i], finding, counts_of(judged, i));
+        } else if (common.verdict == VERDICT_REFUSED) {
+            judge_refused_pair(folder, &common, name, cards->at[i], finding, counts_of(judged, i));
         } else {
-            judged->findings[i] = common;
+            *finding = common;
         }
     }
     return true;

@@ -49,7 +49,6 @@ static bool add_sort(struct spectrum *spectrum, struct judged *judged, uint32_t 
     if (!find_spectrum_sort(spectrum, &sort->traits, &found)) {
         return false;
     }
-    bool is_stray = sort->memory + sort->registers == 0;
     for (size_t i = 0; i < judged->cards; i++) {
         const struct finding *finding = &judged->findings[i];
         uint32_t differ = finding->verdict == VERDICT_DIFFERS ? counts_of(judged, i)[number] : 0;
@@ -57,7 +56,7 @@ static bool add_sort(struct spectrum *spectrum, struct judged *judged, uint32_t 
         count->differ += differ;
         count->of += (finding->shows & SHOWS_MEMORY) != 0 ? sort->memory : 0;
         count->of += (finding->shows & SHOWS_REGISTERS) != 0 ? sort->registers : 0;
-        count->of += is_stray ? differ : 0;
+        count->of += number < APARTS ? differ : 0;
     }
     return true;
 }

@@ -25,6 +25,8 @@ const struct option_form option_forms[OPTIONS] = {
     [OPTION_CARD] = {"--card", "NAME=AFTER", "compare card NAME, which left the memory AFTER", .repeats = true},
     [OPTION_CARD_REGISTERS] = {"--registers", "NAME=FILE",
                                "compare its registers too: FILE is as run --registers writes it", .repeats = true},
+    [OPTION_CARD_TRACE] = {"--trace", "NAME=FILE", "compare its trace too: FILE is as trace -o writes it",
+                           .repeats = true},
     [OPTION_ALL] = {"--all", NULL, "list every difference, in runs"},
     [OPTION_JOBS] = {"-j", "N", "work in N processes; the output is the same"},
     [OPTION_CSV] = {"--csv", NULL, "print a table of comma-separated values in place of text"},
@@ -34,6 +36,8 @@ const struct option_form option_forms[OPTIONS] = {
     [OPTION_NAME] = {"--name", "NAME", "call the night NAME in place of its folder's name"},
     [OPTION_SINCE] = {"--since", "LAST", "say what is new, mended and still differs since the JSON report LAST"},
     [OPTION_ONLY_CARD] = {"--card", "NAME", "report this card alone; may be given more than once", .repeats = true},
+    [OPTION_MISSING] = {"--missing", NULL, "print which sheets have no result of which card yet, and compare nothing"},
+    [OPTION_NUL] = {"-0", NULL, "end what --missing prints with NUL bytes in place of line ends"},
 };
 
 int wrong_use(const struct command *command, const char *format, ...)

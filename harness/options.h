@@ -17,6 +17,7 @@ enum option {
     OPTION_MAN,
     OPTION_CARD,
     OPTION_CARD_REGISTERS,
+    OPTION_CARD_TRACE,
     OPTION_ALL,
     OPTION_JOBS,
     OPTION_CSV,
@@ -26,6 +27,8 @@ enum option {
     OPTION_NAME,
     OPTION_SINCE,
     OPTION_ONLY_CARD,
+    OPTION_MISSING,
+    OPTION_NUL,
     OPTIONS
 };
 

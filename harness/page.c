@@ -87,13 +87,17 @@ static void put_paragraphs(FILE *file, struct text words)
 /* What differs, in words and as a map. */
 static void put_words(FILE *file, struct page *page, const struct finding *finding)
 {
-    struct text lead = {.len = 0}, memory = {.len = 0}, registers = {.len = 0};
+    struct text lead = {.len = 0}, memory = {.len = 0}, registers = {.len = 0}, trace = {.len = 0}, claim = {.len = 0};
     add_lead(&lead, &finding->lead);
     add_memory_difference(&memory, &finding->memory);
     add_register_difference(&registers, &finding->registers);
     put_paragraphs(file, lead);
     put_paragraphs(file, memory);
     put_paragraphs(file, registers);
+    add_trace_difference(&trace, &finding->trace);
+    add_refusal_difference(&claim, &finding->claim);
+    put_paragraphs(file, trace);
+    put_paragraphs(file, claim);
     fputs("</div>", file);
     if (finding->map.rows > 0) {
         put_map(file, &finding->map, &page->frames);
@@ -138,16 +142,27 @@ static bool is_of_sheet(const struct finding *finding)
             !is_cards_part(finding->part));
 }
 
+/* Whether what is found is of the sheet's own files, for every card. */
+static bool is_common(const struct night *night, const struct finding *findings)
+{
+    bool common = true;
+    for (size_t i = 0; i < night->cards->count; i++) {
+        common = common && is_of_sheet(&findings[i]);
+    }
+    return common;
+}
+
 void put_page_sheet(struct page *page, const struct night *night, const char *name, const struct finding *findings)
 {
+    bool common = is_common(night, findings);
     put_grid_sheet(&page->grid, night, name, findings);
     for (size_t i = 0; i < night->cards->count; i++) {
         const struct finding *finding = &findings[i];
         if (finding->verdict == VERDICT_DIFFERS) {
             put_difference(page, night, name, i, finding);
             page->differing++;
-        } else if (finding->verdict != VERDICT_AGREES && (i == 0 || !is_of_sheet(finding))) {
-            put_uncompared(page, name, is_of_sheet(finding) ? NULL : night->cards->at[i], finding);
+        } else if (finding->verdict != VERDICT_AGREES && (i == 0 || !common)) {
+            put_uncompared(page, name, common ? NULL : night->cards->at[i], finding);
         }
     }
 }

@@ -18,8 +18,8 @@ static const struct number_field refusal_table[] = {
 };
 
 static const struct number_field lead_table[] = {
-    FIELD(lead, "step", step),
     FIELD(lead, "tag", tag),
+    FIELD(lead, "step", step),
     FIELD(lead, "register", reg),
     FIELD(lead, "element", element),
     FIELD(lead, "row", row),
@@ -62,8 +62,37 @@ static const struct number_field register_table[] = {
     FIELD(register_difference, "has_bits", has.bits),
 };
 
+static const struct number_field trace_table[] = {
+    FIELD(trace_difference, "differs", differs),
+    FIELD(trace_difference, "index", index),
+    FIELD(trace_difference, "wants_accesses", wants_accesses),
+    FIELD(trace_difference, "has_accesses", has_accesses),
+    FIELD(trace_difference, "wants_there", wants.there),
+    FIELD(trace_difference, "wants_step", wants.step),
+    FIELD(trace_difference, "wants_element", wants.element),
+    FIELD(trace_difference, "wants_sort", wants.sort),
+    FIELD(trace_difference, "wants_byte", wants.byte),
+    FIELD(trace_difference, "has_there", has.there),
+    FIELD(trace_difference, "has_step", has.step),
+    FIELD(trace_difference, "has_element", has.element),
+    FIELD(trace_difference, "has_sort", has.sort),
+    FIELD(trace_difference, "has_byte", has.byte),
+};
+
+static const struct number_field claim_table[] = {
+    FIELD(refusal_difference, "differs", differs),
+    FIELD(refusal_difference, "wants_number", wants[0]),
+    FIELD(refusal_difference, "wants_place", wants[1]),
+    FIELD(refusal_difference, "wants_second_place", wants[2]),
+    FIELD(refusal_difference, "has_number", has[0]),
+    FIELD(refusal_difference, "has_place", has[1]),
+    FIELD(refusal_difference, "has_second_place", has[2]),
+};
+
 const struct number_fields shard_fields = FIELDS(shard_table);
 const struct number_fields refusal_fields = FIELDS(refusal_table);
 const struct number_fields lead_fields = FIELDS(lead_table);
 const struct number_fields memory_fields = FIELDS(memory_table);
 const struct number_fields register_fields = FIELDS(register_table);
+const struct number_fields trace_fields = FIELDS(trace_table);
+const struct number_fields claim_fields = FIELDS(claim_table);

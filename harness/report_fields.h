@@ -19,6 +19,7 @@ struct number_fields {
     size_t count;
 };
 
-extern const struct number_fields shard_fields, refusal_fields, lead_fields, memory_fields, register_fields;
+extern const struct number_fields shard_fields, refusal_fields, lead_fields, memory_fields, register_fields,
+    trace_fields, claim_fields;
 
 #endif

@@ -298,7 +298,7 @@ static bool read_pairs(struct report_in *report, size_t card, struct finding *fi
 /* Whether what was read can have been written: nothing else may be said of a card. */
 static bool is_finding(const struct finding *finding)
 {
-    bool differs = finding->memory.bytes > 0 || finding->registers.registers > 0;
+    bool differs = has_difference(finding);
     bool element_is_one = finding->registers.typed == 0 || finding->registers.wants.columns > 0;
     bool step_is_one = finding->registers.given == 0 || is_step_tag(finding->registers.tag);
     return element_is_one && step_is_one && differs == (finding->verdict == VERDICT_DIFFERS) &&
@@ -328,6 +328,12 @@ static bool read_finding_field(struct report_in *report, const char *key, size_t
     }
     if (strcmp(key, "registers") == 0) {
         return read_object(json, &register_fields, &finding->registers);
+    }
+    if (strcmp(key, "trace") == 0) {
+        return read_object(json, &trace_fields, &finding->trace);
+    }
+    if (strcmp(key, "refusal") == 0) {
+        return read_object(json, &claim_fields, &finding->claim);
     }
     return strcmp(key, "map") == 0 ? read_map(json, &finding->map) : json_fail(json);
 }

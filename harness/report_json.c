@@ -220,6 +220,18 @@ static void put_finding_causes(FILE *file, const struct night *night, const stru
     putc(']', file);
 }
 
+/* What differs of one file, if anything does: then the first number of its object is not 0. */
+static void put_object(FILE *file, const char *key, const struct number_fields *fields, const void *object)
+{
+    uint32_t first;
+    memcpy(&first, (const char *)object + fields->at[0].offset, sizeof first);
+    if (first > 0) {
+        fprintf(file, ", \"%s\": {", key);
+        put_numbers(file, fields, object);
+        putc('}', file);
+    }
+}
+
 static void put_differences(FILE *file, const struct night *night, const struct finding *finding, size_t card)
 {
     put_pairs(file, &night->spectrum, finding);
@@ -227,16 +239,10 @@ static void put_differences(FILE *file, const struct night *night, const struct 
     if (finding->lead.there != 0) {
         put_lead(file, &night->spectrum, &finding->lead);
     }
-    if (finding->memory.bytes > 0) {
-        fputs(", \"memory\": {", file);
-        put_numbers(file, &memory_fields, &finding->memory);
-        putc('}', file);
-    }
-    if (finding->registers.registers > 0) {
-        fputs(", \"registers\": {", file);
-        put_numbers(file, &register_fields, &finding->registers);
-        putc('}', file);
-    }
+    put_object(file, "memory", &memory_fields, &finding->memory);
+    put_object(file, "registers", &register_fields, &finding->registers);
+    put_object(file, "trace", &trace_fields, &finding->trace);
+    put_object(file, "refusal", &claim_fields, &finding->claim);
     if (finding->map.rows > 0) {
         put_json_map(file, &finding->map);
     }

@@ -337,6 +337,14 @@ static void for_stores(struct survey *survey, void (*do_store)(struct survey *su
     }
 }
 
+void begin_census(struct census *census)
+{
+    for (census->count = 0; census->count < APARTS; census->count++) {
+        census->at[census->count] = (struct sort_count){.memory = 0};
+        census->at[census->count].traits.at[TRAIT_MADE] = (uint8_t)(MADE_APART + census->count);
+    }
+}
+
 void find_shown(const uint8_t *sheet, size_t sheet_len, size_t memory_len, const struct origins *origins,
                 struct shown *shown)
 {
@@ -345,16 +353,13 @@ void find_shown(const uint8_t *sheet, size_t sheet_len, size_t memory_len, const
         .origins = origins,
         .shown = shown,
     };
-    struct traits stray = {{0}};
-    shown->census.count = 0;
+    begin_census(&shown->census);
     memset(shown->stored, 0, sizeof shown->stored);
     memset(shown->shadows, 0, sizeof shown->shadows);
     memset(shown->registers, 0, sizeof shown->registers);
     for (unsigned i = 0; i < SHADOWS; i++) {
         memset(shown->bytes[i], 0, memory_len * sizeof shown->bytes[i][0]);
     }
-    stray.at[TRAIT_MADE] = MADE_BY_NONE;
-    shown->stray = find_sort(&survey, &stray) - 1u;
     for_stores(&survey, note_all_left_out);
     for_stores(&survey, show_store);
     for (unsigned i = 0; i < MOONBLEAT_REGISTERS; i++) {

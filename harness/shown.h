@@ -11,9 +11,13 @@
 #include "origins.h"
 #include "traits.h"
 
+/* The numbers of sorts that are no elements' in every census, from 0 on. */
+enum { STRAYS, TRACES, REFUSALS, APARTS };
+
 enum {
     /* Each element of a store is of one sort, or, left out, of two at most. */
-    CENSUS_MAX = (2 * MOONBLEAT_STEPS_MAX + MOONBLEAT_REGISTERS) * MOONBLEAT_REGISTER_ELEMENTS + 1
+    CENSUS_MAX = (2 * MOONBLEAT_STEPS_MAX + MOONBLEAT_REGISTERS) * MOONBLEAT_REGISTER_ELEMENTS +
+                 APARTS
 };
 
 /* How many elements of each sort a sheet shows. */
@@ -34,12 +38,14 @@ struct shown {
     shown_matrix stored[MOONBLEAT_STEPS_MAX];
     shown_matrix shadows[SHADOWS][MOONBLEAT_STEPS_MAX]; /* elements that stores leave out, where no step writes */
     shown_matrix registers[MOONBLEAT_REGISTERS];
-    uint32_t stray; /* the sort of places that none of these has */
     struct shadow_byte {
         uint8_t by; /* the step's number + 1; 0: none */
         uint8_t element;
     } bytes[SHADOWS][MOONBLEAT_MEMORY_MAX];
 };
+
+/* Begins a census of a sheet that shows nothing. */
+void begin_census(struct census *census);
 
 /* Finds them for a sheet whose origins are known. */
 void find_shown(const uint8_t *sheet, size_t sheet_len, size_t memory_len, const struct origins *origins,

@@ -22,7 +22,6 @@ static const char *const made_words[MADES] = {
     [MADE_BY_TRANSPOSE] = "of a transpose",
     [MADE_BY_MULTIPLY_ADD] = "of a multiply-add",
     [MADE_BY_VECTOR] = "of a vector step",
-    [MADE_BY_NONE] = "that no step writes",
 };
 static const char *const remainder_words[] = {NULL, "that a remainder clamps"};
 static const char *const outside_words[] = {NULL, "where a store must discard"};
@@ -108,6 +107,11 @@ unsigned count_traits(const struct traits *traits)
     return count;
 }
 
+bool is_apart(const struct traits *traits)
+{
+    return traits->at[TRAIT_MADE] >= MADE_APART;
+}
+
 const char *trait_name(unsigned trait)
 {
     return forms[trait].name;
@@ -164,8 +168,26 @@ void add_pattern(struct text *text, const struct traits *pattern)
     } else if (named.at[TRAIT_MADE] == 0 && has_any(pattern, TRAIT_MAJOR, TRAIT_CLIP)) {
         named.at[TRAIT_MADE] = MADE_BY_VECTOR;
     }
-    add_text(text, named.at[TRAIT_MADE] == MADE_BY_NONE ? "places" : "elements");
+    if (is_apart(pattern)) {
+        add_apart(text, pattern, SIZE_MAX);
+        return;
+    }
+    add_text(text, "elements");
     add_traits(text, &named, TRAIT_MADE, TRAITS);
+}
+
+void add_apart(struct text *text, const struct traits *traits, size_t count)
+{
+    static const struct {
+        const char *noun;
+        const char *rest;
+    } words[MADES - MADE_APART] = {
+        [MADE_BY_NONE - MADE_APART] = {"place", " that no step writes"},
+        [MADE_IN_TRACE - MADE_APART] = {"trace", ""},
+        [MADE_BY_REFUSAL - MADE_APART] = {"refusal", ""},
+    };
+    unsigned number = traits->at[TRAIT_MADE] - (unsigned)MADE_APART;
+    add_text(text, "%s%s%s", words[number].noun, plural(count), words[number].rest);
 }
 
 void add_making(struct text *text, const struct traits *traits)

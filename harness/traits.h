@@ -48,7 +48,10 @@ enum made {
     MADE_BY_TRANSPOSE,
     MADE_BY_MULTIPLY_ADD,
     MADE_BY_VECTOR,
-    MADE_BY_NONE, /* a byte or a register that no step writes */
+    MADE_APART,                /* no element, from here on: */
+    MADE_BY_NONE = MADE_APART, /* a byte or a register that no step writes */
+    MADE_IN_TRACE,             /* an access of a trace */
+    MADE_BY_REFUSAL,
     MADES
 };
 
@@ -69,6 +72,9 @@ bool has_traits(const struct traits *traits, const struct traits *pattern);
 
 unsigned count_traits(const struct traits *traits);
 
+/* Whether this is no sort of elements, but of what differs besides: it has nothing in common with elements. */
+bool is_apart(const struct traits *traits);
+
 /* The key of a trait, and how many values it has, 0 among them. */
 const char *trait_name(unsigned trait);
 unsigned trait_values(unsigned trait);
@@ -76,6 +82,9 @@ unsigned trait_values(unsigned trait);
 /* Adds what elements have in common: "elements that MirrorRepeat clamps below", "elements of a reduce by row with
  * add". */
 void add_pattern(struct text *text, const struct traits *pattern);
+
+/* Adds what differs besides, behind a count: "places that no step writes", "traces", "refusals". */
+void add_apart(struct text *text, const struct traits *traits, size_t count);
 
 /* Adds how one element was made, behind its step: ", which MirrorRepeat clamps below in dimension 0"; nothing where
  * the step says it all. */

@@ -362,7 +362,7 @@ reports 3 alike_report alike
 checked alike_report.txt alike_report.json alike_report.csv alike_report.html
 contains '<h1>No card differs, but 1 comparison could not be made</h1>' alike_report.html
 cp refused alike/s5.sheet
-rm alike/s4.*
+rm alike/s4.* alike/s5.card1.after
 reports 4 alike_report alike
 checked alike_report.txt alike_report.json alike_report.csv alike_report.html
 contains 's5 card1 refused: refusal 7 at step 0' alike_report.txt
@@ -478,7 +478,7 @@ empty ok unreadable: empty.ok.after: it has 0 bytes, not the memory's 512
 folder ok unreadable: folder.sheet: Is a directory
 folder other unreadable: folder.sheet: Is a directory
 linked ok agrees
-longmemory ok refused: refusal 18: the memory is longer than 65536 bytes
+longmemory ok differs: the reference refuses it with 18 at 0, 0, the card accepts it
 longmemory other refused: refusal 18: the memory is longer than 65536 bytes
 longtext ok unreadable: longtext.txt: it has more than 1048576 bytes
 longtext other unreadable: longtext.txt: it has more than 1048576 bytes
@@ -494,7 +494,7 @@ one.two ok agrees
 pipe ok unreadable: pipe.sheet: not a regular file
 pipe other unreadable: pipe.sheet: not a regular file
 plain ok agrees
-refused ok refused: refusal 7 at step 0: transpose: register 1 is empty
+refused ok differs: the reference refuses it with 7 at 0, 0, the card accepts it
 refused other refused: refusal 7 at step 0: transpose: register 1 is empty
 shortmemory ok unreadable: shortmemory.ok.after: it has more than the memory's 320 bytes
 shortregisters ok unreadable: shortregisters.ok.registers: it has 4111 bytes, not a registers file's 4112

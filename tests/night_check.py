@@ -94,7 +94,7 @@ def check_finding(path, verdict, words, finding):
     """The numbers of a finding stand in its sentence too."""
     memory, registers = finding.get("memory"), finding.get("registers")
     if verdict == "differs":
-        check(memory or registers, f"{path}: nothing differs")
+        check(memory or registers or "trace" in finding or "refusal" in finding, f"{path}: nothing differs")
     if memory:
         start = f"byte {memory['byte']} wants {memory['wants']:02X}, has {memory['has']:02X}; "
         origin = "no step writes there"
@@ -214,7 +214,7 @@ def check_html(path, pairs, report):
 def check_page_causes(path, root, report):
     """The causes come before the differences and the grid; cards lead to them, and they to their sheets."""
     headings = [text_of(h) for h in root.iter("h2")]
-    order = [h for h in ("Cards", "Since", "Causes", "Differences", "Not compared", "Sheets and cards")
+    order = [h for h in ("Since", "Cards", "Causes", "Differences", "Not compared", "Sheets and cards")
              if any(heading.startswith(h) for heading in headings)]
     check(len(order) == len(headings) and all(a.startswith(b) for a, b in zip(headings, order)), f"{path}: {headings}")
     articles = {a.get("id"): a for a in root.iter("article") if a.get("class") == "cause"}
