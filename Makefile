@@ -15,6 +15,7 @@
 #                   with stores in other orders and exchanged too; SHEETS=n SEED=n for other sheets
 #   make bench      time the archive beside it
 #   make night-speed  time a night of NIGHT sheets with eight cards
+#   make page-test  look at a night's page in headless Chromium, where that is installed; no part of check
 #   make lint       cppcheck, warnings as errors, and the header as C++
 #   make check      lint, test, text-test and compare: all but the proofs
 #   make memcheck   the tool's tests with sanitizers, then with each third call (of masks, diff and
@@ -184,6 +185,10 @@ bench: $(ARCHIVE)
 night-speed: all
 	python3 tests/night_speed.py $(TOOL)/moonbleat target/night-speed-$(NIGHT) $(NIGHT)
 
+# Pictures and a print of the page are left in target/page-test.
+page-test: all
+	python3 tests/page.py $(TOOL)/moonbleat target/page-test
+
 lint:
 	cppcheck --quiet --std=c11 --enable=warning,style,performance,portability --inconclusive \
 		--error-exitcode=1 --suppress=missingIncludeSystem -Iinclude -Iharness harness tests
@@ -197,4 +202,4 @@ clean:
 
 FORCE:
 
-.PHONY: all archive install uninstall dist demo tool-test test text-test memcheck compare bench night-speed lint check clean FORCE
+.PHONY: all archive install uninstall dist demo tool-test test text-test memcheck compare bench night-speed page-test lint check clean FORCE

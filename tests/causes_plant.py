@@ -13,7 +13,8 @@ import os
 import random
 import sys
 
-import night_oracle
+sys.dont_write_bytecode = True
+import night_oracle  # noqa: E402
 from night_oracle import (CLAMP_TO_EDGE, CONSTANT, MIRROR_REPEAT, NAMES, NONE, PACKED_S8, PACKED_U8, REPEAT, ROW_MAJOR,
                           S32, SIZES, U8, U32, COLUMN_MAJOR)
 
