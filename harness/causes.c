@@ -5,6 +5,8 @@
 #include <stdlib.h>
 #include <string.h>
 
+#include "grow.h"
+
 /* A sort explains what differs if its coefficient is at least this, and its elements differ at least so many times as
  * often as the others. */
 static const double OCHIAI_MIN = 0.3;
@@ -131,7 +133,7 @@ static bool explains(const struct cause *cause)
 
 static bool add_cause_to(struct causes *causes, const struct cause *cause)
 {
-    struct cause *at = realloc(causes->at, (causes->count + 1) * sizeof at[0]);
+    struct cause *at = grow(causes->at, causes->count, &causes->room, sizeof at[0]);
     if (at == NULL) {
         return false;
     }
@@ -189,7 +191,7 @@ bool find_causes(const struct spectrum *spectrum, size_t card, struct causes *ca
     struct cell aparts[MADES - MADE_APART];
     struct cells sorts = {calloc(spectrum->count + 1, sizeof(struct cell)), 0}, apart = {aparts, 0};
     struct cell *room = calloc(spectrum->count + 1, sizeof room[0]);
-    *causes = (struct causes){NULL, 0};
+    *causes = (struct causes){NULL, 0, 0};
     bool done = sorts.at != NULL && room != NULL;
     if (done) {
         take_sorts(spectrum, card, &sorts, &apart);
@@ -207,7 +209,7 @@ bool find_causes(const struct spectrum *spectrum, size_t card, struct causes *ca
 void free_causes(struct causes *causes)
 {
     free(causes->at);
-    *causes = (struct causes){NULL, 0};
+    *causes = (struct causes){NULL, 0, 0};
 }
 
 size_t cause_of(const struct causes *causes, const struct traits *sort)

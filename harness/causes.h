@@ -23,6 +23,7 @@ struct cause {
 struct causes {
     struct cause *at;
     size_t count;
+    size_t room;
 };
 
 /* Finds them; false if memory runs out. To be freed. */

@@ -6,9 +6,8 @@
 #include <string.h>
 
 #include "files.h"
+#include "grow.h"
 #include "spool.h"
-
-enum { FIRST_ROOM = 64 };
 
 bool begin_kept(struct kept *kept, size_t cards)
 {
@@ -30,15 +29,11 @@ void end_kept(struct kept *kept)
 
 static bool note_difference(struct kept *kept, const char *name, size_t card, const struct finding *finding)
 {
-    if (kept->count == kept->room) {
-        size_t room = kept->room == 0 ? FIRST_ROOM : 2 * kept->room;
-        struct kept_difference *differences = realloc(kept->differences, room * sizeof differences[0]);
-        if (differences == NULL) {
-            return false;
-        }
-        kept->differences = differences;
-        kept->room = room;
+    struct kept_difference *differences = grow(kept->differences, kept->count, &kept->room, sizeof differences[0]);
+    if (differences == NULL) {
+        return false;
     }
+    kept->differences = differences;
     char *sheet = strdup(name);
     long place = ftell(kept->spool);
     if (sheet == NULL || place < 0) {

@@ -128,34 +128,28 @@ static bool sorts_have_cause(const struct night *night, uint32_t first, uint32_t
     return false;
 }
 
-bool has_cause(const struct night *night, const struct kept_difference *difference, size_t cause)
-{
-    return sorts_have_cause(night, difference->sorts_at, difference->sorts, difference->card, cause);
-}
-
-bool finding_has_cause(const struct night *night, const struct finding *finding, size_t card, size_t cause)
+bool has_cause(const struct night *night, const struct finding *finding, size_t card, size_t cause)
 {
     return sorts_have_cause(night, finding->sorts_at, finding->sorts, card, cause);
 }
 
-size_t count_cause_sheets(const struct night *night, size_t card, size_t cause)
+bool find_of_cause(const struct night *night, size_t card, size_t cause, size_t *number)
 {
-    size_t count = 0;
-    for (size_t i = 0; i < night->kept.count; i++) {
-        const struct kept_difference *difference = &night->kept.differences[i];
-        count += difference->card == card && has_cause(night, difference, cause);
+    for (; *number < night->kept.count; ++*number) {
+        const struct kept_difference *difference = &night->kept.differences[*number];
+        if (difference->card == card &&
+            sorts_have_cause(night, difference->sorts_at, difference->sorts, card, cause)) {
+            return true;
+        }
     }
-    return count;
+    return false;
 }
 
 const struct kept_difference *find_example(const struct night *night, size_t card, size_t cause)
 {
     const struct kept_difference *found = NULL;
-    for (size_t i = 0; i < night->kept.count; i++) {
+    for (size_t i = 0; find_of_cause(night, card, cause, &i); i++) {
         const struct kept_difference *difference = &night->kept.differences[i];
-        if (difference->card != card || !has_cause(night, difference, cause)) {
-            continue;
-        }
         if (count_traits(&difference->lead) > 0 && cause_of(&night->causes[card], &difference->lead) == cause) {
             return difference;
         }
@@ -164,9 +158,19 @@ const struct kept_difference *find_example(const struct night *night, size_t car
     return found;
 }
 
+bool get_example(struct night *night, size_t card, size_t cause, const struct kept_difference **example,
+                 struct finding *finding)
+{
+    *example = find_example(night, card, cause);
+    return get_kept(&night->kept, *example, finding);
+}
+
 void add_headline(struct text *text, const struct night *night, size_t card, size_t cause)
 {
-    size_t sheets = count_cause_sheets(night, card, cause);
+    size_t sheets = 0;
+    for (size_t i = 0; find_of_cause(night, card, cause, &i); i++) {
+        sheets++;
+    }
     add_text(text, "%zu sheet%s, ", sheets, plural(sheets));
     add_cause(text, &night->causes[card].at[cause]);
 }

@@ -42,16 +42,19 @@ bool take_findings(struct night *night, const char *name, const struct finding *
 /* Finds the causes, behind the last sheet. */
 bool find_night_causes(struct night *night);
 
-/* Whether a difference has elements of one of its card's causes. */
-bool has_cause(const struct night *night, const struct kept_difference *difference, size_t cause);
+/* Whether a finding of a card has elements of one of its causes. */
+bool has_cause(const struct night *night, const struct finding *finding, size_t card, size_t cause);
 
-/* The same of a finding. */
-bool finding_has_cause(const struct night *night, const struct finding *finding, size_t card, size_t cause);
+/* Finds the first difference, from `*number` on, that has elements of a card's cause; false if there is none. */
+bool find_of_cause(const struct night *night, size_t card, size_t cause, size_t *number);
 
-/* How many sheets a card's cause has, and the difference that shows it best: the first whose first element is one
- * of its elements, or else the first that has any. */
-size_t count_cause_sheets(const struct night *night, size_t card, size_t cause);
+/* The difference that shows a cause best: the first whose first element is one of its elements, or else the first
+ * that has any. */
 const struct kept_difference *find_example(const struct night *night, size_t card, size_t cause);
+
+/* The same, with what was found. */
+bool get_example(struct night *night, size_t card, size_t cause, const struct kept_difference **example,
+                 struct finding *finding);
 
 /* Adds a cause of a card with its sheets: "40 sheets, 960 of 960 elements that MirrorRepeat clamps differ, ..". */
 void add_headline(struct text *text, const struct night *night, size_t card, size_t cause);

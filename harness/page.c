@@ -306,14 +306,11 @@ static bool put_grid(struct page *page, const struct night *night)
 static void put_cause_sheets(FILE *file, const struct night *night, size_t card, size_t cause)
 {
     const char *mark = "<p class=\"sheets\">Sheets: ";
-    for (size_t i = 0; i < night->kept.count; i++) {
-        const struct kept_difference *difference = &night->kept.differences[i];
-        if (difference->card == card && has_cause(night, difference, cause)) {
-            fprintf(file, "%s<a href=\"#d%zu\">", mark, i);
-            put_page_name(file, difference->sheet);
-            fputs("</a>", file);
-            mark = ", ";
-        }
+    for (size_t i = 0; find_of_cause(night, card, cause, &i); i++) {
+        fprintf(file, "%s<a href=\"#d%zu\">", mark, i);
+        put_page_name(file, night->kept.differences[i].sheet);
+        fputs("</a>", file);
+        mark = ", ";
     }
     fputs("</p>", file);
 }
@@ -322,10 +319,10 @@ static void put_cause_sheets(FILE *file, const struct night *night, size_t card,
 static bool put_cause(struct page *page, struct night *night, size_t card, size_t cause)
 {
     FILE *file = page->spools[WHOLE];
-    const struct kept_difference *example = find_example(night, card, cause);
+    const struct kept_difference *example;
     struct text headline = {.len = 0};
     struct finding finding;
-    if (!get_kept(&night->kept, example, &finding)) {
+    if (!get_example(night, card, cause, &example, &finding)) {
         return false;
     }
     add_headline(&headline, night, card, cause);

@@ -71,13 +71,10 @@ static void put_tally(FILE *file, const struct tally *tally)
 static void put_cause_sheets(FILE *file, const struct night *night, size_t card, size_t cause)
 {
     const char *mark = "  sheets: ";
-    for (size_t i = 0; i < night->kept.count; i++) {
-        const struct kept_difference *difference = &night->kept.differences[i];
-        if (difference->card == card && has_cause(night, difference, cause)) {
-            fputs(mark, file);
-            put_name(&(struct sink){file, put_plain}, difference->sheet);
-            mark = ", ";
-        }
+    for (size_t i = 0; find_of_cause(night, card, cause, &i); i++) {
+        fputs(mark, file);
+        put_name(&(struct sink){file, put_plain}, night->kept.differences[i].sheet);
+        mark = ", ";
     }
     putc('\n', file);
 }
@@ -86,10 +83,10 @@ static void put_cause_sheets(FILE *file, const struct night *night, size_t card,
 static bool put_text_cause(FILE *file, struct night *night, size_t card, size_t cause)
 {
     const struct sink sink = {file, put_plain};
-    const struct kept_difference *example = find_example(night, card, cause);
+    const struct kept_difference *example;
     struct text headline = {.len = 0};
     struct finding finding;
-    if (!get_kept(&night->kept, example, &finding)) {
+    if (!get_example(night, card, cause, &example, &finding)) {
         return false;
     }
     add_headline(&headline, night, card, cause);
@@ -174,7 +171,7 @@ static void put_csv_causes(FILE *file, const struct night *night, size_t card, c
     const char *mark = "";
     putc('"', file);
     for (size_t i = 0; i < causes->count; i++) {
-        if (finding_has_cause(night, finding, card, i)) {
+        if (has_cause(night, finding, card, i)) {
             struct text name = {.len = 0};
             add_cause_name(&name, &causes->at[i]);
             fprintf(file, "%s%s", mark, name.at);

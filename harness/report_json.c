@@ -105,12 +105,9 @@ static void put_cause(FILE *file, const struct night *night, size_t card, size_t
             cause->differ, cause->of, cause->others_differ, cause->others, cause->ochiai);
     put_member(file, "example", find_example(night, card, number)->sheet);
     fputs(", \"sheets\": [", file);
-    for (size_t i = 0; i < night->kept.count; i++) {
-        const struct kept_difference *difference = &night->kept.differences[i];
-        if (difference->card == card && has_cause(night, difference, number)) {
-            fputs(comma(before++), file);
-            put_json(file, difference->sheet);
-        }
+    for (size_t i = 0; find_of_cause(night, card, number, &i); i++) {
+        fputs(comma(before++), file);
+        put_json(file, night->kept.differences[i].sheet);
     }
     fputs("]}", file);
 }
@@ -213,7 +210,7 @@ static void put_finding_causes(FILE *file, const struct night *night, const stru
     size_t before = 0;
     fputs(", \"causes\": [", file);
     for (size_t i = 0; i < night->causes[card].count; i++) {
-        if (finding_has_cause(night, finding, card, i)) {
+        if (has_cause(night, finding, card, i)) {
             fprintf(file, "%s%zu", comma(before++), i);
         }
     }

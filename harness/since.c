@@ -4,6 +4,7 @@
 #include <string.h>
 
 #include "files.h"
+#include "grow.h"
 
 bool open_since(const char *path, struct since *since)
 {
@@ -98,16 +99,15 @@ static size_t count_changed(const struct night *night, const unsigned char *chan
                             size_t cause)
 {
     size_t count = 0;
-    for (size_t i = 0; i < night->kept.count; i++) {
-        const struct kept_difference *difference = &night->kept.differences[i];
-        count += difference->card == card && changes[i] == change && has_cause(night, difference, cause);
+    for (size_t i = 0; find_of_cause(night, card, cause, &i); i++) {
+        count += changes[i] == change;
     }
     return count;
 }
 
 static bool add_line(struct since *since, const struct change_line *line)
 {
-    struct change_line *lines = realloc(since->lines, (since->count + 1) * sizeof lines[0]);
+    struct change_line *lines = grow(since->lines, since->count, &since->room, sizeof lines[0]);
     if (lines == NULL) {
         return false;
     }

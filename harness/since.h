@@ -27,6 +27,7 @@ struct since {
     unsigned char *then; /* .. and of the last */
     struct change_line *lines; /* new and still differing by this night's causes, the others by the last night's */
     size_t count;
+    size_t room;
 };
 
 /* Reads the last night's report; says on standard error what is wrong. To be closed. */

@@ -3,7 +3,9 @@
 #include <stdlib.h>
 #include <string.h>
 
-/* The rooms that a spectrum gets first; the hash has twice as many slots as there is room for sorts. */
+#include "grow.h"
+
+/* The room for sorts that a spectrum gets first; the hash has twice as many slots as there is room for sorts. */
 enum { FIRST_ROOM = 64, SLOTS_PER_SORT = 2 };
 
 void free_spectrum(struct spectrum *spectrum)
@@ -38,7 +40,7 @@ static uint32_t *find_slot(const struct spectrum *spectrum, const struct traits 
 }
 
 /* Makes room for twice as many sorts. */
-static bool grow(struct spectrum *spectrum)
+static bool make_room(struct spectrum *spectrum)
 {
     size_t room = spectrum->room == 0 ? FIRST_ROOM : 2 * spectrum->room;
     struct traits *sorts = realloc(spectrum->sorts, room * sizeof sorts[0]);
@@ -61,7 +63,7 @@ static bool grow(struct spectrum *spectrum)
 
 bool find_spectrum_sort(struct spectrum *spectrum, const struct traits *traits, uint32_t *sort)
 {
-    if (spectrum->count == spectrum->room && !grow(spectrum)) {
+    if (spectrum->count == spectrum->room && !make_room(spectrum)) {
         return false;
     }
     uint32_t *slot = find_slot(spectrum, traits);
@@ -86,15 +88,11 @@ struct spectrum_count *spectrum_count(const struct spectrum *spectrum, size_t so
 
 bool add_pair(struct spectrum *spectrum, uint32_t sort, uint32_t differ)
 {
-    if (spectrum->pair_count == spectrum->pair_room) {
-        size_t room = spectrum->pair_room == 0 ? FIRST_ROOM : 2 * spectrum->pair_room;
-        struct sort_pair *pairs = realloc(spectrum->pairs, room * sizeof pairs[0]);
-        if (pairs == NULL) {
-            return false;
-        }
-        spectrum->pairs = pairs;
-        spectrum->pair_room = room;
+    struct sort_pair *pairs = grow(spectrum->pairs, spectrum->pair_count, &spectrum->pair_room, sizeof pairs[0]);
+    if (pairs == NULL) {
+        return false;
     }
+    spectrum->pairs = pairs;
     spectrum->pairs[spectrum->pair_count++] = (struct sort_pair){sort, differ};
     return true;
 }
