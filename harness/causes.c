@@ -229,12 +229,14 @@ bool does_explain(const struct cause *cause)
 
 /* -- In words --------------------------------------------------------------------------------- */
 
+enum { THOUSAND = 1000 };
+
 /* Adds a number with a comma before each three digits. */
 static void add_grouped(struct text *text, uint64_t number)
 {
-    if (number >= 1000) {
-        add_grouped(text, number / 1000);
-        add_text(text, ",%03" PRIu64, number % 1000);
+    if (number >= THOUSAND) {
+        add_grouped(text, number / THOUSAND);
+        add_text(text, ",%03" PRIu64, number % THOUSAND);
     } else {
         add_text(text, "%" PRIu64, number);
     }

@@ -100,7 +100,7 @@ struct lead {
     struct traits traits;
 };
 
-/* The matrix of that step; without one that of a register whose type agrees. */
+/* The matrix of that step. */
 enum cell { CELL_ELSEWHERE = '.', CELL_AGREES = '=', CELL_DIFFERS = 'x' };
 struct map {
     uint32_t rows; /* 0: there is none */

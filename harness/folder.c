@@ -8,6 +8,7 @@
 #include <sys/stat.h>
 
 #include "asm.h"
+#include "hash.h"
 #include "names.h"
 
 /* A sheet's text may have comments, but not without end. */
@@ -62,12 +63,7 @@ static bool parse_entry(const char *name, struct entry *entry)
 
 uint32_t shard_of(const char *name, uint32_t parts)
 {
-    /* FNV-1a. */
-    uint64_t hash = UINT64_C(14695981039346656037);
-    for (; *name != '\0'; name++) {
-        hash = (hash ^ (unsigned char)*name) * UINT64_C(1099511628211);
-    }
-    return (uint32_t)(hash % parts) + 1;
+    return (uint32_t)(hash_bytes(HASH_START, name, strlen(name)) % parts) + 1;
 }
 
 static void pass_over(const char *path, const char *name)

@@ -8,22 +8,14 @@
 #include <string.h>
 #include <time.h>
 
+#include "hash.h"
 #include "moonbleat.h"
-
-/* FNV-1a over some bytes more. */
-static uint64_t hash_bytes(uint64_t hash, const void *bytes, size_t count)
-{
-    for (size_t i = 0; i < count; i++) {
-        hash = (hash ^ ((const unsigned char *)bytes)[i]) * UINT64_C(1099511628211);
-    }
-    return hash;
-}
 
 /* A sum does not depend on the order in which a folder gives its names. */
 void list_file(struct listing *listing, const char *name, const struct stat *status)
 {
     int64_t numbers[] = {status->st_size, status->st_mtime};
-    uint64_t hash = hash_bytes(UINT64_C(14695981039346656037), name, strlen(name) + 1);
+    uint64_t hash = hash_bytes(HASH_START, name, strlen(name) + 1);
     listing->sum += hash_bytes(hash, numbers, sizeof numbers);
     listing->newest = listing->files == 0 || numbers[1] > listing->newest ? numbers[1] : listing->newest;
     listing->files++;

@@ -136,12 +136,14 @@ const struct form text_form = {begin_text, put_text_sheet, end_text};
 
 /* -- CSV -------------------------------------------------------------------------------------- */
 
-/* wants and has are decimal, as all numbers; the words of the detail have them in hex. */
+/* All numbers are decimal, which a column says: the words of the detail have bytes in hex. */
+enum { CSV_BASE = 10 };
+
 static bool begin_csv(FILE *file, struct night *night)
 {
     (void)night;
     fputs("sheet,card,verdict,bytes,runs,byte,wants,has,step,register,element,row,column,registers,detail,lead_step,"
-          "lead_element,causes,since,night,date,version,edition,digest\r\n", file);
+          "lead_element,causes,base,since,night,date,version,edition,digest\r\n", file);
     return true;
 }
 
@@ -216,7 +218,7 @@ static void put_csv_sheet(FILE *file, const struct night *night, size_t number, 
         }
         putc(',', file);
         put_csv_causes(file, night, i, finding);
-        fprintf(file, ",%s", night->since == NULL ? "" : change_of(night->since, night, name, i));
+        fprintf(file, ",%d,%s", CSV_BASE, night->since == NULL ? "" : change_of(night->since, night, name, i));
         put_csv_identity(file, &night->identity);
     }
 }

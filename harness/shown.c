@@ -187,6 +187,13 @@ static void giver_traits(const struct survey *survey, unsigned number, struct tr
     }
 }
 
+/* The traits that an element has by the store that shows it, or leaves it out. */
+static void set_store(struct traits *traits, const struct access *store)
+{
+    traits->at[TRAIT_STORE_CLIP] = clip_of(store);
+    traits->at[TRAIT_STORE_ORDER] = order_of(store);
+}
+
 /* -- What stores leave out -------------------------------------------------------------------- */
 
 /* A store's access and what leaving out one of its elements looks like. */
@@ -264,8 +271,7 @@ static void note_all_left_out(struct survey *survey, unsigned number)
     struct values values;
     access_of(survey, number, &access, &values);
     struct traits traits = common_traits(step);
-    traits.at[TRAIT_STORE_CLIP] = clip_of(&access);
-    traits.at[TRAIT_STORE_ORDER] = order_of(&access);
+    set_store(&traits, &access);
     for (unsigned i = 0; i < type_element_count(step->type); i++) {
         uint32_t sort = entry_at(survey->origins->trace, first + i).sort;
         if (sort != MOONBLEAT_SORT_BYTE) {
@@ -304,8 +310,7 @@ static void show_store(struct survey *survey, unsigned number)
     for (unsigned i = 0; i < type_element_count(step->type); i++) {
         struct entry entry = entry_at(survey->origins->trace, first + i);
         if (entry.sort == MOONBLEAT_SORT_BYTE && is_shown(survey, &entry, type_element_size(step->type), &traits[i])) {
-            traits[i].at[TRAIT_STORE_CLIP] = clip_of(&access);
-            traits[i].at[TRAIT_STORE_ORDER] = order_of(&access);
+            set_store(&traits[i], &access);
             uint16_t sort = find_sort(survey, &traits[i]);
             survey->shown->stored[number][i] = sort;
             survey->shown->census.at[sort - 1].memory++;

@@ -4,6 +4,7 @@
 #include <string.h>
 
 #include "grow.h"
+#include "hash.h"
 
 /* The room for sorts that a spectrum gets first; the hash has twice as many slots as there is room for sorts. */
 enum { FIRST_ROOM = 64, SLOTS_PER_SORT = 2 };
@@ -17,21 +18,11 @@ void free_spectrum(struct spectrum *spectrum)
     *spectrum = (struct spectrum){.cards = spectrum->cards};
 }
 
-/* FNV-1a. */
-static uint64_t hash_of(const struct traits *traits)
-{
-    uint64_t hash = UINT64_C(14695981039346656037);
-    for (unsigned i = 0; i < TRAITS; i++) {
-        hash = (hash ^ traits->at[i]) * UINT64_C(1099511628211);
-    }
-    return hash;
-}
-
 /* The slot that has a sort, or the free one where it belongs. */
 static uint32_t *find_slot(const struct spectrum *spectrum, const struct traits *traits)
 {
     size_t slots = SLOTS_PER_SORT * spectrum->room;
-    size_t i = hash_of(traits) % slots;
+    size_t i = hash_bytes(HASH_START, traits->at, sizeof traits->at) % slots;
     while (spectrum->slots[i] != 0 &&
            memcmp(&spectrum->sorts[spectrum->slots[i] - 1], traits, sizeof *traits) != 0) {
         i = (i + 1) % slots;

@@ -133,6 +133,7 @@ def check_csv(path, report, pairs):
               f"{path}: {row}")
         names = next(entry["causes"] for entry in report["causes"] if entry["card"] == finding["card"])
         check(row["causes"] == "; ".join(names[i]["cause"] for i in finding.get("causes", [])), f"{path}: {row}")
+        check(row["base"] == "10", f"{path}: {row}")
         identity = report["identity"]
         check((row["night"], row["date"], row["version"], row["edition"], row["digest"]) ==
               (identity["name"], identity["date"], identity["version"], str(identity["edition"]), identity["digest"]),
