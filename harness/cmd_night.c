@@ -62,6 +62,21 @@ static int parse_shard(const struct request *request, struct shard *shard)
     return DONE;
 }
 
+/* What goes with --missing, which makes no report. */
+static int check_missing(const struct request *request)
+{
+    const unsigned fitting = SET(OPTION_MISSING) | SET(OPTION_NUL) | SET(OPTION_SHARD) | SET(OPTION_ONLY_CARD);
+    if (request->words[OPTION_MISSING] == NULL) {
+        return request->words[OPTION_NUL] == NULL ? DONE : wrong_use(&night_command, "-0 goes with --missing");
+    }
+    for (unsigned i = 0; i < OPTIONS; i++) {
+        if (request->words[i] != NULL && (fitting & SET(i)) == 0) {
+            return wrong_use(&night_command, "--missing does not go with %s", option_forms[i].name);
+        }
+    }
+    return DONE;
+}
+
 /* What the options leave open: what each means together with the others. */
 static int check_night(const struct request *request)
 {
@@ -79,19 +94,10 @@ static int check_night(const struct request *request)
     if (words[OPTION_MERGE] == NULL && request->file_count > 1) {
         return wrong_use(&night_command, "one folder is a night, and %s is one more", request->files[1]);
     }
-    if (words[OPTION_NUL] != NULL && words[OPTION_MISSING] == NULL) {
-        return wrong_use(&night_command, "-0 goes with --missing");
-    }
-    for (unsigned i = 0; words[OPTION_MISSING] != NULL && i < OPTIONS; i++) {
-        bool fits = i == OPTION_MISSING || i == OPTION_NUL || i == OPTION_SHARD || i == OPTION_ONLY_CARD;
-        if (words[i] != NULL && !fits) {
-            return wrong_use(&night_command, "--missing does not go with %s", option_forms[i].name);
-        }
-    }
     if (words[OPTION_NAME] != NULL && (words[OPTION_NAME][0] == '\0' || strlen(words[OPTION_NAME]) >= NAME_ROOM)) {
         return wrong_use(&night_command, "--name %s: not a name of 1 to %d bytes", words[OPTION_NAME], NAME_ROOM - 1);
     }
-    return DONE;
+    return check_missing(request);
 }
 
 /* -- The report ------------------------------------------------------------------------------- */

@@ -158,13 +158,6 @@ const struct kept_difference *find_example(const struct night *night, size_t car
     return found;
 }
 
-bool get_example(struct night *night, size_t card, size_t cause, const struct kept_difference **example,
-                 struct finding *finding)
-{
-    *example = find_example(night, card, cause);
-    return get_kept(&night->kept, *example, finding);
-}
-
 void add_headline(struct text *text, const struct night *night, size_t card, size_t cause)
 {
     size_t sheets = 0;
@@ -173,4 +166,13 @@ void add_headline(struct text *text, const struct night *night, size_t card, siz
     }
     add_text(text, "%zu sheet%s, ", sheets, plural(sheets));
     add_cause(text, &night->causes[card].at[cause]);
+}
+
+bool show_cause(struct night *night, size_t card, size_t cause, struct shown_cause *shown)
+{
+    const struct kept_difference *example = find_example(night, card, cause);
+    shown->headline = (struct text){.len = 0};
+    shown->sheet = example->sheet;
+    add_headline(&shown->headline, night, card, cause);
+    return get_kept(&night->kept, example, &shown->finding);
 }

@@ -52,11 +52,16 @@ bool find_of_cause(const struct night *night, size_t card, size_t cause, size_t 
  * that has any. */
 const struct kept_difference *find_example(const struct night *night, size_t card, size_t cause);
 
-/* The same, with what was found. */
-bool get_example(struct night *night, size_t card, size_t cause, const struct kept_difference **example,
-                 struct finding *finding);
-
 /* Adds a cause of a card with its sheets: "40 sheets, 960 of 960 elements that MirrorRepeat clamps differ, ..". */
 void add_headline(struct text *text, const struct night *night, size_t card, size_t cause);
+
+/* A cause as a reader gets it: its headline, and a worked example. */
+struct shown_cause {
+    struct text headline;
+    const char *sheet;
+    struct finding finding;
+};
+
+bool show_cause(struct night *night, size_t card, size_t cause, struct shown_cause *shown);
 
 #endif

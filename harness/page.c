@@ -319,23 +319,20 @@ static void put_cause_sheets(FILE *file, const struct night *night, size_t card,
 static bool put_cause(struct page *page, struct night *night, size_t card, size_t cause)
 {
     FILE *file = page->spools[WHOLE];
-    const struct kept_difference *example;
-    struct text headline = {.len = 0};
-    struct finding finding;
-    if (!get_example(night, card, cause, &example, &finding)) {
+    struct shown_cause shown;
+    if (!show_cause(night, card, cause, &shown)) {
         return false;
     }
-    add_headline(&headline, night, card, cause);
     fprintf(file, "<article class=\"cause\" id=\"c%zu-%zu\"><div><h3>", card, cause);
     put_page_name(file, night->cards->at[card]);
     fputs(": ", file);
-    put_html(file, headline.at);
+    put_html(file, shown.headline.at);
     fputs("</h3>", file);
     put_cause_sheets(file, night, card, cause);
     fputs("<p>For instance on ", file);
-    put_page_name(file, example->sheet);
+    put_page_name(file, shown.sheet);
     fputs(":</p>", file);
-    put_words(file, page, &finding);
+    put_words(file, page, &shown.finding);
     return true;
 }
 

@@ -83,18 +83,15 @@ static void put_cause_sheets(FILE *file, const struct night *night, size_t card,
 static bool put_text_cause(FILE *file, struct night *night, size_t card, size_t cause)
 {
     const struct sink sink = {file, put_plain};
-    const struct kept_difference *example;
-    struct text headline = {.len = 0};
-    struct finding finding;
-    if (!get_example(night, card, cause, &example, &finding)) {
+    struct shown_cause shown;
+    if (!show_cause(night, card, cause, &shown)) {
         return false;
     }
-    add_headline(&headline, night, card, cause);
     put_name(&sink, night->cards->at[card]);
-    fprintf(file, ": %s\n  for instance ", headline.at);
-    put_name(&sink, example->sheet);
+    fprintf(file, ": %s\n  for instance ", shown.headline.at);
+    put_name(&sink, shown.sheet);
     putc(' ', file);
-    put_finding(&sink, &finding, NULL);
+    put_finding(&sink, &shown.finding, NULL);
     putc('\n', file);
     put_cause_sheets(file, night, card, cause);
     return true;

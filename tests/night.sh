@@ -316,6 +316,7 @@ python3 "$tests/night_oracle.py" random 1 "${ORACLE_SHEETS:-60}" || fail 'the ra
 reports 1 random_report random/night
 body random_report.txt > found
 same 'random sheets' found random/report.txt
+contains ' elements differ, and nothing explains it' random_report.txt
 checked random_report.txt random_report.json random_report.csv random_report.html random/maps.json
 same 'no message' stderr /dev/null
 
