@@ -5,7 +5,7 @@ _moonbleat() {
     if [ "$COMP_CWORD" -eq 1 ] || { [ "$COMP_CWORD" -eq 2 ] && [ "$command" = help ]; }; then
         words=$("${COMP_WORDS[0]}" help | sed -n 's/^  moonbleat \([a-z-]*\).*/\1/p')
     elif [ "${word#-}" != "$word" ]; then
-        words="$("${COMP_WORDS[0]}" help "$command" | head -n 1 | grep -o -e ' \[*-[a-z-]*' | tr -d ' [') --help"
+        words="$("${COMP_WORDS[0]}" help "$command" | head -n 1 | grep -o -e ' \[*-[a-z0-9-]*' | tr -d ' [') --help"
     else
         mapfile -t COMPREPLY < <(compgen -f -- "$word")
         return

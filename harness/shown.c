@@ -1,5 +1,8 @@
 #include "shown.h"
 
+#include <inttypes.h>
+#include <stdio.h>
+#include <stdlib.h>
 #include <string.h>
 
 #include "kinds.h"
@@ -32,6 +35,21 @@ static uint16_t find_sort(struct survey *survey, const struct traits *traits)
     }
     survey->last = (uint16_t)(i + 1);
     return survey->last;
+}
+
+/* Where the accesses of a step begin in the trace; those of a step follow each other. */
+static size_t find_accesses(const struct origins *origins, unsigned step)
+{
+    size_t low = 0, high = origins->access_count;
+    while (low < high) {
+        size_t middle = low + (high - low) / 2;
+        if (entry_at(origins->trace, middle).step < step) {
+            low = middle + 1;
+        } else {
+            high = middle;
+        }
+    }
+    return low;
 }
 
 /* -- What made an element --------------------------------------------------------------------- */
@@ -110,8 +128,20 @@ static void set_side(struct traits *traits, const struct place *place)
     traits->at[TRAIT_DIMENSION] = (uint8_t)(place->side == MOONBLEAT_SIDE_INSIDE ? 0 : place->dimension + 1);
 }
 
+/* The library says what becomes of an element; the tool works out the side besides. Were the two to differ, no sort
+ * could be told. */
+static void must_be_same(const struct place *place, const struct entry *entry)
+{
+    if (place->outcome != entry->sort || place->byte != entry->byte) {
+        fprintf(stderr, "moonbleat: step %" PRIu32 ", element %" PRIu32 ": a fault in this tool: the library's trace has "
+                        "another outcome\n", entry->step, entry->element);
+        abort();
+    }
+}
+
 static void load_traits(const struct survey *survey, unsigned number, struct traits *traits, unsigned count)
 {
+    size_t first = find_accesses(survey->origins, number);
     struct access access;
     struct values values;
     access_of(survey, number, &access, &values);
@@ -119,7 +149,9 @@ static void load_traits(const struct survey *survey, unsigned number, struct tra
     common.at[TRAIT_CLIP] = clip_of(&access);
     common.at[TRAIT_ORDER] = order_of(&access);
     for (unsigned i = 0; i < count; i++) {
+        struct entry entry = entry_at(survey->origins->trace, first + i);
         struct place place = place_of(&access, i);
+        must_be_same(&place, &entry);
         uint8_t made = made_by_load(&access, &place);
         traits[i] = common;
         traits[i].at[TRAIT_MADE] = made;
@@ -247,21 +279,6 @@ static void note_left_out(struct survey *survey, const struct access *access, st
 }
 
 /* -- What is shown ---------------------------------------------------------------------------- */
-
-/* Where the accesses of a step begin in the trace; those of a step follow each other. */
-static size_t find_accesses(const struct origins *origins, unsigned step)
-{
-    size_t low = 0, high = origins->access_count;
-    while (low < high) {
-        size_t middle = low + (high - low) / 2;
-        if (entry_at(origins->trace, middle).step < step) {
-            low = middle + 1;
-        } else {
-            high = middle;
-        }
-    }
-    return low;
-}
 
 static void note_all_left_out(struct survey *survey, unsigned number)
 {

@@ -74,6 +74,7 @@ call 1 night first --json -o whole.json
 tool night --merge whole.json --card birch > stdout
 same 'one card of a merged report' stdout birch.txt
 call 1 night first --card cedar --card alder
+# shellcheck disable=SC2016
 found '$s/:.*:/:/p' 'night: 16 agree, 2 differ, 0 missing, 0 refused, 0 unreadable'
 call 0 night first --card alder
 call 3 night first --card 'oak tree'
@@ -152,7 +153,7 @@ tool trace sheet --memory 64 -o right || fail 'the trace'
 head -c 84 right > wrong
 echo '30 0900  0200 0300  03 24000000' | "$bin/unhex" >> wrong
 head -c 36 right > short
-head -c 35 right > cut
+head -c 35 right > ./cut
 { head -c 12 right; head -c 12 right; } > unordered
 zeros long 98305
 call 0 diff sheet memory --card a=after --trace a=right
