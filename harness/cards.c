@@ -2,8 +2,6 @@
 
 #include "cards.h"
 
-#include "claims.h"
-
 #include <errno.h>
 #include <fcntl.h>
 #include <stdarg.h>
@@ -11,6 +9,8 @@
 #include <string.h>
 #include <sys/stat.h>
 #include <unistd.h>
+
+#include "claims.h"
 
 /* Room for a refusal's line, more than its numbers take. */
 enum { REFUSAL_ROOM = 128 };

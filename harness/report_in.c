@@ -51,7 +51,7 @@ static bool read_word(struct json_in *json, const char *(*name)(unsigned), unsig
     return json_fail(json);
 }
 
-/* Reads a key and a text behind a comma. */
+/* Reads a key and a text. */
 static bool read_member(struct json_in *json, const char *key, char *room, size_t room_len)
 {
     return json_key(json, key) && json_string(json, room, room_len);
@@ -97,27 +97,20 @@ static bool read_cards(struct json_in *json, struct list *cards)
 /* Reads the traits that a sort has, in their order. */
 static bool read_traits(struct json_in *json, struct traits *traits)
 {
-    unsigned before = 0;
+    uint32_t next = 0, trait, value;
     *traits = (struct traits){{0}};
     if (!json_sign(json, '{')) {
         return false;
     }
-    for (unsigned i = 0; i < TRAITS && !json_try(json, '}');) {
-        uint32_t trait, value;
-        if (!read_comma(json, before++) || !read_word(json, trait_name, TRAITS, &trait) || !json_sign(json, ':') ||
-            !json_number32(json, &value)) {
-            return false;
-        }
-        if (trait < i || value == 0 || value >= trait_values(trait)) {
+    do {
+        if (!read_word(json, trait_name, TRAITS, &trait) || !json_sign(json, ':') || !json_number32(json, &value) ||
+            trait < next || value == 0 || value >= trait_values(trait)) {
             return json_fail(json);
         }
         traits->at[trait] = (uint8_t)value;
-        i = trait + 1;
-        if (i == TRAITS) {
-            return json_sign(json, '}');
-        }
-    }
-    return !json->failed;
+        next = trait + 1;
+    } while (json_try(json, ','));
+    return json_sign(json, '}');
 }
 
 static bool read_sorts(struct json_in *json, struct spectrum *spectrum)

@@ -277,7 +277,7 @@ class Machine:
             addend = self.number_at(bias + 4 * row, S32) if has_bias else 0
             sums.append((products + addend) % (1 << 32))
         self.registers[result] = (kind, m, 1, sums)
-        words = f" with a matrix that is {'row' if order == ROW_MAJOR else 'column'}-major"
+        words = f", with a matrix that is {'row' if order == ROW_MAJOR else 'column'}-major"
         words += " with a bias" if has_bias else ""
         packed = {PACKED_S8: "packed-s8", PACKED_U8: "packed-u8"}
         words += f" with an input as {packed[interpretation] if interpretation in packed else NAMES[interpretation]}"
@@ -460,7 +460,7 @@ def lead_of(shown):
         if other["step"] == step or (maker["name"] == "store" and store == step):
             cells[e] = "x" if differs or cells[e] == "x" else "="
     lead = (f"step {step} {maker['name']} r{maker['register']}, element {element} ({element // columns}, "
-            f"{element % columns}){', ' if words.startswith(' ') else ''}{words.strip() if words.startswith(' ') else words}")
+            f"{element % columns}){words}")
     return lead, ["".join(cells[r * columns:(r + 1) * columns]) for r in range(rows)]
 
 
