@@ -332,7 +332,8 @@ const struct command diff_command = {
     .files = "SHEET MEMORY",
     .files_min = 2,
     .files_max = 2,
-    .takes = SET(OPTION_CARD) | SET(OPTION_CARD_REGISTERS) | SET(OPTION_CARD_TRACE) | SET(OPTION_ALL) | SET(OPTION_JSON),
+    .takes = SET(OPTION_CARD) | SET(OPTION_CARD_REGISTERS) | SET(OPTION_CARD_TRACE) | SET(OPTION_ALL) |
+             SET(OPTION_JSON),
     .needs = SET(OPTION_CARD),
     .summary = "compare what cards left with what the sheet must leave",
     .details = "A line for each card: agrees, or the earliest step that made an element that differs, and the\n"

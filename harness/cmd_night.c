@@ -223,7 +223,8 @@ static int report_source(const struct request *request, const struct source *sou
 {
     struct report_out out;
     int status = FAILED;
-    if (take_source(source, night) && (since == NULL || compare_nights(since, night)) && open_report_out(request, night, &out)) {
+    bool done = take_source(source, night) && (since == NULL || compare_nights(since, night));
+    if (done && open_report_out(request, night, &out)) {
         if (report_night(&out, night) && write_report(&out, night)) {
             status = tally_status(&night->total);
         }
@@ -380,8 +381,9 @@ const struct command night_command = {
     .details = "DIR has files NAME.sheet (or NAME.txt, the text form), NAME.memory, NAME.CARD.after and, if the\n"
                "card has them, NAME.CARD.registers, NAME.CARD.trace and, where it refuses the sheet,\n"
                "NAME.CARD.refusal. A line for each sheet and card: agrees, differs, missing, refused or\n"
-               "unreadable, then what each card's differing elements have in common, then totals. With --merge the files are JSON reports of all parts that\n"
-               "--shard made, in place of DIR, and the report is that of one run.\n"
+               "unreadable, then what each card's differing elements have in common, then totals.\n"
+               "With --merge the files are JSON reports of all parts that --shard made, in place of DIR, and the\n"
+               "report is that of one run.\n"
                "Exit status: 1 some card differs; else 3 a file is missing or cannot be read; else 4 a sheet is\n"
                "refused; else 0, all agree. 2 is wrong use.\n",
     .perform = do_night,

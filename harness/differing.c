@@ -159,7 +159,8 @@ void map_lead(const struct differing *differing, const struct origins *origins, 
     memset(map->cells, CELL_ELSEWHERE, map->rows * map->columns);
     for (unsigned i = 0; i < PANES; i++) {
         bool is_register = i >= (1 + SHADOWS) * MOONBLEAT_STEPS_MAX;
-        if (get_pane(differing, origins, shown, i, &pane) && pane.step == lead->step && (has_registers || !is_register)) {
+        bool is_there = get_pane(differing, origins, shown, i, &pane) && pane.step == lead->step;
+        if (is_there && (has_registers || !is_register)) {
             map_pane(&pane, map);
         }
     }

@@ -1,4 +1,5 @@
-/* The grid of a night's page: a row for each sheet, a column for each card. Many rows in a row that are alike are one. */
+/* The grid of a night's page: a row for each sheet, a column for each card. Many rows in a row that are alike are
+ * one. */
 #ifndef GRID_H
 #define GRID_H
 

@@ -1,7 +1,8 @@
 #include "page_style.h"
 
-/* Blue and orange, which colour-blind readers tell apart; every verdict has a sign and a word besides. What a map refers
- * to with <use> sees no rule that names an element around it, so its numbers get theirs from their own group's class. */
+/* Blue and orange, which colour-blind readers tell apart; every verdict has a sign and a word besides. What a map
+ * refers to with <use> sees no rule that names an element around it, so its numbers get theirs from their own group's
+ * class. */
 const char page_style[] =
     ":root{color-scheme:light;--ink:#1a2129;--soft:#56616c;--line:#d3dae0;--paper:#fff;--ground:#f5f7f9;"
     "--agree:#00639c;--agree-soft:#dcebf5;--differ:#b04600;--on-differ:#fff;--other:#6b5900;--other-soft:#f6edc9}\n"

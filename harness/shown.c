@@ -133,8 +133,10 @@ static void set_side(struct traits *traits, const struct place *place)
 static void must_be_same(const struct place *place, const struct entry *entry)
 {
     if (place->outcome != entry->sort || place->byte != entry->byte) {
-        fprintf(stderr, "moonbleat: step %" PRIu32 ", element %" PRIu32 ": a fault in this tool: the library's trace has "
-                        "another outcome\n", entry->step, entry->element);
+        fprintf(stderr,
+                "moonbleat: step %" PRIu32 ", element %" PRIu32
+                ": a fault in this tool: the library's trace has another outcome\n",
+                entry->step, entry->element);
         abort();
     }
 }
@@ -204,7 +206,8 @@ static struct traits common_traits(const struct step_origin *step)
 }
 
 /* The traits of all elements that a step gives its register. */
-static void giver_traits(const struct survey *survey, unsigned number, struct traits traits[MOONBLEAT_REGISTER_ELEMENTS])
+static void giver_traits(const struct survey *survey, unsigned number,
+                         struct traits traits[MOONBLEAT_REGISTER_ELEMENTS])
 {
     const struct step_origin *step = &survey->origins->steps[number];
     unsigned count = type_element_count(step->type);

@@ -169,11 +169,12 @@ static bool find_difference(const struct night *night, const char *sheet, const 
 
 const char *change_of(const struct since *since, const struct night *night, const char *sheet, size_t card)
 {
+    const char *name = night->cards->at[card];
     size_t number;
-    if (find_difference(night, sheet, night->cards->at[card], &number)) {
+    if (find_difference(night, sheet, name, &number)) {
         return change_name(since->now[number]);
     }
-    return find_difference(&since->last, sheet, night->cards->at[card], &number) ? change_name(since->then[number]) : "";
+    return find_difference(&since->last, sheet, name, &number) ? change_name(since->then[number]) : "";
 }
 
 /* -- In words --------------------------------------------------------------------------------- */
