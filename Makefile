@@ -18,6 +18,7 @@
 #                   with stores in other orders and exchanged too; SHEETS=n SEED=n for other sheets
 #   make bench      time the archive beside it
 #   make night-speed  time a night of NIGHT sheets with eight cards
+#   make page-test  look at a night's page in headless Chromium, where that is installed; no part of check
 #   make lint       cppcheck, warnings as errors, and the header as C++
 #   make check      lint, test, text-test and compare: all but the proofs
 #   make edits-apart  try each part of a must-fail edit that has several alone, each a whole check of
@@ -55,6 +56,7 @@ HEADERS = include/moonbleat.h $(wildcard harness/*.h)
 PROGRAMS = harness/example.c harness/unhex.c harness/moonbleat.c
 OBJECTS = $(patsubst harness/%.c,$(TOOL)/%.o,$(filter-out $(PROGRAMS),$(wildcard harness/*.c)))
 SHEET_FILES = target/sheets/$(SEED)-$(SHEETS)
+LDLIBS = -lm
 VERSION = $(shell sed -n 's/^.define MOONBLEAT_VERSION_[A-Z]* //p' include/moonbleat.h | paste -s -d. -)
 
 # Cargo needs no network, writes to target/ alone, and links the archive by its absolute path.
@@ -74,6 +76,7 @@ NEEDS_text-test = $(NEEDS_all) cargo
 NEEDS_compare = $(NEEDS_library) cargo
 NEEDS_bench = $(NEEDS_compare)
 NEEDS_night-speed = $(NEEDS_demo)
+NEEDS_page-test = $(NEEDS_demo)
 NEEDS_lint = $(firstword $(CC)) g++ cppcheck
 NEEDS_check = $(NEEDS_lint) $(NEEDS_test)
 NEEDS_ready = $(NEEDS_check)
@@ -184,6 +187,8 @@ tool-test: all
 	tests/masks.sh $(TOOL)
 	tests/examples.sh $(TOOL)
 	tests/night.sh $(TOOL)
+	tests/causes.sh $(TOOL)
+	tests/nights.sh $(TOOL)
 
 test: tool-test $(addprefix $(TOOL)/test-,null outcome masks where stack) $(SHEET_FILES)
 	$(TOOL)/test-null
@@ -200,6 +205,8 @@ memcheck: all
 	RUNNER='$(VALGRIND) $(LEAKS)' EVERY=3 tests/where.sh $(TOOL)
 	RUNNER='$(VALGRIND) $(LEAKS)' EVERY=9 tests/masks.sh $(TOOL)
 	RUNNER='$(VALGRIND) $(LEAKS)' EVERY=9 tests/night.sh $(TOOL)
+	RUNNER='$(VALGRIND) $(LEAKS)' tests/causes.sh $(TOOL)
+	RUNNER='$(VALGRIND) $(LEAKS)' EVERY=9 tests/nights.sh $(TOOL)
 	CARGO_TARGET_X86_64_UNKNOWN_LINUX_GNU_RUNNER='$(VALGRIND)' $(CARGO) run $(CARGO_WORDS) -- --sheets 500
 
 # The sheets of the comparison as files.
@@ -228,6 +235,10 @@ bench: $(ARCHIVE)
 night-speed: all
 	python3 tests/night_speed.py $(TOOL)/moonbleat target/night-speed-$(NIGHT) $(NIGHT)
 
+# Pictures and a print of the page are left in target/page-test.
+page-test: all
+	python3 tests/page.py $(TOOL)/moonbleat target/page-test
+
 lint:
 	cppcheck --quiet --std=c11 --enable=warning,style,performance,portability --inconclusive \
 		--error-exitcode=1 --suppress=missingIncludeSystem -Iinclude -Iharness harness tests
@@ -241,4 +252,4 @@ clean:
 
 FORCE:
 
-.PHONY: all archive ready deps edits-apart install uninstall dist demo tool-test test text-test memcheck compare bench night-speed lint check clean FORCE
+.PHONY: all archive ready deps edits-apart install uninstall dist demo tool-test test text-test memcheck compare bench night-speed lint check clean page-test FORCE

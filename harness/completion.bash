@@ -8,7 +8,7 @@ _moonbleat() {
         words=$("${COMP_WORDS[0]}" help show | sed -n 's/.*take the file for a \(.*\), whatever.*/\1/p' | tr -d ,)
         words=${words/ or / }
     elif [ "${word#-}" != "$word" ]; then
-        words="$("${COMP_WORDS[0]}" help "$command" | head -n 1 | grep -o -e ' \[*-[a-z-]*' | tr -d ' [') --help"
+        words="$("${COMP_WORDS[0]}" help "$command" | head -n 1 | grep -o -e ' \[*-[a-z0-9-]*' | tr -d ' [') --help"
     else
         mapfile -t COMPREPLY < <(compgen -f -- "$word")
         return

@@ -26,7 +26,8 @@ const struct option_form option_forms[OPTIONS] = {
     [OPTION_REGISTERS] = {"--registers", "FILE", "write the registers to FILE: 16 type bytes, then 1024 elements",
                           .writes = true},
     [OPTION_MASKS] = {"--masks", "FILE", "write the masks to FILE: 34 bytes for each of 32 steps", .writes = true},
-    [OPTION_KEPT_MASKS] = {"--masks", "FILE", "ask the masks in FILE, as tape --masks writes them; SHEET is left out"},
+    [OPTION_KEPT_MASKS] = {"--masks", "FILE", "ask the masks in FILE, as tape --masks writes them; SHEET is left out",
+                           .reads = true},
     [OPTION_HEX] = {"--hex", NULL, "print the memory afterwards in hex, and which steps wrote it"},
     [OPTION_AS] = {"--as", "FORM", "take the file for a sheet, trace, tape or masks, whatever its bytes look like"},
     [OPTION_JSON] = {"--json", NULL, "print one JSON object in place of text"},
@@ -35,12 +36,20 @@ const struct option_form option_forms[OPTIONS] = {
     [OPTION_CARD] = {"--card", "NAME=AFTER", "compare card NAME, which left the memory AFTER", .repeats = true},
     [OPTION_CARD_REGISTERS] = {"--registers", "NAME=FILE",
                                "compare its registers too: FILE is as run --registers writes it", .repeats = true},
+    [OPTION_CARD_TRACE] = {"--trace", "NAME=FILE", "compare its trace too: FILE is as trace -o writes it",
+                           .repeats = true},
     [OPTION_ALL] = {"--all", NULL, "list every difference, in runs"},
     [OPTION_JOBS] = {"-j", "N", "work in N processes; the output is the same"},
     [OPTION_CSV] = {"--csv", NULL, "print a table of comma-separated values in place of text"},
     [OPTION_HTML] = {"--html", "FILE", "also write the report to FILE as a page to send", .writes = true},
     [OPTION_SHARD] = {"--shard", "K/N", "take the K-th of N parts of the folder's sheets"},
     [OPTION_MERGE] = {"--merge", NULL, "make one report of the JSON reports of all parts"},
+    [OPTION_NAME] = {"--name", "NAME", "call the night NAME in place of its folder's name"},
+    [OPTION_SINCE] = {"--since", "LAST", "say what is new, mended and still differs since the JSON report LAST",
+                      .reads = true},
+    [OPTION_ONLY_CARD] = {"--card", "NAME", "report this card alone; may be given more than once", .repeats = true},
+    [OPTION_MISSING] = {"--missing", NULL, "print which sheets have no result of which card yet, and compare nothing"},
+    [OPTION_NUL] = {"-0", NULL, "end what --missing prints with NUL bytes in place of line ends"},
 };
 
 int wrong_use(const struct command *command, const char *format, ...)
@@ -159,12 +168,22 @@ static int take_words(const struct command *command, char **words, size_t count,
     return DONE;
 }
 
+/* The file that an option has the command read; NULL: none. */
+static const char *read_by(const struct request *request, unsigned option)
+{
+    return option_forms[option].reads ? request->words[option] : NULL;
+}
+
 /* How many of the files are standard input, which can be read once. */
 static size_t standard_inputs(const struct request *request)
 {
     size_t count = 0;
     for (size_t i = 0; i < request->file_count; i++) {
         count += strcmp(request->files[i], STANDARD_STREAM) == 0;
+    }
+    for (unsigned option = 0; option < OPTIONS; option++) {
+        const char *name = read_by(request, option);
+        count += name != NULL && strcmp(name, STANDARD_STREAM) == 0;
     }
     return count;
 }
@@ -193,22 +212,39 @@ static bool is_written_over(const struct command *command, const struct request 
            strcmp(request->words[option], request->files[file]) == 0;
 }
 
-/* Whether an output would replace a file that is read, or one that another output goes to; then it is told. */
+/* Whether an output would replace a file that is read; then it is told. */
+static bool replaces(const struct request *request, unsigned option, const char *input)
+{
+    const char *output = written_by(request, option);
+    bool same = is_same_file((struct file_name){output, STDOUT_FILENO}, (struct file_name){input, STDIN_FILENO});
+    if (same) {
+        complain_of(output, "%s would replace a file that is read, %s", option_forms[option].name, shown(input).at);
+    }
+    return same;
+}
+
+/* Whether two outputs go to one file; then it is told. */
+static bool is_shared(const char *output, const char *other)
+{
+    bool same = is_same_file((struct file_name){output, STDOUT_FILENO}, (struct file_name){other, STDOUT_FILENO});
+    if (same) {
+        complain_of(output, "two outputs go to this file");
+    }
+    return same;
+}
+
+/* Whether an output would replace a file that is read, or one that an earlier output goes to. */
 static bool is_clash(const struct command *command, const struct request *request, unsigned option)
 {
-    const struct file_name output = {written_by(request, option), STDOUT_FILENO};
     for (size_t i = 0; i < request->file_count; i++) {
-        if (!is_written_over(command, request, option, i) &&
-            is_same_file(output, (struct file_name){request->files[i], STDIN_FILENO})) {
-            complain_of(output.name, "%s would replace a file that is read, %s", option_forms[option].name,
-                        shown(request->files[i]).at);
+        if (!is_written_over(command, request, option, i) && replaces(request, option, request->files[i])) {
             return true;
         }
     }
-    for (unsigned other = 0; other < option; other++) {
-        const char *earlier = written_by(request, other);
-        if (earlier != NULL && is_same_file(output, (struct file_name){earlier, STDOUT_FILENO})) {
-            complain_of(output.name, "two outputs go to this file");
+    for (unsigned other = 0; other < OPTIONS; other++) {
+        const char *input = read_by(request, other), *output = other < option ? written_by(request, other) : NULL;
+        if ((input != NULL && replaces(request, option, input)) ||
+            (output != NULL && is_shared(written_by(request, option), output))) {
             return true;
         }
     }

@@ -20,12 +20,18 @@ enum option {
     OPTION_MAN,
     OPTION_CARD,
     OPTION_CARD_REGISTERS,
+    OPTION_CARD_TRACE,
     OPTION_ALL,
     OPTION_JOBS,
     OPTION_CSV,
     OPTION_HTML,
     OPTION_SHARD,
     OPTION_MERGE,
+    OPTION_NAME,
+    OPTION_SINCE,
+    OPTION_ONLY_CARD,
+    OPTION_MISSING,
+    OPTION_NUL,
     OPTIONS
 };
 
@@ -37,7 +43,8 @@ struct option_form {
     const char *value; /* what the help calls the word after it; NULL for a switch */
     const char *help;
     bool repeats; /* may be given more than once */
-    bool writes;  /* the word is a file that is written */
+    bool reads;   /* the word is a file that is read .. */
+    bool writes;  /* .. or written */
 };
 
 extern const struct option_form option_forms[OPTIONS];

@@ -10,7 +10,7 @@
 
 /* What tells a file from others: device and inode; of a file that is not there yet, those of its folder, and
  * its name in it. */
-struct identity {
+struct file_identity {
     dev_t device;
     ino_t inode;
     const char *name; /* empty for a file that is there */
@@ -32,7 +32,7 @@ static bool find_folder(const char *name, struct stat *status)
 }
 
 /* False for what cannot be lost. */
-static bool identify(struct file_name file, struct identity *identity)
+static bool identify(struct file_name file, struct file_identity *identity)
 {
     struct stat status;
     bool is_stream = strcmp(file.name, STANDARD_STREAM) == 0;
@@ -40,13 +40,13 @@ static bool identify(struct file_name file, struct identity *identity)
     if (!is_there && (is_stream || !find_folder(file.name, &status))) {
         return false;
     }
-    *identity = (struct identity){status.st_dev, status.st_ino, is_there ? "" : base_name(file.name)};
+    *identity = (struct file_identity){status.st_dev, status.st_ino, is_there ? "" : base_name(file.name)};
     return !is_there || S_ISREG(status.st_mode);
 }
 
 bool is_same_file(struct file_name one, struct file_name other)
 {
-    struct identity first, second;
+    struct file_identity first, second;
     return identify(one, &first) && identify(other, &second) && first.device == second.device &&
            first.inode == second.inode && strcmp(first.name, second.name) == 0;
 }

@@ -192,7 +192,8 @@ alike() {
 }
 for words in 'check SHEET' 'run SHEET memory' 'tape SHEET' 'run-tape SHEET tape memory' 'trace SHEET' \
     'replay SHEET trace' 'divisions SHEET' 'where SHEET 1' 'touched SHEET 2 2' 'show SHEET' 'show SHEET --asm' \
-    'show SHEET --json' 'diff SHEET memory --card c=after'; do
+    'show SHEET --json' 'diff SHEET memory --card c=after' \
+    'diff SHEET memory --card c=after --trace c=trace --json'; do
     alike 0 "$words"
 done
 : > empty
@@ -261,7 +262,7 @@ cp sheet night/a.sheet
 cp memory night/a.memory
 cp after night/a.card.after
 ls night > before
-for name in report.txt b.sheet b.memory b.card.after b.card.registers; do
+for name in report.txt b.sheet b.memory b.card.after b.card.registers b.card.trace b.card.refusal; do
     for out in "night/$name" "./night/../night/$name" "$work/night/$name"; do
         broken "$out: the next night would read this as a file of its folder" night night -o "$out"
         broken "$out: the next night would read this as a file of its folder" night night --html "$out"
@@ -280,6 +281,21 @@ call 0 night night -o report.txt
 call 0 night night -o /dev/stdout
 contains 'a card agrees' stdout
 kept night/report night --merge night/report -o night/report
+# The last night's report is read too, and stays; standard input can be it, once.
+for words in 'night' '--merge night/report'; do
+    cp night/report last
+    # shellcheck disable=SC2086
+    for option in -o --html; do
+        kept last night $words --since last "$option" ./last
+    done
+    # shellcheck disable=SC2086
+    call 0 night $words --since - < last
+    contains 'since night night, ' stdout
+done
+kept last night night --since - -o last < last
+says 'moonbleat: last: -o would replace a file that is read, -'
+wrong 'standard input can be read only once' night --merge - --since - < last
+rm night/report night/report.html
 
 # -- Files of other forms --------------------------------------------------------------------------
 
@@ -519,6 +535,12 @@ wrong "--element $quoted: not the number of an element, and not ROW,COLUMN" wher
 wrong "-j $quoted: not a number of processes, 1 to 1024" night night -j "$name"
 wrong "--as $quoted: not sheet, trace, tape or masks" show sheet --as "$name"
 wrong "--card $quoted: not a NAME=AFTER" diff sheet memory --card "$name"
+wrong "--trace $quoted: no card has this name" diff sheet memory --card c=after --trace "$name=trace"
+wrong "--trace $quoted is given twice" diff sheet memory --card "$name=after" --trace "$name=a" --trace "$name=b"
+long=$(printf '\n%0255d' 0)
+wrong "--name \"\\n${long#?}\": not a name of 1 to 255 bytes" night night --name "$long"
+broken "night: no card $quoted is there" night night --card "$name"
+broken "$quoted: $gone" night night --since "$name"
 cp bad.txt "$name"
 call 3 asm "$name" -o out
 errors "$quoted:4:12: size 0 is not within 1 to 4096"
@@ -527,6 +549,14 @@ call 0 asm "$name" -o out
 errors "$quoted:3: warning: refusal 7 at step 1: transpose: register 2 is empty"
 call 3 night --merge "$name"
 says "moonbleat: $quoted: line 1: not a whole report of moonbleat night"
+tool night night --json -o part.json --shard 1/2
+tool night night --json -o "$name" --shard 2/2 --name other
+call 3 night --merge part.json "$name"
+errors "moonbleat: $quoted: its night has another name than that of part.json: parts of two nights are not merged"
+call 3 night --merge "$name" part.json
+contains "than that of $quoted: parts" stderr
+sed 's/"format": 2/"format": 1/' part.json > "$name"
+broken "$quoted: a report of format 1, and this is for format 2: make it anew" night night --since "$name"
 rm "$name"
 
 # The nearest command or option.
@@ -537,6 +567,7 @@ wrong 'unknown command frobnicate' frobnicate
 wrong 'check does not take --memroy; did you mean --memory?' check sheet --memroy 64
 wrong 'check does not take --memry=64; did you mean --memory?' check sheet --memry=64
 wrong 'night does not take --jsno; did you mean --json?' night night --jsno
+wrong 'night does not take --sinse; did you mean --since?' night night --sinse last
 wrong 'run does not take --registrs; did you mean --registers?' run sheet memory --registrs out
 wrong 'check does not take --halp; did you mean --help?' check --halp
 wrong 'check does not take --frobnicate' check sheet --frobnicate
