@@ -1,18 +1,18 @@
 -- The count of an accepted sheet is the total, over the elements of its loads and stores, of the dimensions whose span is above 1 while the index isn't 0.
-use Prim.Native.Nat.{ℕ, zero, suc, _+_, _/_, _%_, _^_, _<_, _≤_}
-use mathlib.Core.Path.{_≡_, refl, ap, ap₂, _∙_}
-use mathlib.Core.Bool.{Bool, true}
+use Prim.Native.Nat.{ℕ, zero, suc, _+_, _*_, _/_, _%_, _^_, _<_, _≤_}
+use mathlib.Core.Path.{_≡_, refl, sym, ap, ap₂, _∙_}
+use mathlib.Core.Bool.{true}
 use mathlib.Core.List.{List, [], _∷_, _++_}
+use native.Mathlib.Nat.{zero-mul}
 use native.Mathlib.Omega.{arith}
+use Rattle.numbers.specs.Laws.Choice.{by-place}
 use Rattle.numbers.specs.Laws.Joins.{each-same}
 use Rattle.refusals.specs.Refusals.{notRefused}
 use Rattle.sheet.specs.Sizes.{memoryLimit}
 use Rattle.sheet.specs.declared.Layout.{Layout}
-use Rattle.sheet.specs.declared.Window.{Window}
 use Rattle.sheet.specs.declared.Tensors.{Tensors}
 use Rattle.sheet.specs.declared.Sheet.{Sheet}
 use Rattle.sheet.specs.declared.Step.{Step}
-use Rattle.sheet.specs.declared.Step.the-variants.{Nothing, Load, Store, Whole}
 use Rattle.tensor_ranges.specs.Layouts.{layoutOk}
 use Rattle.sheet_ranges.specs.Steps.{theStep}
 use Rattle.sheet_ranges.specs.Laws.Within.{Within}
@@ -22,19 +22,20 @@ use Rattle.registers.specs.Sized.{Sized}
 use Rattle.registers.specs.Laws.Sized.{sized-empty}
 use Rattle.registers.specs.declared.MatrixType.{MatrixType}
 use Rattle.addressing.specs.Rules.{elementsOf, indexed}
+use Rattle.addressing.specs.declared.Access.{Access}
 use Rattle.addressing.specs.declared.Indexed.{Indexed}
 use Rattle.addressing.specs.declared.Indexed.the-variants.{Skipped, Index}
-use Rattle.checking.specs.Steps.{accessOf, checkedStep}
+use Rattle.checking.specs.Steps.{checkedStep}
+use Rattle.checking.specs.Turns.{stepAccess}
 use Rattle.checking.specs.Checking.{checkedFrom, checked, checkedSheet}
-use Rattle.checking.specs.Laws.Accesses.{access-sized}
 use Rattle.checking.specs.Laws.Readable.{sheet-readable}
 use Rattle.checking.specs.Laws.Steps.{check-sized}
 use Rattle.checking.specs.Laws.Turns.{first-clear, rest-clear, within-step}
 use Rattle.checking.specs.declared.CheckAnswer.{CheckAnswer}
-use Rattle.accepted.specs.Accepted.{ClearWindow, ClearStep}
+use Rattle.accepted.specs.Accepted.{ClearAccess, ClearStep}
 use Rattle.accepted.specs.Passes.{passFrom}
 use Rattle.accepted.specs.Elements.{ofAccess, ofStep, ofTurn}
-use Rattle.accepted.specs.Laws.Clear.{load-clear, store-clear}
+use Rattle.accepted.specs.Laws.Clear.{step-clear, of-step}
 use Rattle.explaining.specs.Laws.Asking.{index-small}
 use Rattle.dividing.specs.Divisions.{indexDivisions, elementDivisions, divisions, total}
 use Rattle.dividing.specs.Dividing.{divisionsAnswer, counted}
@@ -45,24 +46,29 @@ index-same : (l : Layout) → layoutOk l ≡ true → (x : Indexed) → ((i : �
 index-same l ok Skipped h = skipped-none l
 index-same l ok (Index i) h = index-needed l ok i (h i refl)
 
--- those of a load or a store that is not refused, element by element
-access-same : {tensors : Tensors} {load : Bool} {window : Window} {t : MatrixType} {len : ℕ} → ClearWindow tensors load window t len
-    → ofAccess elementDivisions (accessOf tensors load window t len) ≡ ofAccess elementNeeded (accessOf tensors load window t len)
+-- an element's access has rows
+element-rows : (a : Access) (e : ℕ) → e < elementsOf a → 0 < a .rows
+element-rows a e h =
+    by-place (a .rows) 0
+    (λ z. let none : elementsOf a ≡ 0 = ap (λ (r : ℕ). r * a .columns) z ∙ zero-mul (a .columns) in absurd (omega (arith, h, none)))
+    (λ n. omega (arith, n))
+
+-- those of an access that is not refused, element by element
+access-same : (a : Access) → (0 < a .rows → ClearAccess a) → ofAccess elementDivisions a ≡ ofAccess elementNeeded a
 unfolding ofAccess
-access-same {tensors} {load} {window} {t} {len} c =
-    let a = accessOf tensors load window t len in
-    let ok : layoutOk (a .layout) ≡ true = access-sized tensors (c .within) load window (c .ok) t (c .sized) (c .clear .filled) len (c .memory) .layout in
+access-same a c =
     each-same (elementsOf a) (λ (e : ℕ). elementDivisions a e ∷ []) (λ (e : ℕ). elementNeeded a e ∷ [])
-    (λ e h. ap (λ (n : ℕ). n ∷ []) (index-same (a .layout) ok (indexed a (e / a .columns) (e % a .columns)) (index-small a (c .clear .clear) e h)))
+    (λ e h.
+    let k = c (element-rows a e h) in
+    ap (λ (n : ℕ). n ∷ []) (index-same (a .layout) (k .sized .layout) (indexed a (e / a .columns) (e % a .columns)) (index-small a (k .clear) e h)))
 
 -- those of a step
 step-same : (tensors : Tensors) (ts : List MatrixType) (len k : ℕ) (step : Step) → ClearStep tensors ts len step
     → ofStep (λ (n : ℕ). elementDivisions) tensors ts len k step ≡ ofStep (λ (n : ℕ). elementNeeded) tensors ts len k step
-unfolding ofStep
-step-same tensors ts len k Nothing c = refl
-step-same tensors ts len k (Load register object window) c = access-same (load-clear c)
-step-same tensors ts len k (Store register window) c = access-same (store-clear c)
-step-same tensors ts len k (Whole whole) c = refl
+step-same tensors ts len k step c =
+    of-step (λ (n : ℕ). elementDivisions) tensors ts len k step
+    ∙ access-same (stepAccess tensors ts len step) (step-clear step c)
+    ∙ sym (of-step (λ (n : ℕ). elementNeeded) tensors ts len k step)
 
 -- those of all steps
 module _ (sh : Sheet) (w : Within sh) (len : ℕ) (few : len ≤ memoryLimit) where
