@@ -1,25 +1,24 @@
 // Counts the divisions that rule 3 takes over a sheet's loads and stores, for those who time layouts: no other job asks.
 ghost use mathlib.Core.Path.{_≡_};
-ghost use Prim.Native.Nat.{ℕ, _*_, _≤_, _<_};
+ghost use Prim.Native.Nat.{_*_, _≤_, _<_};
 ghost use Rattle.sheet.specs.Sizes.{rankPlaces, stepPlaces, matrixPlaces, memoryLimit};
-ghost use Rattle.sheet_ranges.specs.Laws.Within.{Within};
+ghost use Rattle.sheet_reader.specs.Parts.{sheetOf, Outlined};
 ghost use Rattle.addressing.specs.Rules.{elementsOf};
 ghost use Rattle.addressing.specs.Valid.{Planned};
 ghost use Rattle.checking.specs.Checking.{checked};
-ghost use Rattle.accepted.specs.Accepted.{ClearStep};
-ghost use Rattle.dividing.specs.Divisions.{elementDivisions, accessDivisions, stepDivisions, divisions, total};
+ghost use Rattle.accepted.specs.Accepted.{ClearAccess};
+ghost use Rattle.dividing.specs.Divisions.{elementDivisions, accessDivisions, divisions, total};
 ghost use Rattle.dividing.specs.Dividing.{counted};
+use addressing::Access;
 use addressing::INDEX_LIMIT;
 use addressing::Indexed;
 use addressing::Plan;
 use checking::checks;
+use checking::turns;
 use refusals::Refusal;
-use registers::MatrixType;
-use sheet::Sheet;
-use sheet::Step;
-use sheet::Tensors;
 use sheet::sizes::RANK;
-use sheet::sizes::REGISTERS;
+use sheet_reader::Given;
+use sheet_reader::PARTS;
 
 // A refusal with no count, or how many divisions there are.
 pub struct DivisionsAnswer {
@@ -51,7 +50,7 @@ fn element_divisions(
     }
 }
 
-fn access_divisions(p: Plan) -> usize
+fn plan_divisions(p: Plan) -> usize
     requires { ⌜ Planned p ⌝ }
     ensures { λ r. ⌜ (r ≡ total (accessDivisions (p .access))) × (r ≤ matrixPlaces * rankPlaces) ⌝ }
 {
@@ -68,48 +67,30 @@ fn access_divisions(p: Plan) -> usize
     sum
 }
 
-fn step_divisions(
-    tensors: Tensors,
-    types: [MatrixType; REGISTERS],
-    memory: usize,
-    step: Step,
-) -> usize
-    requires { ⌜ ClearStep tensors types memory step ⌝ }
-    ensures { λ r. ⌜ ((k : ℕ) → r ≡ total (stepDivisions tensors types memory k step)) × (r ≤ matrixPlaces * rankPlaces) ⌝ }
+// An access without rows is that of no element.
+fn access_divisions(access: Access) -> usize
+    requires { ⌜ (0 < access .rows → ClearAccess access) ⌝ }
+    ensures { λ r. ⌜ (r ≡ total (accessDivisions access)) × (r ≤ matrixPlaces * rankPlaces) ⌝ }
 {
-    match step {
-        Step::Nothing => 0,
-        Step::Load {
-            register,
-            object,
-            window,
-        } => {
-            let t = registers::the_type(types, checks::object_register(register, object));
-            access_divisions(accepted::plan_window(tensors, true, window, t, memory))
-        }
-        Step::Store { register, window } => {
-            let t = registers::the_type(types, register);
-            access_divisions(accepted::plan_window(tensors, false, window, t, memory))
-        }
-        Step::Whole(_) => 0,
+    if access.rows < 1 {
+        return 0;
     }
+    plan_divisions(addressing::plan_of(access))
 }
 
 // The steps in order, from empty registers.
-fn sheet_divisions(sheet: Sheet, memory: usize) -> usize
-    requires { ⌜ Within sheet × (memory ≤ memoryLimit) × (checked sheet memory .refusal .number ≡ 0) ⌝ }
-    ensures { λ r. ⌜ (r ≡ total (divisions sheet memory)) × (r ≤ stepPlaces * (matrixPlaces * rankPlaces)) ⌝ }
+fn sheet_divisions(s: &[u8], parts: &[usize; PARTS], given: Given, memory: usize) -> usize
+    requires { ⌜ Outlined (now s) (now parts) given × (memory ≤ memoryLimit) × (checked (sheetOf (now s)) memory .refusal .number ≡ 0) ⌝ }
+    ensures { λ r. ⌜ (r ≡ total (divisions (sheetOf (now (s .entry))) memory)) × (r ≤ stepPlaces * (matrixPlaces * rankPlaces)) ⌝ }
 {
-    let none = registers::no_type();
-    let tensors = sheet.tensors;
-    let steps = sheet.steps;
-    let mut types = [none; REGISTERS];
+    let mut types = registers::empty_types();
     let mut sum: usize = 0;
     let mut k: usize = 0;
-    while k < steps {
-        let c = sheet.step[k];
-        let step = c.step;
-        sum += step_divisions(tensors, types, memory, step);
+    while k < given.steps {
+        let turn = turns::turn_at(s, parts, given, types, memory, k);
+        let step = turn.step;
+        let access = turn.access;
+        sum += access_divisions(access);
         let after = checks::step_types(types, step);
         types = after;
         k += 1;
@@ -121,7 +102,8 @@ fn sheet_divisions(sheet: Sheet, memory: usize) -> usize
 pub fn count_divisions(sheet: &[u8], memory_len: usize) -> DivisionsAnswer
     ensures { λ r. ⌜ r ≡ counted (now (sheet .entry)) «memory_len» ⌝ }
 {
-    let judged = checking::judge(sheet, memory_len);
+    let mut parts = sheet_parts::no_parts();
+    let judged = checking::judge(sheet, &mut parts, memory_len);
     let found = judged.answer;
     let refused = found.refusal;
     if 0 < refused.number {
@@ -130,9 +112,9 @@ pub fn count_divisions(sheet: &[u8], memory_len: usize) -> DivisionsAnswer
             divisions: 0,
         };
     }
-    let model = judged.sheet;
+    let given = judged.given;
     DivisionsAnswer {
         refusal: refusals::not_refused(),
-        divisions: sheet_divisions(model, memory_len),
+        divisions: sheet_divisions(sheet, &parts, given, memory_len),
     }
 }

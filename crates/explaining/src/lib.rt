@@ -1,33 +1,34 @@
 // Explains one element of a sheet's load or store (document 02, T-06): what becomes of it, and the first dimension in which it is not inside.
 ghost use mathlib.Core.Path.{_≡_};
-ghost use Prim.Native.Nat.{ℕ, _≤_, _<_};
+ghost use Prim.Native.Nat.{_≤_, _<_};
 ghost use Rattle.sheet.specs.Sizes.{memoryLimit};
-ghost use Rattle.sheet_ranges.specs.Laws.Within.{Within};
+ghost use Rattle.sheet_reader.specs.Parts.{sheetOf, Outlined};
 ghost use Rattle.addressing.specs.Rules.{elementsOf};
 ghost use Rattle.addressing.specs.Valid.{Planned};
 ghost use Rattle.accesses.specs.Refusals.{accessRefusal};
 ghost use Rattle.checking.specs.Checking.{checked};
-ghost use Rattle.accepted.specs.Accepted.{ClearStep};
+ghost use Rattle.accepted.specs.Accepted.{ClearAccess};
 ghost use Rattle.accepted.specs.Elements.{ofAccess};
 ghost use Rattle.accepted.specs.Passes.{typesAt};
 ghost use Rattle.accepted.specs.Laws.Rests.{Rest};
-ghost use Rattle.explaining.specs.Elements.{outsideOf, explained, stepExplained, sheetExplained};
+ghost use Rattle.explaining.specs.Elements.{outsideOf, explained, sheetExplained};
 ghost use Rattle.explaining.specs.Explaining.{explainAnswer, nothingExplained, asked, explainedSheet};
+use addressing::Access;
 use addressing::Indexed;
 use addressing::Plan;
 use checking::checks;
+use checking::turns;
 use outcomes::Explained;
 use outcomes::Outcome;
 use outcomes::Outside;
 use refusals::BEYOND_SIZES;
 use refusals::Refusal;
 use registers::MatrixType;
-use sheet::Sheet;
-use sheet::Step;
-use sheet::Tensors;
 use sheet::sizes::PLACES;
 use sheet::sizes::RANK;
 use sheet::sizes::REGISTERS;
+use sheet_reader::Given;
+use sheet_reader::PARTS;
 
 // An element of a step, or none.
 pub enum Asked {
@@ -65,7 +66,7 @@ pub fn outside_of(
 }
 
 // The outcome comes from the survey that the jobs go by.
-fn explain_access(p: Plan, element: usize) -> Asked
+fn explain_plan(p: Plan, element: usize) -> Asked
     requires { ⌜ Planned p × (accessRefusal (p .access) .number ≡ 0) ⌝ }
     ensures { λ r. ⌜ r ≡ asked (ofAccess explained (p .access)) element ⌝ }
 {
@@ -84,51 +85,32 @@ fn explain_access(p: Plan, element: usize) -> Asked
     })
 }
 
-fn explain_step(
-    tensors: Tensors,
-    types: [MatrixType; REGISTERS],
-    memory: usize,
-    step: Step,
-    element: usize,
-) -> Asked
-    requires { ⌜ ClearStep tensors types memory step ⌝ }
-    ensures { λ r. ⌜ ((k : ℕ) → r ≡ asked (stepExplained tensors types memory k step) element) ⌝ }
+// An access without rows is that of no element.
+fn explain_access(access: Access, element: usize) -> Asked
+    requires { ⌜ (0 < access .rows → ClearAccess access) ⌝ }
+    ensures { λ r. ⌜ r ≡ asked (ofAccess explained access) element ⌝ }
 {
-    match step {
-        Step::Nothing => Asked::Nothing,
-        Step::Load {
-            register,
-            object,
-            window,
-        } => {
-            let t = registers::the_type(types, checks::object_register(register, object));
-            explain_access(
-                accepted::plan_window(tensors, true, window, t, memory),
-                element,
-            )
-        }
-        Step::Store { register, window } => {
-            let t = registers::the_type(types, register);
-            explain_access(
-                accepted::plan_window(tensors, false, window, t, memory),
-                element,
-            )
-        }
-        Step::Whole(_) => Asked::Nothing,
+    if access.rows < 1 {
+        return Asked::Nothing;
     }
+    explain_plan(addressing::plan_of(access), element)
 }
 
 // The types that the steps before number n leave.
-fn types_at(sheet: Sheet, memory: usize, n: usize) -> [MatrixType; REGISTERS]
-    requires { ⌜ Within sheet × (memory ≤ memoryLimit) × (checked sheet memory .refusal .number ≡ 0) × (n < sheet .steps) ⌝ }
-    ensures { λ r. ⌜ (r ≡ typesAt sheet memory n) × Rest sheet memory n r ⌝ }
+fn types_at(
+    s: &[u8],
+    parts: &[usize; PARTS],
+    given: Given,
+    memory: usize,
+    n: usize,
+) -> [MatrixType; REGISTERS]
+    requires { ⌜ Outlined (now s) (now parts) given × (memory ≤ memoryLimit) × (checked (sheetOf (now s)) memory .refusal .number ≡ 0) × (n < given .steps) ⌝ }
+    ensures { λ r. ⌜ (r ≡ typesAt (sheetOf (now (s .entry))) memory n) × Rest (sheetOf (now (s .entry))) memory n r ⌝ }
 {
-    let none = registers::no_type();
-    let mut types = [none; REGISTERS];
+    let mut types = registers::empty_types();
     let mut k: usize = 0;
     while k < n {
-        let c = sheet.step[k];
-        let step = c.step;
+        let step = sheet_parts::step_in(s, parts, given, k);
         let after = checks::step_types(types, step);
         types = after;
         k += 1;
@@ -136,17 +118,24 @@ fn types_at(sheet: Sheet, memory: usize, n: usize) -> [MatrixType; REGISTERS]
     types
 }
 
-fn explain_sheet(sheet: Sheet, memory: usize, step: usize, element: usize) -> Asked
-    requires { ⌜ Within sheet × (memory ≤ memoryLimit) × (checked sheet memory .refusal .number ≡ 0) ⌝ }
-    ensures { λ r. ⌜ r ≡ asked (sheetExplained sheet memory step) element ⌝ }
+fn explain_sheet(
+    s: &[u8],
+    parts: &[usize; PARTS],
+    given: Given,
+    memory: usize,
+    step: usize,
+    element: usize,
+) -> Asked
+    requires { ⌜ Outlined (now s) (now parts) given × (memory ≤ memoryLimit) × (checked (sheetOf (now s)) memory .refusal .number ≡ 0) ⌝ }
+    ensures { λ r. ⌜ r ≡ asked (sheetExplained (sheetOf (now (s .entry))) memory step) element ⌝ }
 {
-    if sheet.steps <= step {
+    if given.steps <= step {
         return Asked::Nothing;
     }
-    let types = types_at(sheet, memory, step);
-    let c = sheet.step[step];
-    let the_step = c.step;
-    explain_step(sheet.tensors, types, memory, the_step, element)
+    let types = types_at(s, parts, given, memory, step);
+    let turn = turns::turn_at(s, parts, given, types, memory, step);
+    let access = turn.access;
+    explain_access(access, element)
 }
 
 fn refuse(refusal: Refusal) -> ExplainAnswer
@@ -165,14 +154,15 @@ fn refuse(refusal: Refusal) -> ExplainAnswer
 pub fn explain(sheet: &[u8], memory_len: usize, step: usize, element: usize) -> ExplainAnswer
     ensures { λ r. ⌜ r ≡ explainedSheet (now (sheet .entry)) «memory_len» «step» «element» ⌝ }
 {
-    let judged = checking::judge(sheet, memory_len);
+    let mut parts = sheet_parts::no_parts();
+    let judged = checking::judge(sheet, &mut parts, memory_len);
     let found = judged.answer;
     let refused = found.refusal;
     if 0 < refused.number {
         return refuse(refused);
     }
-    let model = judged.sheet;
-    match explain_sheet(model, memory_len, step, element) {
+    let given = judged.given;
+    match explain_sheet(sheet, &parts, given, memory_len, step, element) {
         Asked::Nothing => refuse(refusals::refusal_at(BEYOND_SIZES, step, element)),
         Asked::Element(x) => ExplainAnswer {
             refusal: refusals::not_refused(),

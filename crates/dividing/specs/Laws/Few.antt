@@ -1,7 +1,8 @@
 -- An element takes at most one division for each dimension, and a sheet within Sizes has few elements.
 use Prim.Native.Nat.{ℕ, zero, suc, _+_, _*_, _^_, _≤_, min}
+use mathlib.Core.Path.{_≡_, ap, _∙_}
 use mathlib.Core.List.{List, [], _∷_, _++_}
-use native.Mathlib.Nat.{min-le-right}
+use native.Mathlib.Nat.{min-le-right, zero-mul}
 use native.Mathlib.Omega.{arith}
 use lib.Dec.{leb}
 use lib.ListN.{length, length-append}
@@ -26,7 +27,7 @@ use Rattle.addressing.specs.declared.Indexed.{Indexed}
 use Rattle.addressing.specs.declared.Indexed.the-variants.{Skipped, Index}
 use Rattle.accepted.specs.Passes.{passFrom}
 use Rattle.accepted.specs.Elements.{ofAccess, ofStep}
-use Rattle.accepted.specs.Laws.Elements.{sheet-few}
+use Rattle.accepted.specs.Laws.Elements.{access-count, sheet-few}
 use Rattle.dividing.specs.Divisions.{indexDivisions, elementDivisions, accessDivisions, stepDivisions, divisionsAt, divisions, total}
 use Rattle.dividing.specs.Laws.Totals.{total-append}
 
@@ -66,6 +67,12 @@ most-each f h (suc n) = most-append (each n (λ (k : ℕ). f k ∷ [])) (f n ∷
 access-most : (a : Access) → Most (accessDivisions a)
 unfolding ofAccess
 access-most a = most-each (elementDivisions a) (λ e. index-most (a .layout) _) (elementsOf a)
+
+-- an access without rows takes none
+pub bare-none : (a : Access) → a .rows ≡ 0 → total (accessDivisions a) ≡ 0
+bare-none a e =
+    let none : elementsOf a ≡ 0 = ap (λ (r : ℕ). r * a .columns) e ∙ zero-mul (a .columns) in
+    omega (arith, access-most a, access-count elementDivisions a, none)
 
 step-most : (tensors : Tensors) (ts : List MatrixType) (len k : ℕ) (step : Step) → Most (stepDivisions tensors ts len k step)
 unfolding ofStep

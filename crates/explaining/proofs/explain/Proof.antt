@@ -1,11 +1,14 @@
-use denote.Ref.{now}
 use mathlib.Core.Path.{_≡_, sym, _∙_}
-use Rattle.checking.specs.Laws.Readable.{sheet-readable, judged-read}
+use denote.Ref.{now}
+use Rattle.checking.specs.Laws.Readable.{sheet-readable}
 use Rattle.explaining.specs.Theorems.{explained-accepted, explained-refused}
 use native.Mathlib.Omega.{arith}
 use borrow.Author.Needs.{needs}
 use Rattle.explaining.proofs.explain.Statement.{statement}
 use Rattle.explaining.proofs.explain.Tie as tie
+
+no-parts-requires : tie.Need-no-parts-requires
+no-parts-requires c κs = search needs
 
 judge-requires : tie.Need-judge-requires
 judge-requires c κs = search needs
@@ -15,18 +18,18 @@ refuse-requires c κs = search needs
 
 returns : tie.Need-returns
 returns c =
-    let a = c .before .before .before .before .before .before .before .args in
+    let a = c .before .before .before .before .before .before .before .before .before .args in
     let e = c .before .before .before .before .before .judge .ensures .0 in
     c .refuse .ensures ∙ rw e (sym (explained-refused (now (a .sheet)) (a .memory-len) (a .step) (a .element) (rw e at (c .before .if1 .taken))))
 
 explain-sheet-requires : tie.Need-explain-sheet-requires
 explain-sheet-requires c κs =
-    let a = c .before .before .before .before .before .before .before .args in
-    let j = c .before .before .before .before .before .judge in
+    let a = c .before .before .before .before .before .before .before .before .before .before .args in
+    let j = c .before .before .before .before .before .before .judge in
     let e = j .ensures in
-    let fine : j .result .answer .refusal .number ≡ 0 = omega (arith, c .before .if1 .left) in
+    let fine : j .result .answer .refusal .number ≡ 0 = omega (arith, c .before .before .if1 .left) in
     let r = sheet-readable (now (a .sheet)) (a .memory-len) (rw (e .0) at fine) in
-    rw (judged-read (now (a .sheet)) (a .memory-len) (e .0) (e .1) fine) (r .within, r .few, r .clear)
+    (e .1 fine, r .few, r .clear)
 
 enum-told : tie.Need-enum-told
 enum-told c = search needs
@@ -45,28 +48,27 @@ not-refused-requires c κs = search needs
 
 returns-2 : tie.Need-returns-2
 returns-2 c =
-    let a = c .before .before .before .before .before .before .before .before .before .before .before .before .args in
-    let j = c .before .before .before .before .before .before .before .before .before .before .judge in
+    let a = c .before .before .before .before .before .before .before .before .before .before .before .before .before .before .before .args in
+    let j = c .before .before .before .before .before .before .before .before .before .before .before .judge in
     let e = j .ensures in
-    let fine : j .result .answer .refusal .number ≡ 0 = omega (arith, c .before .before .before .before .before .before .if1 .left) in
-    let n = rw (judged-read (now (a .sheet)) (a .memory-len) (e .0) (e .1) fine) at (c .before .before .before .before .explain-sheet .ensures) in
+    let fine : j .result .answer .refusal .number ≡ 0 = omega (arith, c .before .before .before .before .before .before .before .if1 .left) in
     let so = explained-accepted (now (a .sheet)) (a .memory-len) (a .step) (a .element) (rw (e .0) at fine) in
-    c .refuse2 .ensures ∙ rw (c .before .refusal-at .ensures) (sym (so ∙ rw (← n, c .before .before .enum-told .given .1)))
+    c .refuse2 .ensures ∙ rw (c .before .refusal-at .ensures) (sym (so ∙ rw (← c .before .before .before .before .explain-sheet .ensures, c .before .before .enum-told .given .1)))
 
 returns-3 : tie.Need-returns-3
 returns-3 c =
-    let a = c .before .before .before .before .before .before .before .before .before .before .before .before .args in
-    let j = c .before .before .before .before .before .before .before .before .before .before .judge in
+    let a = c .before .before .before .before .before .before .before .before .before .before .before .before .before .before .before .args in
+    let j = c .before .before .before .before .before .before .before .before .before .before .before .judge in
     let e = j .ensures in
-    let fine : j .result .answer .refusal .number ≡ 0 = omega (arith, c .before .before .before .before .before .before .if1 .left) in
-    let n = rw (judged-read (now (a .sheet)) (a .memory-len) (e .0) (e .1) fine) at (c .before .before .before .before .explain-sheet .ensures) in
+    let fine : j .result .answer .refusal .number ≡ 0 = omega (arith, c .before .before .before .before .before .before .before .if1 .left) in
     let so = explained-accepted (now (a .sheet)) (a .memory-len) (a .step) (a .element) (rw (e .0) at fine) in
-    rw (c .not-refused .ensures) (sym (so ∙ rw (← n, c .before .before .x .given .1)))
+    rw (c .not-refused .ensures) (sym (so ∙ rw (← c .before .before .before .before .explain-sheet .ensures, c .before .before .x .given .1)))
 
 pub explain-spec : {M : Type 1} → statement M
 explain-spec =
     tie.close
     (tie.spec
+    no-parts-requires
     judge-requires
     refuse-requires
     returns

@@ -1,55 +1,36 @@
-use mathlib.Core.Path.{refl, sym}
-use Prim.Native.Nat.{_<_}
+use Prim.Native.Nat.{ℕ, _*_}
+use mathlib.Core.Path.{_≡_, sym, ap, _∙_}
+use native.Mathlib.Nat.{zero-mul}
 use Rattle.addressing.specs.Rules.{elementsOf}
-use Rattle.addressing.specs.Laws.Plans.{plan-count}
-use Rattle.accesses.specs.Laws.Surveys.{surveyed-outcome}
-use Rattle.explaining.specs.Laws.Asking.{access-past, access-asked}
+use Rattle.addressing.specs.Laws.Plans.{planned-access}
+use Rattle.accesses.specs.Laws.Accepted.{accepted-valid}
+use Rattle.explaining.specs.Laws.Asking.{access-past}
 use borrow.Author.Needs.{needs}
+use native.Mathlib.Omega.{arith}
 use Rattle.explaining.proofs.explain_access.Statement.{statement}
 use Rattle.explaining.proofs.explain_access.Tie as tie
 
 returns : tie.Need-returns
 returns c =
     let s = c .before .before in
-    sym (access-past (s .args .p .access) (s .args .element) (rw (← plan-count (s .args .p) (s .pre .0)) (c .if1 .taken)))
+    let a = s .args .access in
+    let z : a .rows ≡ 0 = omega (arith, c .if1 .taken) in
+    let none : elementsOf a ≡ 0 = ap (λ (r : ℕ). r * a .columns) z ∙ zero-mul (a .columns) in
+    sym (access-past a (s .args .element) (omega (arith, none)))
 
-survey-requires : tie.Need-survey-requires
-survey-requires c κs = search needs
+plan-of-requires : tie.Need-plan-of-requires
+plan-of-requires c κs =
+    let k = c .before .before .pre (omega (arith, c .if1 .left)) in
+    accepted-valid _ (k .clear) (k .sized)
 
-mul-outcome-of : tie.Need-mul-outcome-of
-mul-outcome-of c = search needs
-
-array-read-outcome-of : tie.Need-array-read-outcome-of
-array-read-outcome-of c = search needs
-
-outcome-of-requires : tie.Need-outcome-of-requires
-outcome-of-requires c κs = search needs
-
-cast-outside-of : tie.Need-cast-outside-of
-cast-outside-of c = search needs
-
-outside-of-requires : tie.Need-outside-of-requires
-outside-of-requires c κs =
-    let s = c .before .before .before .before .before .before .before .before .before .before .before .before in
-    ((s .pre .0, rw (← plan-count (s .args .p) (s .pre .0)) (c .before .before .before .before .before .before .before .before .before .before .if1 .left), s .pre .1), (refl, refl, refl))
+explain-plan-requires : tie.Need-explain-plan-requires
+explain-plan-requires c κs =
+    let q = c .plan-of .ensures in
+    let k = c .before .before .before .pre (omega (arith, c .before .if1 .left)) in
+    (q .1, rw (planned-access _ (q .0)) (k .clear))
 
 returns-2 : tie.Need-returns-2
-returns-2 c =
-    let s = c .before .before .before .before .before .before .before .before .before .before .before .before .before in
-    let p = s .args .p in
-    let e = s .args .element in
-    let h : e < elementsOf (p .access) = rw (← plan-count p (s .pre .0)) (c .before .before .before .before .before .before .before .before .before .before .before .if1 .left) in
-    rw (c .before .before .before .before .outcome-of .ensures, surveyed-outcome p (s .pre .0) (c .before .before .before .before .before .before .before .before .before .survey .ensures) (s .pre .1) e h, c .outside-of .ensures) (sym (access-asked (p .access) e h))
+returns-2 c = rw (planned-access _ (c .before .plan-of .ensures .0)) at (c .explain-plan .ensures)
 
 pub explain-access-spec : {M : Type 1} → statement M
-explain-access-spec =
-    tie.close
-    (tie.spec
-    returns
-    survey-requires
-    mul-outcome-of
-    array-read-outcome-of
-    outcome-of-requires
-    cast-outside-of
-    outside-of-requires
-    returns-2)
+explain-access-spec = tie.close (tie.spec returns plan-of-requires explain-plan-requires returns-2)

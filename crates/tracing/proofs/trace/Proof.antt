@@ -1,9 +1,9 @@
-use denote.Ref.{now}
-use mathlib.Core.Path.{_≡_, sym, ap, _∙_}
 use Prim.Native.Nat.{ℕ, _*_, _<_, _≤_}
+use mathlib.Core.Path.{_≡_, sym, ap, _∙_}
+use denote.Ref.{now}
 use lib.ListN.{length}
 use Rattle.checking.specs.declared.CheckAnswer.{CheckAnswer}
-use Rattle.checking.specs.Laws.Readable.{sheet-readable, judged-read}
+use Rattle.checking.specs.Laws.Readable.{sheet-readable}
 use Rattle.traces.specs.Events.{eventLength}
 use Rattle.tracing.specs.Tracing.{tracedLength}
 use Rattle.tracing.proofs.Laws.{refused-answer, refused-room, short-answer, short-room, trace-answer, trace-room}
@@ -11,6 +11,9 @@ use native.Mathlib.Omega.{arith}
 use borrow.Author.Needs.{needs}
 use Rattle.tracing.proofs.trace.Statement.{statement}
 use Rattle.tracing.proofs.trace.Tie as tie
+
+no-parts-requires : tie.Need-no-parts-requires
+no-parts-requires c κs = search needs
 
 judge-requires : tie.Need-judge-requires
 judge-requires c κs = search needs
@@ -20,7 +23,7 @@ trace-refused-requires c κs = search needs
 
 returns : tie.Need-returns
 returns c =
-    let a = c .before .before .before .before .before .before .before .before .args in
+    let a = c .before .before .before .before .before .before .before .before .before .before .args in
     let s = now (a .sheet) in
     let is = c .before .before .before .before .before .judge .ensures .0 in
     let n = c .before .if1 .taken in
@@ -28,11 +31,13 @@ returns c =
 
 count-trace-requires : tie.Need-count-trace-requires
 count-trace-requires c κs =
-    let a = c .before .before .before .before .before .before .before .before .args in
-    let j = c .before .before .before .before .before .judge .ensures in
-    let fine : c .before .before .before .before .before .judge .result .answer .refusal .number ≡ 0 = omega (arith, c .before .if1 .left) in
-    let r = sheet-readable (now (a .sheet)) (a .memory-len) (ap (λ (x : CheckAnswer). x .refusal .number) (sym (j .0)) ∙ fine) in
-    rw (judged-read (now (a .sheet)) (a .memory-len) (j .0) (j .1) fine) (r .within, (a .memory-len, r .few, r .clear))
+    let a = c .before .before .before .before .before .before .before .before .before .before .before .args in
+    let s = now (a .sheet) in
+    let j = c .before .before .before .before .before .before .judge in
+    let e = j .ensures in
+    let fine : j .result .answer .refusal .number ≡ 0 = omega (arith, c .before .before .if1 .left) in
+    let r = sheet-readable s (a .memory-len) (ap (λ (x : CheckAnswer). x .refusal .number) (sym (e .0)) ∙ fine) in
+    (e .1 fine, r .few, r .clear)
 
 mul-bytes : tie.Need-mul-bytes
 mul-bytes c = search needs
@@ -45,29 +50,26 @@ trace-refused-requires-2 c κs = search needs
 
 returns-2 : tie.Need-returns-2
 returns-2 c =
-    let a = c .before .before .before .before .before .before .before .before .before .before .before .before .args in
+    let a = c .before .before .before .before .before .before .before .before .before .before .before .before .before .before .before .args in
     let s = now (a .sheet) in
-    let j = c .before .before .before .before .before .before .before .before .before .judge .ensures in
-    let fine : c .before .before .before .before .before .before .before .before .before .judge .result .answer .refusal .number ≡ 0 = omega (arith, c .before .before .before .before .before .if1 .left) in
-    let r = sheet-readable s (a .memory-len) (ap (λ (x : CheckAnswer). x .refusal .number) (sym (j .0)) ∙ fine) in
-    let e = judged-read s (a .memory-len) (j .0) (j .1) fine in
-    let n = rw e at (c .before .before .before .count-trace .ensures .1) in
-    let short : length (now (a .out)) < tracedLength s (a .memory-len) = omega (arith, n (a .memory-len) (r .few) (r .clear), c .before .before .if2 .taken) in (
-      c .trace-refused2 .ensures ∙ rw (c .before .refusal-at .ensures) (short-answer s (a .memory-len) (j .0) fine (length (now (a .out))) short),
-      short-room s (a .memory-len) (j .0) fine (now (a .out)) short,
+    let j = c .before .before .before .before .before .before .before .before .before .before .judge in
+    let e = j .ensures in
+    let fine : j .result .answer .refusal .number ≡ 0 = omega (arith, c .before .before .before .before .before .before .if1 .left) in
+    let short : length (now (a .out)) < tracedLength s (a .memory-len) = omega (arith, c .before .before .before .count-trace .ensures .0, c .before .before .if2 .taken) in (
+      c .trace-refused2 .ensures ∙ rw (c .before .refusal-at .ensures) (short-answer s (a .memory-len) (e .0) fine (length (now (a .out))) short),
+      short-room s (a .memory-len) (e .0) fine (now (a .out)) short,
     )
 
 write-trace-requires : tie.Need-write-trace-requires
 write-trace-requires c κs =
-    let a = c .before .before .before .before .before .before .before .before .before .before .before .args in
+    let a = c .before .before .before .before .before .before .before .before .before .before .before .before .before .before .before .args in
     let s = now (a .sheet) in
-    let j = c .before .before .before .before .before .before .before .before .judge .ensures in
-    let fine : c .before .before .before .before .before .before .before .before .judge .result .answer .refusal .number ≡ 0 = omega (arith, c .before .before .before .before .if1 .left) in
-    let r = sheet-readable s (a .memory-len) (ap (λ (x : CheckAnswer). x .refusal .number) (sym (j .0)) ∙ fine) in
-    let e = judged-read s (a .memory-len) (j .0) (j .1) fine in
-    let n = rw e at (c .before .before .count-trace .ensures .1) in
-    let room : tracedLength s (a .memory-len) ≤ length (now (a .out)) = omega (arith, n (a .memory-len) (r .few) (r .clear), c .before .if2 .left) in
-    rw e ((r .within, r .few, r .clear), room)
+    let j = c .before .before .before .before .before .before .before .before .before .before .judge in
+    let e = j .ensures in
+    let fine : j .result .answer .refusal .number ≡ 0 = omega (arith, c .before .before .before .before .before .before .if1 .left) in
+    let r = sheet-readable s (a .memory-len) (ap (λ (x : CheckAnswer). x .refusal .number) (sym (e .0)) ∙ fine) in
+    let room : tracedLength s (a .memory-len) ≤ length (now (a .out)) = omega (arith, c .before .before .before .count-trace .ensures .0, c .before .before .if2 .left) in
+    ((e .1 fine, r .few, r .clear), room)
 
 not-refused-requires : tie.Need-not-refused-requires
 not-refused-requires c κs = search needs
@@ -77,23 +79,22 @@ same-length c = search needs
 
 returns-3 : tie.Need-returns-3
 returns-3 c =
-    let a = c .before .before .before .before .before .before .before .before .before .before .before .before .before .before .before .args in
+    let a = c .before .before .before .before .before .before .before .before .before .before .before .before .before .before .before .before .before .before .before .args in
     let s = now (a .sheet) in
-    let j = c .before .before .before .before .before .before .before .before .before .before .before .before .judge .ensures in
-    let fine : c .before .before .before .before .before .before .before .before .before .before .before .before .judge .result .answer .refusal .number ≡ 0 = omega (arith, c .before .before .before .before .before .before .before .before .if1 .left) in
-    let r = sheet-readable s (a .memory-len) (ap (λ (x : CheckAnswer). x .refusal .number) (sym (j .0)) ∙ fine) in
-    let e = judged-read s (a .memory-len) (j .0) (j .1) fine in
-    let n = rw e at (c .before .before .before .before .before .before .count-trace .ensures .1) in
-    let bytes : c .before .before .before .before .before .before .count-trace .result * eventLength ≡ tracedLength s (a .memory-len) = ap (λ (x : ℕ). x * eventLength) (n (a .memory-len) (r .few) (r .clear)) in
-    let room : tracedLength s (a .memory-len) ≤ length (now (a .out)) = omega (arith, bytes, c .before .before .before .before .before .if2 .left) in (
-      rw (c .not-refused .ensures, bytes) (trace-answer s (a .memory-len) (j .0) fine (length (now (a .out))) room),
-      (rw e at (c .before .before .before .write-trace .ensures)) ∙ trace-room s (a .memory-len) (j .0) fine (now (a .out)) room,
+    let j = c .before .before .before .before .before .before .before .before .before .before .before .before .before .before .judge in
+    let e = j .ensures in
+    let fine : j .result .answer .refusal .number ≡ 0 = omega (arith, c .before .before .before .before .before .before .before .before .before .before .if1 .left) in
+    let bytes : c .before .before .before .before .before .before .before .count-trace .result * eventLength ≡ tracedLength s (a .memory-len) = ap (λ (x : ℕ). x * eventLength) (c .before .before .before .before .before .before .before .count-trace .ensures .0) in
+    let room : tracedLength s (a .memory-len) ≤ length (now (a .out)) = omega (arith, bytes, c .before .before .before .before .before .before .if2 .left) in (
+      rw (c .not-refused .ensures, bytes) (trace-answer s (a .memory-len) (e .0) fine (length (now (a .out))) room),
+      c .before .before .before .write-trace .ensures ∙ trace-room s (a .memory-len) (e .0) fine (now (a .out)) room,
     )
 
 pub trace-spec : {M : Type 1} → statement M
 trace-spec =
     tie.close
     (tie.spec
+    no-parts-requires
     judge-requires
     trace-refused-requires
     returns
