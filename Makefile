@@ -4,7 +4,10 @@
 #   make            the tool, the examples and unhex, in target/tool/
 #   make demo       print the tape of strip 4 and carry it out; compare three cards
 #   make archive    the library, target/staticlib/libmoonbleat.a
-#   make install    the tool, the library, its header, manual page and completion, below PREFIX
+#   make ready      fail if a program is missing that check needs, and name it
+#   make deps       name the programs that are missing for any of these, as one line that installs them
+#   make install    the tool and unhex, the library, its header, manual page, completion, docs/SHEETS.md
+#                   and docs/NIGHT.md, below PREFIX
 #   make uninstall  take them away again
 #   make dist       the sources of the last commit, target/moonbleat-VERSION.tar.gz
 #   make tool-test  run the tool's tests and the examples of docs/SHEETS.md
@@ -15,8 +18,11 @@
 #                   with stores in other orders and exchanged too; SHEETS=n SEED=n for other sheets
 #   make bench      time the archive beside it
 #   make night-speed  time a night of NIGHT sheets with eight cards
+#   make page-test  look at a night's page in headless Chromium, where that is installed; no part of check
 #   make lint       cppcheck, warnings as errors, and the header as C++
 #   make check      lint, test, text-test and compare: all but the proofs
+#   make edits-apart  try each part of a must-fail edit that has several alone, each a whole check of
+#                   its crate; not part of the gate, which tries them together
 #   make memcheck   the tool's tests with sanitizers, then with each third call (of masks, diff and
 #                   night: each ninth) under valgrind, then 500 sheets of each edition of the comparison
 #                   under it: some 13 minutes
@@ -37,6 +43,7 @@ LIBDIR = $(PREFIX)/lib
 INCLUDEDIR = $(PREFIX)/include
 MANDIR = $(PREFIX)/share/man/man1
 COMPLETIONDIR = $(PREFIX)/share/bash-completion/completions
+DOCDIR = $(PREFIX)/share/doc/moonbleat
 
 CFLAGS = -O2 -g
 WARNINGS = -std=c11 -Wall -Wextra -Wpedantic -Werror
@@ -49,6 +56,7 @@ HEADERS = include/moonbleat.h $(wildcard harness/*.h)
 PROGRAMS = harness/example.c harness/unhex.c harness/moonbleat.c
 OBJECTS = $(patsubst harness/%.c,$(TOOL)/%.o,$(filter-out $(PROGRAMS),$(wildcard harness/*.c)))
 SHEET_FILES = target/sheets/$(SEED)-$(SHEETS)
+LDLIBS = -lm
 VERSION = $(shell sed -n 's/^.define MOONBLEAT_VERSION_[A-Z]* //p' include/moonbleat.h | paste -s -d. -)
 
 # Cargo needs no network, writes to target/ alone, and links the archive by its absolute path.
@@ -56,7 +64,43 @@ CARGO = CARGO_HOME='$(abspath target/cargo)' CARGO_TARGET_DIR='$(abspath target/
 	MOONBLEAT_ARCHIVE='$(abspath $(ARCHIVE))' cargo
 CARGO_WORDS = --quiet --release --locked --offline --manifest-path compare/Cargo.toml
 
+# The programs that a goal needs are looked for before anything is done: rt where there is no library yet.
+NEEDS_archive = rt
+NEEDS_library = $(if $(wildcard $(ARCHIVE)),,rt)
+NEEDS_all = $(firstword $(CC)) $(NEEDS_library)
+NEEDS_demo = $(NEEDS_all) python3
+NEEDS_install = $(NEEDS_all)
+NEEDS_tool-test = $(NEEDS_all) jq python3
+NEEDS_test = $(NEEDS_tool-test) cargo groff pkg-config
+NEEDS_text-test = $(NEEDS_all) cargo
+NEEDS_compare = $(NEEDS_library) cargo
+NEEDS_bench = $(NEEDS_compare)
+NEEDS_night-speed = $(NEEDS_demo)
+NEEDS_page-test = $(NEEDS_demo)
+NEEDS_lint = $(firstword $(CC)) g++ cppcheck
+NEEDS_check = $(NEEDS_lint) $(NEEDS_test)
+NEEDS_ready = $(NEEDS_check)
+NEEDS_memcheck = $(NEEDS_tool-test) cargo valgrind
+NEEDS_dist = git
+
+lacking = $(strip $(foreach program,$(1),$(if $(shell command -v $(program) 2> /dev/null),,$(program))))
+LACKING := $(call lacking,$(sort $(foreach goal,$(or $(MAKECMDGOALS),all),$(NEEDS_$(goal)))))
+RT_ORIGIN = rt comes with the Rattle kit; it proves and builds the library, and ARCHIVE=path names one that is built
+ifneq ($(LACKING),)
+$(error not on the path: $(LACKING)$(if $(filter rt,$(LACKING)), ($(RT_ORIGIN))); make deps says how to install what is missing)
+endif
+
 all: $(addprefix $(TOOL)/,moonbleat example readme unhex)
+
+ready:
+
+# What any goal may need, and the Debian packages that have it, where they are called otherwise.
+PACKAGED = cc python3 jq groff pkg-config cargo g++ cppcheck valgrind git
+PACKAGE_cc = gcc
+deps: UNPACKED = $(call lacking,$(PACKAGED))
+deps:
+	@echo '$(if $(UNPACKED),apt install $(foreach program,$(UNPACKED),$(or $(PACKAGE_$(program)),$(program))),every package is there)'
+	@echo '$(if $(call lacking,rt),rt is not on the path: $(RT_ORIGIN),rt is there)'
 
 # rt keeps what it has proved; the time stamp tells make that it looked.
 target/staticlib/libmoonbleat.a: crates.txt $(shell find crates -name '*.rt' -o -name '*.antt')
@@ -65,6 +109,9 @@ target/staticlib/libmoonbleat.a: crates.txt $(shell find crates -name '*.rt' -o 
 	@touch $@
 
 archive: target/staticlib/libmoonbleat.a
+
+edits-apart:
+	tools/edits --apart
 
 $(TOOL):
 	mkdir -p $@
@@ -98,16 +145,19 @@ $(TOOL)/moonbleat.pc: harness/moonbleat.pc.in include/moonbleat.h FORCE | $(TOOL
 		-e 's|@VERSION@|$(VERSION)|' $< > $@
 
 # What install puts there and uninstall takes away.
-INSTALLED = $(BINDIR)/moonbleat $(LIBDIR)/libmoonbleat.a $(LIBDIR)/pkgconfig/moonbleat.pc \
-	$(INCLUDEDIR)/moonbleat.h $(MANDIR)/moonbleat.1 $(COMPLETIONDIR)/moonbleat
+INSTALLED = $(BINDIR)/moonbleat $(BINDIR)/unhex $(LIBDIR)/libmoonbleat.a $(LIBDIR)/pkgconfig/moonbleat.pc \
+	$(INCLUDEDIR)/moonbleat.h $(MANDIR)/moonbleat.1 $(COMPLETIONDIR)/moonbleat \
+	$(DOCDIR)/SHEETS.md $(DOCDIR)/NIGHT.md $(DOCDIR)/night.png
 
 install: all $(TOOL)/moonbleat.1 $(TOOL)/moonbleat.pc
 	install -D -m 755 $(TOOL)/moonbleat '$(DESTDIR)$(BINDIR)/moonbleat'
+	install -D -m 755 $(TOOL)/unhex '$(DESTDIR)$(BINDIR)/unhex'
 	install -D -m 644 $(ARCHIVE) '$(DESTDIR)$(LIBDIR)/libmoonbleat.a'
 	install -D -m 644 $(TOOL)/moonbleat.pc '$(DESTDIR)$(LIBDIR)/pkgconfig/moonbleat.pc'
 	install -D -m 644 include/moonbleat.h '$(DESTDIR)$(INCLUDEDIR)/moonbleat.h'
 	install -D -m 644 $(TOOL)/moonbleat.1 '$(DESTDIR)$(MANDIR)/moonbleat.1'
 	install -D -m 644 harness/completion.bash '$(DESTDIR)$(COMPLETIONDIR)/moonbleat'
+	install -D -m 644 -t '$(DESTDIR)$(DOCDIR)' docs/SHEETS.md docs/NIGHT.md docs/night.png
 
 uninstall:
 	for file in $(INSTALLED); do rm -f '$(DESTDIR)'"$$file"; done
@@ -132,10 +182,13 @@ demo: all
 
 tool-test: all
 	tests/tool.sh $(TOOL)
+	tests/edges.sh $(TOOL)
 	tests/where.sh $(TOOL)
 	tests/masks.sh $(TOOL)
 	tests/examples.sh $(TOOL)
 	tests/night.sh $(TOOL)
+	tests/causes.sh $(TOOL)
+	tests/nights.sh $(TOOL)
 
 test: tool-test $(addprefix $(TOOL)/test-,null outcome masks where stack) $(SHEET_FILES)
 	$(TOOL)/test-null
@@ -148,9 +201,12 @@ test: tool-test $(addprefix $(TOOL)/test-,null outcome masks where stack) $(SHEE
 memcheck: all
 	$(MAKE) $(SANITIZED) tool-test
 	RUNNER='$(VALGRIND) $(LEAKS)' EVERY=3 tests/tool.sh $(TOOL)
+	RUNNER='$(VALGRIND) $(LEAKS)' EVERY=3 tests/edges.sh $(TOOL)
 	RUNNER='$(VALGRIND) $(LEAKS)' EVERY=3 tests/where.sh $(TOOL)
 	RUNNER='$(VALGRIND) $(LEAKS)' EVERY=9 tests/masks.sh $(TOOL)
 	RUNNER='$(VALGRIND) $(LEAKS)' EVERY=9 tests/night.sh $(TOOL)
+	RUNNER='$(VALGRIND) $(LEAKS)' tests/causes.sh $(TOOL)
+	RUNNER='$(VALGRIND) $(LEAKS)' EVERY=9 tests/nights.sh $(TOOL)
 	CARGO_TARGET_X86_64_UNKNOWN_LINUX_GNU_RUNNER='$(VALGRIND)' $(CARGO) run $(CARGO_WORDS) -- --sheets 500
 
 # The sheets of the comparison as files.
@@ -179,6 +235,10 @@ bench: $(ARCHIVE)
 night-speed: all
 	python3 tests/night_speed.py $(TOOL)/moonbleat target/night-speed-$(NIGHT) $(NIGHT)
 
+# Pictures and a print of the page are left in target/page-test.
+page-test: all
+	python3 tests/page.py $(TOOL)/moonbleat target/page-test
+
 lint:
 	cppcheck --quiet --std=c11 --enable=warning,style,performance,portability --inconclusive \
 		--error-exitcode=1 --suppress=missingIncludeSystem -Iinclude -Iharness harness tests
@@ -192,4 +252,4 @@ clean:
 
 FORCE:
 
-.PHONY: all archive install uninstall dist demo tool-test test text-test memcheck compare bench night-speed lint check clean FORCE
+.PHONY: all archive ready deps edits-apart install uninstall dist demo tool-test test text-test memcheck compare bench night-speed lint check clean page-test FORCE

@@ -14,15 +14,12 @@
 #include "fields.h"
 #include "judge.h"
 #include "moonbleat.h"
+#include "names.h"
 #include "numbers.h"
 
-/* Which line wrote the bytes from `at` on. */
-struct origin {
-    size_t at;
-    size_t line;
-    size_t column;
-    bool faulty; /* an error was reported for this field */
-};
+/* Words that begin lines which are no fields. */
+#define BYTES_WORD "bytes"
+#define ALLOW_WORD "allow"
 
 struct assembler {
     struct assembly *assembly;
@@ -33,8 +30,6 @@ struct assembler {
     bool unknown;                  /* the last field's word is none: its further lines are passed over */
     const struct field_form *form; /* the field that is open; NULL: none */
     struct part parts[PARTS_MAX];
-    struct origin *origins;
-    size_t origin_count;
     size_t origin_room;
 };
 
@@ -57,28 +52,29 @@ static void put_bytes(struct assembler *assembler, const uint8_t *bytes, size_t 
 /* Says that the line writes the bytes that follow. */
 static bool add_origin(struct assembler *assembler, size_t column)
 {
-    if (assembler->origin_count == assembler->origin_room) {
+    struct assembly *assembly = assembler->assembly;
+    if (assembly->origin_count == assembler->origin_room) {
         size_t room = 2 * assembler->origin_room + 64;
-        struct origin *origins = realloc(assembler->origins, room * sizeof *origins);
+        struct asm_origin *origins = realloc(assembly->origins, room * sizeof *origins);
         if (origins == NULL) {
             return false;
         }
-        assembler->origins = origins;
+        assembly->origins = origins;
         assembler->origin_room = room;
     }
-    struct origin origin = {assembler->assembly->sheet.len, assembler->line.number, column, false};
-    assembler->origins[assembler->origin_count++] = origin;
+    struct asm_origin origin = {assembly->sheet.len, assembler->line.number, column, false};
+    assembly->origins[assembly->origin_count++] = origin;
     return true;
 }
 
 /* The line that opened the last field. */
-static struct origin *last_origin(const struct assembler *assembler)
+static struct asm_origin *last_origin(const struct assembler *assembler)
 {
-    return &assembler->origins[assembler->origin_count - 1];
+    return &assembler->assembly->origins[assembler->assembly->origin_count - 1];
 }
 
 /* Reports what is wrong with the field of a line, unless an error of it was reported. */
-static void report_field(struct assembler *assembler, const struct origin *origin, const struct text *sentence)
+static void report_field(struct assembler *assembler, const struct asm_origin *origin, const struct text *sentence)
 {
     if (!origin->faulty) {
         add_error(assembler->assembly, origin->line, origin->column, sentence);
@@ -203,10 +199,23 @@ static void close_field(struct assembler *assembler)
     }
 }
 
+/* A field of a later edition than the sheet's is told where its word stands, whatever else is wrong with it. */
+static void judge_word(struct assembler *assembler, const struct field_form *form, struct token word)
+{
+    const struct bytes *sheet = &assembler->assembly->sheet;
+    unsigned edition = edition_of(sheet->at, sheet->len);
+    if (!assembler->assembly->allows_refused && !is_known_field(edition, form)) {
+        struct text sentence = {.len = 0};
+        add_later_edition(&sentence, form, edition);
+        report(&assembler->line, word.column, &sentence);
+    }
+}
+
 /* Opens a field and takes what stands on its first line. */
-static void take_field(struct assembler *assembler, const struct field_form *form)
+static void take_field(struct assembler *assembler, const struct field_form *form, struct token word)
 {
     assembler->form = form;
+    judge_word(assembler, form, word);
     memset(assembler->parts, 0, sizeof assembler->parts);
     take_label(assembler, form);
     for (size_t i = 0; i < form->part_count && form->parts[i].word == NULL; i++) {
@@ -240,7 +249,11 @@ static void expect_line_end(struct line *line)
 {
     struct token token = peek(line);
     if (token.len > 0) {
-        report_expected(line, "expected the end of the line", token);
+        struct nearest nearest = nearest_to(token.at, token.len);
+        if (line->part != NULL) {
+            consider_keywords(&nearest, line->part, 0);
+        }
+        report_misspelt(line, "expected the end of the line", token, &nearest);
     }
 }
 
@@ -249,7 +262,7 @@ static void take_allow(struct assembler *assembler)
     struct token token = take(&assembler->line);
     if (!is_word(token, "refused")) {
         report_expected(&assembler->line, "expected 'refused'", token);
-    } else if (assembler->origin_count > 0) {
+    } else if (assembler->assembly->origin_count > 0) {
         struct text sentence = {.len = 0};
         add_text(&sentence, "'allow refused' must stand before the first field");
         report(&assembler->line, token.column, &sentence);
@@ -306,6 +319,23 @@ static bool is_part_word(struct token word)
     return false;
 }
 
+/* Which first word of a line may be meant. */
+static struct nearest nearest_first_word(struct token word)
+{
+    struct nearest nearest = nearest_to(word.at, word.len);
+    for (size_t i = 0; i < field_form_count; i++) {
+        consider(&nearest, field_forms[i].name);
+        for (size_t j = 0; j < field_forms[i].part_count; j++) {
+            if (field_forms[i].parts[j].word != NULL) {
+                consider(&nearest, field_forms[i].parts[j].word);
+            }
+        }
+    }
+    consider(&nearest, BYTES_WORD);
+    consider(&nearest, ALLOW_WORD);
+    return nearest;
+}
+
 /* A line that begins no field: a further one of the open field, or nothing known. */
 static void take_other_line(struct assembler *assembler, struct token word)
 {
@@ -321,6 +351,10 @@ static void take_other_line(struct assembler *assembler, struct token word)
         add_text(&sentence, "'");
         add_token(&sentence, word);
         add_text(&sentence, is_part ? "' does not belong to the field before it" : "' begins no field");
+        if (!is_part) {
+            struct nearest nearest = nearest_first_word(word);
+            add_nearest(&sentence, &nearest, "'");
+        }
         add_error(assembler->assembly, assembler->line.number, word.column, &sentence);
     }
     if (!is_part) {
@@ -337,8 +371,8 @@ static bool take_line(struct assembler *assembler)
         return true;
     }
     const struct field_form *form = find_field(word);
-    bool is_bytes = is_word(word, "bytes");
-    if (is_word(word, "allow")) {
+    bool is_bytes = is_word(word, BYTES_WORD);
+    if (is_word(word, ALLOW_WORD)) {
         close_field(assembler);
         take_allow(assembler);
         expect_line_end(&assembler->line);
@@ -353,7 +387,7 @@ static bool take_line(struct assembler *assembler)
         if (is_bytes) {
             take_bytes(assembler);
         } else {
-            take_field(assembler, form);
+            take_field(assembler, form, word);
         }
         expect_line_end(&assembler->line);
     }
@@ -369,9 +403,9 @@ static bool take_lines(struct assembler *assembler, const char *text, size_t len
         const char *line_end = newline == NULL ? end : newline;
         const char *comment = memchr(text, '#', (size_t)(line_end - text));
         assembler->line = (struct line){assembler->assembly, text, text, comment == NULL ? line_end : comment,
-                                        assembler->line.number + 1, false, false};
+                                        assembler->line.number + 1, NULL, false, false};
         done = take_line(assembler);
-        if (assembler->line.faulty && assembler->origin_count > 0) {
+        if (assembler->line.faulty && assembler->assembly->origin_count > 0) {
             last_origin(assembler)->faulty = true;
         }
         text = newline == NULL ? end : newline + 1;
@@ -384,17 +418,18 @@ static bool take_lines(struct assembler *assembler, const char *text, size_t len
 /* Judges each field behind those before it, as the library reads them. */
 static void judge_sheet(struct assembler *assembler)
 {
-    const struct bytes *sheet = &assembler->assembly->sheet;
+    const struct assembly *assembly = assembler->assembly;
+    const struct bytes *sheet = &assembly->sheet;
     struct reading reading = {.rank = EDITION_RANK};
     struct field field;
     size_t at = 0, origin = 0;
     for (; field_at(sheet->at, sheet->len, at, &field); at = field_end(&field)) {
         struct text sentence;
-        while (origin + 1 < assembler->origin_count && assembler->origins[origin + 1].at <= at) {
+        while (origin + 1 < assembly->origin_count && assembly->origins[origin + 1].at <= at) {
             origin++;
         }
         if (judge_field(&reading, &field, &sentence) != 0) {
-            report_field(assembler, &assembler->origins[origin], &sentence);
+            report_field(assembler, &assembly->origins[origin], &sentence);
         }
         if (field.form != NULL) {
             note_field(&reading, &field);
@@ -405,7 +440,7 @@ static void judge_sheet(struct assembler *assembler)
         add_text(&sentence, HEAD_CUT_SENTENCE, "sheet", sheet->len - at);
         report_field(assembler, last_origin(assembler), &sentence);
     } else if (reading.counts[EDITION_RANK] == 0) {
-        const struct origin end = {at, assembler->line.number == 0 ? 1 : assembler->line.number, 1, false};
+        const struct asm_origin end = {at, assembly->last_line, 1, false};
         add_text(&sentence, NO_EDITION_SENTENCE);
         report_field(assembler, &end, &sentence);
     }
@@ -415,8 +450,14 @@ bool assemble(const char *text, size_t len, struct assembly *assembly)
 {
     memset(assembly, 0, sizeof *assembly);
     struct assembler assembler = {.assembly = assembly};
+    size_t mark = strlen(BYTE_ORDER_MARK);
+    if (len >= mark && memcmp(text, BYTE_ORDER_MARK, mark) == 0) {
+        text += mark;
+        len -= mark;
+    }
     assembly->sheet.at = malloc(SHEET_LIMIT);
     bool done = assembly->sheet.at != NULL && take_lines(&assembler, text, len);
+    assembly->last_line = assembler.line.number == 0 ? 1 : assembler.line.number;
     if (done) {
         close_field(&assembler);
         if (!assembly->allows_refused) {
@@ -427,23 +468,36 @@ bool assemble(const char *text, size_t len, struct assembly *assembly)
         add_text(&sentence, "there is not enough room to work in");
         add_error(assembly, assembler.line.number, 1, &sentence);
     }
-    free(assembler.origins);
     return assembly->error_count == 0;
+}
+
+size_t asm_line_of(const struct assembly *assembly, size_t byte)
+{
+    size_t line = assembly->last_line;
+    for (size_t i = 0; byte < assembly->sheet.len && i < assembly->origin_count && assembly->origins[i].at <= byte;
+         i++) {
+        line = assembly->origins[i].line;
+    }
+    return line;
 }
 
 void print_asm_errors(const char *name, const struct assembly *assembly)
 {
     for (size_t i = 0; i < assembly->error_count && i < ASM_ERRORS_KEPT; i++) {
         const struct asm_error *error = &assembly->errors[i];
-        fprintf(stderr, "%s:%zu:%zu: %s\n", name, error->line, error->column, error->sentence.at);
+        put_word(stderr, name);
+        fprintf(stderr, ":%zu:%zu: %s\n", error->line, error->column, error->sentence.at);
     }
     if (assembly->error_count > ASM_ERRORS_KEPT) {
-        fprintf(stderr, "%s: %zu errors, the first %d are printed\n", name, assembly->error_count, ASM_ERRORS_KEPT);
+        put_word(stderr, name);
+        fprintf(stderr, ": %zu errors, the first %d are printed\n", assembly->error_count, ASM_ERRORS_KEPT);
     }
 }
 
 void free_assembly(struct assembly *assembly)
 {
     free(assembly->sheet.at);
+    free(assembly->origins);
     assembly->sheet = (struct bytes){NULL, 0};
+    assembly->origins = NULL;
 }

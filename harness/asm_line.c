@@ -83,6 +83,12 @@ void report(struct line *line, size_t column, const struct text *sentence)
 
 void report_expected(struct line *line, const char *sentence, struct token found)
 {
+    struct nearest none = nearest_to(found.at, found.len);
+    report_misspelt(line, sentence, found, &none);
+}
+
+void report_misspelt(struct line *line, const char *sentence, struct token found, const struct nearest *nearest)
+{
     bool at_end = found.len == 0;
     struct text text = {.len = 0};
     add_text(&text, "%s", sentence);
@@ -90,6 +96,7 @@ void report_expected(struct line *line, const char *sentence, struct token found
         add_text(&text, ", not '");
         add_token(&text, found);
         add_text(&text, "'");
+        add_nearest(&text, nearest, "'");
     }
     if (!at_end || !line->ends_early) {
         report(line, found.column, &text);

@@ -3,6 +3,7 @@
 #define ASM_LINE_H
 
 #include "asm.h"
+#include "nearest.h"
 
 /* A word of a line; an empty one stands for the line's end. */
 struct token {
@@ -17,6 +18,7 @@ struct line {
     const char *rest; /* the words that are not taken yet */
     const char *end;
     size_t number;
+    const struct part_form *part; /* whose numbers were taken last; NULL: none */
     bool faulty;      /* an error was reported */
     bool ends_early;  /* that the line ends too soon was reported */
 };
@@ -43,5 +45,8 @@ void report(struct line *line, size_t column, const struct text *sentence);
 
 /* Reports "SENTENCE, not 'WORD'" at a word; at the line's end "SENTENCE", and there only once. */
 void report_expected(struct line *line, const char *sentence, struct token found);
+
+/* The same, and which word may be meant. */
+void report_misspelt(struct line *line, const char *sentence, struct token found, const struct nearest *nearest);
 
 #endif

@@ -6,11 +6,17 @@
 #include "moonbleat.h"
 #include "numbers.h"
 
-void put_number(struct part *part, uint32_t number, size_t width)
+static void write_number(uint8_t *bytes, uint32_t number, size_t width)
 {
     for (size_t i = 0; i < width; i++) {
-        part->bytes[part->len++] = (uint8_t)(number >> 8 * i);
+        bytes[i] = (uint8_t)(number >> 8 * i);
     }
+}
+
+void put_number(struct part *part, uint32_t number, size_t width)
+{
+    write_number(part->bytes + part->len, number, width);
+    part->len += width;
 }
 
 /* -- Words into numbers ----------------------------------------------------------------------- */
@@ -77,6 +83,25 @@ static void add_names(struct text *text, const struct number_form *form)
     }
 }
 
+/* Which of the words that may stand in a number's place may be meant. */
+static struct nearest nearest_name(const struct number_form *form, struct token token)
+{
+    struct nearest nearest = nearest_to(token.at, token.len);
+    for (int64_t i = form->low; form->name_of != NULL && i <= form->high; i++) {
+        const char *name = form->name_of((uint32_t)i);
+        if (name != NULL) {
+            consider(&nearest, name);
+        }
+    }
+    if (may_be_none(form)) {
+        consider(&nearest, NONE_WORD);
+    }
+    if (form->sort == OBJECT) {
+        consider(&nearest, ZEROS_WORD);
+    }
+    return nearest;
+}
+
 /* What may stand in a number's place, in words. */
 static struct text expected(const struct number_form *form)
 {
@@ -141,15 +166,37 @@ static uint32_t judged(struct line *line, const struct number_form *form, const 
 
 /* -- Numbers of a line ------------------------------------------------------------------------ */
 
-/* Whether a word stands before a later number of a part. */
-static bool is_later_keyword(const struct part_form *part, const struct number_form *form, struct token token)
+/* Whether the numbers of a part stand in any order, each behind its keyword: those of a line of their own, as a
+ * dimension has it. */
+static bool is_any_order(const struct part_form *part)
 {
-    for (const struct number_form *later = form + 1; later < part->numbers + part->count; later++) {
-        if (later->keyword != NULL && is_word(token, later->keyword)) {
-            return true;
+    return part->word != NULL && part->repeat != ONCE;
+}
+
+/* The number of a part, from one on, whose keyword a word is; the part's count if there is none. */
+static size_t find_keyword(const struct part_form *part, size_t from, struct token token)
+{
+    size_t i = from;
+    while (i < part->count && (part->numbers[i].keyword == NULL || !is_word(token, part->numbers[i].keyword))) {
+        i++;
+    }
+    return i;
+}
+
+void consider_keywords(struct nearest *nearest, const struct part_form *part, size_t from)
+{
+    for (size_t i = from; i < part->count; i++) {
+        if (part->numbers[i].keyword != NULL) {
+            consider(nearest, part->numbers[i].keyword);
         }
     }
-    return false;
+}
+
+/* Whether a word, in place of a number, stands before another one of its part. */
+static bool is_other_keyword(const struct part_form *part, const struct number_form *form, struct token token)
+{
+    size_t from = is_any_order(part) ? 0 : (size_t)(form - part->numbers) + 1;
+    return find_keyword(part, from, token) < part->count;
 }
 
 /* The word for zeros is judged by the sheet so far, since its number has another meaning in an older
@@ -174,11 +221,12 @@ static uint32_t take_number(struct line *line, const struct part_form *part, con
 {
     struct token token = peek(line);
     int64_t number = 0;
-    if (!is_later_keyword(part, form, token)) {
+    if (!is_other_keyword(part, form, token)) {
         take(line);
     }
     if (!parse_word(form, token, &number)) {
-        report_expected(line, expected(form).at, token);
+        struct nearest nearest = nearest_name(form, token);
+        report_misspelt(line, expected(form).at, token, &nearest);
         return 0;
     }
     if (is_zeros_word(form, token)) {
@@ -207,21 +255,29 @@ static void take_shape(struct line *line, const struct number_form *rows, const 
     put_number(part, judged(line, columns, bounds, column_count, second.column), columns->width);
 }
 
-/* Takes the word before a number; whether there is one. Where it is not, the line goes on at the
- * word further on, or else behind the word in its place, which may be misspelt. */
-static bool take_keyword(struct line *line, const struct number_form *form)
+/* Reports that the keyword of a number must stand here, or one from `from` on. */
+static void report_keyword(struct line *line, const struct part_form *part, const struct number_form *form, size_t from)
 {
     struct token token = peek(line);
-    if (is_word(token, form->keyword)) {
+    struct nearest nearest = nearest_to(token.at, token.len);
+    struct text sentence = {.len = 0};
+    consider_keywords(&nearest, part, from);
+    add_text(&sentence, "expected '%s' and a number", form->keyword);
+    report_misspelt(line, sentence.at, token, &nearest);
+}
+
+/* Takes the word before a number; whether there is one. Where it is not, the line goes on at the
+ * word further on, or else behind the word in its place, which may be misspelt. */
+static bool take_keyword(struct line *line, const struct part_form *part, const struct number_form *form)
+{
+    if (is_word(peek(line), form->keyword)) {
         take(line);
         return true;
     }
     if (form->may_lack) {
         return false;
     }
-    struct text sentence = {.len = 0};
-    add_text(&sentence, "expected '%s' and a number", form->keyword);
-    report_expected(line, sentence.at, token);
+    report_keyword(line, part, form, (size_t)(form - part->numbers));
     if (!skip_to(line, form->keyword)) {
         take(line);
     }
@@ -230,10 +286,10 @@ static bool take_keyword(struct line *line, const struct number_form *form)
 
 /* Whether the next number is given; one without a word of its own may lack where its neighbour
  * does, and a view where no view stands. */
-static bool is_given(struct line *line, const struct number_form *form, bool neighbour)
+static bool is_given(struct line *line, const struct part_form *part, const struct number_form *form, bool neighbour)
 {
     if (form->keyword != NULL) {
-        return take_keyword(line, form);
+        return take_keyword(line, part, form);
     }
     if (form->sort == VIEW) {
         struct token token = peek(line);
@@ -242,10 +298,101 @@ static bool is_given(struct line *line, const struct number_form *form, bool nei
     return !form->may_lack || neighbour;
 }
 
+/* -- Numbers in any order ---------------------------------------------------------------------- */
+
+/* The numbers of a part that are written already, where they are, and which of them were given. */
+struct named {
+    const struct part_form *form;
+    uint8_t *bytes;
+    unsigned given;
+};
+
+static bool was_given(const struct named *named, size_t index)
+{
+    return (named->given & 1u << index) != 0;
+}
+
+static void take_named_number(struct line *line, struct named *named, size_t index, const struct bounds *bounds)
+{
+    uint8_t *bytes = named->bytes;
+    for (size_t i = 0; i < index; i++) {
+        bytes += named->form->numbers[i].width;
+    }
+    const struct number_form *form = &named->form->numbers[index];
+    write_number(bytes, take_number(line, named->form, form, bounds), form->width);
+    named->given |= 1u << index;
+}
+
+/* The first number that must be given and was not; the part's count if there is none. */
+static size_t find_missing(const struct named *named)
+{
+    size_t i = 0;
+    while (i < named->form->count && (named->form->numbers[i].may_lack || was_given(named, i))) {
+        i++;
+    }
+    return i;
+}
+
+/* Takes what stands in place of a missing keyword: it may be misspelt, unless that one stands further on. */
+static void take_misplaced(struct line *line, struct named *named, size_t missing, const struct bounds *bounds)
+{
+    struct line ahead = *line;
+    report_keyword(line, named->form, &named->form->numbers[missing], 0);
+    if (!skip_to(&ahead, named->form->numbers[missing].keyword)) {
+        take(line);
+        take_named_number(line, named, missing, bounds);
+        return;
+    }
+    while (find_keyword(named->form, 0, peek(line)) == named->form->count) {
+        take(line);
+    }
+}
+
+/* Takes a keyword and its number, or reports what stands there in their place; false where nothing of the part
+ * is left to take. */
+static bool take_next(struct line *line, struct named *named, const struct bounds *bounds)
+{
+    struct token token = peek(line);
+    size_t index = find_keyword(named->form, 0, token), missing = find_missing(named);
+    if (index == named->form->count) {
+        if (missing < named->form->count) {
+            take_misplaced(line, named, missing, bounds);
+        }
+        return missing < named->form->count;
+    }
+    if (was_given(named, index)) {
+        struct text sentence = {.len = 0};
+        add_text(&sentence, "'%s' is given twice", named->form->numbers[index].keyword);
+        report(line, token.column, &sentence);
+    }
+    take(line);
+    take_named_number(line, named, index, bounds);
+    return true;
+}
+
+static void take_in_any_order(struct line *line, const struct part_form *form, const struct bounds *bounds,
+                              struct part *part)
+{
+    struct named named = {form, part->bytes + part->len, 0};
+    for (size_t i = 0; i < form->count; i++) {
+        put_number(part, form->numbers[i].lacking, form->numbers[i].width);
+    }
+    while (take_next(line, &named, bounds)) {
+    }
+    part->times++;
+}
+
+/* -- Parts ------------------------------------------------------------------------------------- */
+
 void take_part(struct line *line, const struct reading *before, const struct part_form *form, struct part *part)
 {
     struct bounds bounds = {before, line->assembly->allows_refused, 0};
     bool given = true;
+    line->part = form;
+    if (is_any_order(form)) {
+        take_in_any_order(line, form, &bounds, part);
+        return;
+    }
     for (size_t i = 0; i < form->count; i++) {
         const struct number_form *number = &form->numbers[i];
         if (number->sort == ROWS) {
@@ -257,7 +404,7 @@ void take_part(struct line *line, const struct reading *before, const struct par
         if (number->sort == HAS_BIAS) {
             bits = is_word(peek(line), number[1].keyword);
         } else if (!is_computed(number->sort)) {
-            given = is_given(line, number, given);
+            given = is_given(line, form, number, given);
             bits = given ? take_number(line, form, number, &bounds) : bits;
         }
         bounds.kind = number->sort == KIND ? bits : bounds.kind;
@@ -270,7 +417,7 @@ void take_list(struct line *line, const struct part_form *form, struct part *par
 {
     const struct bounds bounds = {NULL, line->assembly->allows_refused, 0};
     const struct number_form *number = &form->numbers[0];
-    take_keyword(line, number);
+    take_keyword(line, form, number);
     do {
         put_number(part, take_number(line, form, number, &bounds), number->width);
         part->times++;

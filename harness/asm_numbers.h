@@ -22,6 +22,9 @@ void put_number(struct part *part, uint32_t number, size_t width);
  * view; NULL: it is not known. */
 void take_part(struct line *line, const struct reading *before, const struct part_form *form, struct part *part);
 
+/* Considers the keywords of a part, from a number on. */
+void consider_keywords(struct nearest *nearest, const struct part_form *part, size_t from);
+
 /* Takes the numbers of a part that is repeated on one line. */
 void take_list(struct line *line, const struct part_form *form, struct part *part);
 

@@ -10,6 +10,11 @@
 #include <sys/stat.h>
 #include <unistd.h>
 
+#include "claims.h"
+
+/* Room for a refusal's line, more than its numbers take. */
+enum { REFUSAL_ROOM = 128 };
+
 bool is_there(const struct location *location, const char *name)
 {
     struct stat status;
@@ -116,16 +121,99 @@ static bool read_registers(const struct location *location, const char *name, st
     return true;
 }
 
-void judge_card(struct reference *reference, const struct location *location, const char *after, const char *registers,
-                struct card_files *files, struct finding *finding)
+static bool read_trace(const struct reference *reference, const struct location *location, const char *name,
+                       struct card_files *files, struct trace_difference *difference, struct finding *finding)
 {
-    struct finding unread;
-    if (!read_after(reference, location, after, files, finding)) {
+    struct text refusal;
+    struct bytes trace = {files->trace, 0};
+    if (!read_part(location, name, PART_TRACE, (struct room){files->trace, sizeof files->trace}, &trace.len, finding)) {
+        return false;
+    }
+    if (trace.len > MOONBLEAT_TRACE_MAX) {
+        set_unreadable(finding, PART_TRACE, "it has more than %d bytes", MOONBLEAT_TRACE_MAX);
+        return false;
+    }
+    if (!compare_trace(reference, trace, difference, &refusal)) {
+        set_unreadable(finding, PART_TRACE, "%s", refusal.at);
+        return false;
+    }
+    return true;
+}
+
+/* Reads a card's refusal. */
+static bool read_refusal(const struct location *location, const char *name, uint32_t refusal[3],
+                         struct finding *finding)
+{
+    uint8_t line[REFUSAL_ROOM] = {0};
+    size_t len;
+    if (!read_part(location, name, PART_REFUSAL, (struct room){line, sizeof line}, &len, finding)) {
+        return false;
+    }
+    if (len == sizeof line || !parse_refusal((const char *)line, len, refusal)) {
+        set_unreadable(finding, PART_REFUSAL, "it is not a line with a refusal's number and place");
+        return false;
+    }
+    return true;
+}
+
+/* The finding of a card whose answer is another than the reference's, or agrees. */
+static void set_claim(const uint32_t wants[3], const uint32_t has[3], struct finding *finding, uint32_t *counts)
+{
+    *finding = (struct finding){.verdict = VERDICT_AGREES};
+    compare_refusals(wants, has, &finding->claim);
+    if (finding->claim.differs != 0) {
+        finding->verdict = VERDICT_DIFFERS;
+        counts[REFUSALS] = 1;
+    }
+}
+
+/* Reads a card's refusal and compares it. */
+static void judge_claim(const uint32_t wants[3], const struct location *location, const char *name,
+                        struct finding *finding, uint32_t *counts)
+{
+    uint32_t refusal[3];
+    if (read_refusal(location, name, refusal, finding)) {
+        set_claim(wants, refusal, finding, counts);
+    }
+}
+
+void judge_card(struct reference *reference, const struct location *location, const struct card_names *names,
+                struct card_files *files, struct finding *finding, uint32_t *counts)
+{
+    struct finding unread = {.verdict = VERDICT_AGREES};
+    struct trace_difference trace = {.differs = 0};
+    memset(counts, 0, reference->shown.census.count * sizeof counts[0]);
+    if (names->refusal != NULL) {
+        judge_claim((const uint32_t[3]){0}, location, names->refusal, finding, counts);
         return;
     }
-    files->has_registers = registers != NULL && read_registers(location, registers, files, &unread);
-    compare_card(reference, files->after, files->has_registers ? &files->registers : NULL, finding);
-    if (registers != NULL && !files->has_registers && finding->verdict == VERDICT_AGREES) {
+    if (!read_after(reference, location, names->after, files, finding)) {
+        return;
+    }
+    files->has_registers = names->registers != NULL && read_registers(location, names->registers, files, &unread);
+    if (names->trace != NULL) {
+        read_trace(reference, location, names->trace, files, &trace, &unread);
+    }
+    compare_card(reference, files->after, files->has_registers ? &files->registers : NULL, finding, counts);
+    finding->trace = trace;
+    if (trace.differs != 0 && finding->verdict == VERDICT_AGREES) {
+        finding->verdict = VERDICT_DIFFERS;
+        counts[TRACES] = 1;
+    }
+    if (finding->verdict == VERDICT_AGREES && unread.verdict != VERDICT_AGREES) {
         *finding = unread;
+    }
+}
+
+void judge_refusal(const struct finding *refused, const struct location *location, const struct card_names *names,
+                   struct finding *finding, uint32_t *counts)
+{
+    memset(counts, 0, APARTS * sizeof counts[0]);
+    if (names->refusal != NULL) {
+        judge_claim(refused->refusal, location, names->refusal, finding, counts);
+    } else if (names->after != NULL) {
+        set_claim(refused->refusal, (const uint32_t[3]){0}, finding, counts);
+    } else {
+        *finding = *refused;
     }
 }

@@ -21,6 +21,15 @@ struct card_files {
     uint8_t after[MOONBLEAT_MEMORY_MAX + 1];
     struct result registers;
     bool has_registers;
+    uint8_t trace[MOONBLEAT_TRACE_MAX + 1];
+};
+
+/* Their names; NULL: it is not given. */
+struct card_names {
+    const char *after;
+    const char *registers;
+    const char *trace;
+    const char *refusal;
 };
 
 /* Where names of files are looked up. */
@@ -43,9 +52,13 @@ void set_unreadable(struct finding *finding, enum part part, const char *format,
 /* Says that the reference's sheet is refused. */
 void set_refused(struct finding *finding, const struct refused *refused);
 
-/* Reads a card's memory, and its registers unless `registers` is NULL, and compares them. A memory
- * that differs is a difference also where the registers cannot be read. */
-void judge_card(struct reference *reference, const struct location *location, const char *after, const char *registers,
-                struct card_files *files, struct finding *finding);
+/* Reads the files of a card and compares them, as compare_card does; of a sheet that the reference accepts. A memory
+ * that differs is a difference also where another file cannot be read. */
+void judge_card(struct reference *reference, const struct location *location, const struct card_names *names,
+                struct card_files *files, struct finding *finding, uint32_t *counts);
+
+/* The same of one that it refuses with `refused`, which is the finding where the card left nothing. */
+void judge_refusal(const struct finding *refused, const struct location *location, const struct card_names *names,
+                   struct finding *finding, uint32_t *counts);
 
 #endif

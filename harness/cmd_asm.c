@@ -5,11 +5,30 @@
 #include "command.h"
 #include "files.h"
 #include "moonbleat.h"
+#include "names.h"
 #include "outputs.h"
 #include "refusals.h"
+#include "sheet_file.h"
+#include "steps.h"
 
-/* Texts of more than a megabyte are no sheets of people. */
-enum { LONGEST_TEXT = 1 << 20 };
+/* Whether a sheet is read; what is refused then is a step. */
+static bool is_read(const struct refused *refused)
+{
+    uint32_t number = refused->answer[MOONBLEAT_NUMBER];
+    return number == 0 || number > MOONBLEAT_REFUSED_EDITION;
+}
+
+/* The warning of a refusal, at the line of its field or its step. */
+static void print_warning(const char *name, const struct assembly *assembly, const struct refused *refused)
+{
+    struct step step;
+    size_t byte = refused->answer[MOONBLEAT_PLACE];
+    if (is_read(refused) && find_step(refused, refused->answer[MOONBLEAT_PLACE], &step)) {
+        byte = step.field.at;
+    }
+    put_word(stderr, name);
+    fprintf(stderr, ":%zu: warning: %s\n", asm_line_of(assembly, byte), refusal_line(refused).at);
+}
 
 /* Writes a sheet that has no error: the library has the last word on it. A sheet that is refused for
  * the longest memory is refused for every one. */
@@ -20,13 +39,12 @@ static int write_sheet(const struct request *request, const struct assembly *ass
     const struct refused refused = {.sheet = sheet->at, .sheet_len = sheet->len, .memory_len = MOONBLEAT_MEMORY_MAX,
                                     .answer = answer};
     uint32_t number = moonbleat_check(sheet->at, sheet->len, MOONBLEAT_MEMORY_MAX, answer);
-    bool is_read = number == 0 || number > MOONBLEAT_REFUSED_EDITION;
-    if (!is_read && !assembly->allows_refused) {
+    if (!is_read(&refused) && !assembly->allows_refused) {
         print_refusal(&refused);
         return REFUSED;
     }
     if (number != 0) {
-        fprintf(stderr, "%s: warning: %s\n", request->files[0], refusal_line(&refused).at);
+        print_warning(request->files[0], assembly, &refused);
     }
     const struct output output = {request->words[OPTION_OUT], sheet->at, sheet->len, NULL};
     return write_outputs(&output, 1) ? DONE : FAILED;
@@ -35,21 +53,12 @@ static int write_sheet(const struct request *request, const struct assembly *ass
 static int do_asm(const struct request *request)
 {
     struct bytes text;
-    if (!read_file(request->files[0], (size_t)LONGEST_TEXT + 1, &text)) {
+    if (!read_file(request->files[0], (size_t)SHEET_TEXT_MAX + 1, &text)) {
         return FAILED;
     }
-    int status = FAILED;
     struct assembly assembly;
-    if (text.len > LONGEST_TEXT) {
-        fprintf(stderr, "moonbleat: %s: longer than %d bytes\n", request->files[0], LONGEST_TEXT);
-    } else {
-        if (assemble((const char *)text.at, text.len, &assembly)) {
-            status = write_sheet(request, &assembly);
-        } else {
-            print_asm_errors(request->files[0], &assembly);
-        }
-        free_assembly(&assembly);
-    }
+    int status = assemble_file(request->files[0], &text, &assembly) ? write_sheet(request, &assembly) : FAILED;
+    free_assembly(&assembly);
     free(text.at);
     return status;
 }
@@ -61,6 +70,7 @@ const struct command asm_command = {
     .files_max = 1,
     .takes = SET(OPTION_OUT),
     .needs = SET(OPTION_OUT),
+    .out = "the sheet",
     .summary = "make a sheet of its text form",
     .details = "One line a field, # begins a comment; docs/SHEETS.md describes the form. For instance:\n"
                "\n"
@@ -81,7 +91,8 @@ const struct command asm_command = {
                "  load r1 object zeros L0 base 0\n"
                "\n"
                "The first ten errors are printed as TEXT:LINE:COLUMN: and a sentence. A sheet that is read but\n"
-               "refused whatever the memory is written with a warning. Behind a first line 'allow refused'\n"
-               "numbers may be out of their ranges and fields out of order, with a warning too.\n",
+               "refused whatever the memory is written with a warning at the line of its step. Behind a first\n"
+               "line 'allow refused' numbers may be out of their ranges and fields out of order, with a warning\n"
+               "too.\n",
     .perform = do_asm,
 };

@@ -6,18 +6,19 @@
 #include <stdlib.h>
 #include <string.h>
 
+#include "answers.h"
 #include "cards.h"
 #include "command.h"
 #include "files.h"
 #include "kinds.h"
 #include "names.h"
-#include "refusals.h"
+#include "report_fields.h"
+#include "sheet_file.h"
 
 /* A card on the command line. */
 struct card {
     char name[NAME_ROOM];
-    const char *after;
-    const char *registers; /* NULL: not given */
+    struct card_names files;
 };
 
 /* -- Every difference ------------------------------------------------------------------------- */
@@ -65,7 +66,7 @@ static void print_run(const struct reference *reference, const uint8_t *after, c
     }
 }
 
-static void print_runs(struct reference *reference, const uint8_t *after)
+static void print_runs(const struct reference *reference, const uint8_t *after)
 {
     struct run run = {0, 0};
     while (find_run(reference, after, run.end, &run)) {
@@ -150,14 +151,14 @@ static int parse_cards(const struct request *request, struct card *cards, size_t
 {
     for (size_t i = 0; i < request->repeated_count; i++) {
         const struct repeated *repeated = &request->repeated[i];
-        struct card card = {.registers = NULL};
-        if (!parse_pair(repeated->word, card.name, &card.after)) {
+        struct card card = {.files = {.after = NULL}};
+        if (!parse_pair(repeated->word, card.name, &card.files.after)) {
             const struct option_form *form = &option_forms[repeated->option];
-            return wrong_use(&diff_command, "%s %s: not a %s", form->name, repeated->word, form->value);
+            return wrong_use(&diff_command, "%s %s: not a %s", form->name, shown(repeated->word).at, form->value);
         }
         if (repeated->option == OPTION_CARD) {
             if (find_card(cards, *count, card.name) != NULL) {
-                return wrong_use(&diff_command, "card %s is given twice", card.name);
+                return wrong_use(&diff_command, "card %s is given twice", shown(card.name).at);
             }
             cards[(*count)++] = card;
         }
@@ -165,61 +166,130 @@ static int parse_cards(const struct request *request, struct card *cards, size_t
     return DONE;
 }
 
-/* Takes the cards' registers from the command line. */
-static int parse_registers(const struct request *request, struct card *cards, size_t count)
+/* Takes the cards' other files from the command line. */
+static int parse_files(const struct request *request, struct card *cards, size_t count)
 {
     for (size_t i = 0; i < request->repeated_count; i++) {
-        if (request->repeated[i].option != OPTION_CARD_REGISTERS) {
+        enum option option = request->repeated[i].option;
+        const char *option_name = option_forms[option].name, *file = NULL;
+        char name[NAME_ROOM];
+        if (option == OPTION_CARD) {
             continue;
         }
-        char name[NAME_ROOM];
-        const char *file = NULL;
         parse_pair(request->repeated[i].word, name, &file);
         struct card *card = find_card(cards, count, name);
         if (card == NULL) {
-            return wrong_use(&diff_command, "--registers %s: no card has this name", name);
+            return wrong_use(&diff_command, "%s %s: no card has this name", option_name, shown(name).at);
         }
-        if (card->registers != NULL) {
-            return wrong_use(&diff_command, "--registers %s is given twice", name);
+        const char **place = option == OPTION_CARD_TRACE ? &card->files.trace : &card->files.registers;
+        if (*place != NULL) {
+            return wrong_use(&diff_command, "%s %s is given twice", option_name, shown(name).at);
         }
-        card->registers = file;
+        *place = file;
     }
     return DONE;
 }
 
-/* Judges a card and prints what is found. */
-static unsigned diff_card(struct reference *reference, const struct card *card, bool all)
+/* The name of the file that a finding is about. */
+static const char *file_of(const struct card *card, const struct finding *finding)
 {
-    static struct card_files files;
+    switch (finding->part) {
+    case PART_REGISTERS:
+        return card->files.registers;
+    case PART_TRACE:
+        return card->files.trace;
+    default:
+        return card->files.after;
+    }
+}
+
+static void print_card(const struct reference *reference, const struct card *card, const struct finding *finding,
+                       const struct card_files *files, bool all)
+{
     const struct sink sink = {stdout, put_plain};
-    const struct location here = {AT_FDCWD, false};
-    struct finding finding;
-    judge_card(reference, &here, card->after, card->registers, &files, &finding);
     put_name(&sink, card->name);
     putchar(' ');
-    put_finding(&sink, &finding, finding.part == PART_REGISTERS ? card->registers : card->after);
+    put_finding(&sink, finding, file_of(card, finding));
     putchar('\n');
-    if (all && finding.verdict == VERDICT_DIFFERS) {
-        print_runs(reference, files.after);
-        if (files.has_registers) {
-            print_registers(reference, &files.registers);
+    if (all && finding->verdict == VERDICT_DIFFERS) {
+        print_runs(reference, files->after);
+        if (files->has_registers) {
+            print_registers(reference, &files->registers);
         }
     }
-    return finding.verdict;
+}
+
+/* The numbers of an object, if the first is not 0. */
+static void json_numbers(struct json *json, const char *key, const struct number_fields *fields, const void *object)
+{
+    for (size_t i = 0; i < fields->count; i++) {
+        uint32_t number;
+        memcpy(&number, (const char *)object + fields->at[i].offset, sizeof number);
+        if (i == 0 && number == 0) {
+            json_null(json, key);
+            return;
+        }
+        if (i == 0) {
+            json_open(json, key, '{');
+        }
+        json_number(json, fields->at[i].key, number);
+    }
+    json_close(json, '}');
+}
+
+static void json_card(struct json *json, const struct card *card, const struct finding *finding)
+{
+    struct text words = {.len = 0};
+    add_words(&words, finding);
+    json_open(json, NULL, '{');
+    json_name(json, "card", card->name);
+    json_text(json, "verdict", verdict_name(finding->verdict));
+    json_name(json, "detail", words.at);
+    if (finding->verdict == VERDICT_MISSING || finding->verdict == VERDICT_UNREADABLE) {
+        json_name(json, "file", file_of(card, finding));
+    } else {
+        json_null(json, "file");
+    }
+    json_numbers(json, "lead", &lead_fields, &finding->lead);
+    json_numbers(json, "memory", &memory_fields, &finding->memory);
+    json_numbers(json, "registers", &register_fields, &finding->registers);
+    json_numbers(json, "trace", &trace_fields, &finding->trace);
+    json_close(json, '}');
 }
 
 static int diff_cards(const struct request *request, struct bytes sheet, struct bytes memory,
                       const struct card *cards, size_t count)
 {
     static struct reference reference;
+    static struct card_files files;
+    static uint32_t counts[CENSUS_MAX];
+    const struct location here = {AT_FDCWD, false};
     struct tally tally = {{0}};
-    if (!carry_reference(&reference, sheet, memory)) {
-        struct refused refused = refused_reference(&reference);
-        print_refusal(&refused);
+    struct json json = {false};
+    bool is_json = request->words[OPTION_JSON] != NULL, is_accepted = carry_reference(&reference, sheet, memory);
+    struct refused refused = refused_reference(&reference);
+    if (!is_accepted) {
+        answer_refusal(&diff_command, request, &refused);
         return INPUT_REFUSED;
     }
+    if (is_json) {
+        open_answer(&json, &diff_command, &refused);
+        json_number(&json, "memory", (int64_t)memory.len);
+        json_open(&json, "cards", '[');
+    }
     for (size_t i = 0; i < count; i++) {
-        tally.counts[diff_card(&reference, &cards[i], request->words[OPTION_ALL] != NULL)]++;
+        struct finding finding;
+        judge_card(&reference, &here, &cards[i].files, &files, &finding, counts);
+        tally.counts[finding.verdict]++;
+        if (is_json) {
+            json_card(&json, &cards[i], &finding);
+        } else {
+            print_card(&reference, &cards[i], &finding, &files, request->words[OPTION_ALL] != NULL);
+        }
+    }
+    if (is_json) {
+        json_close(&json, ']');
+        close_answer(&json);
     }
     return tally_status(&tally);
 }
@@ -249,7 +319,7 @@ static int do_diff(const struct request *request)
     size_t count = 0;
     int status = parse_cards(request, cards, &count);
     if (status == DONE) {
-        status = parse_registers(request, cards, count);
+        status = parse_files(request, cards, count);
     }
     if (status == DONE) {
         status = read_and_diff(request, cards, count);
@@ -263,13 +333,15 @@ const struct command diff_command = {
     .files = "SHEET MEMORY",
     .files_min = 2,
     .files_max = 2,
-    .takes = SET(OPTION_CARD) | SET(OPTION_CARD_REGISTERS) | SET(OPTION_ALL),
+    .takes = SET(OPTION_CARD) | SET(OPTION_CARD_REGISTERS) | SET(OPTION_CARD_TRACE) | SET(OPTION_ALL) |
+             SET(OPTION_JSON),
     .needs = SET(OPTION_CARD),
     .summary = "compare what cards left with what the sheet must leave",
-    .details = "A line for each card: agrees, or its first difference in memory and in registers, with the\n"
-               "last step and element that stores to that byte:\n"
-               "  card7 differs: byte 300 wants 00, has 55; step 6 store r2, element 11 (0, 11), byte 0 of 4;\n"
-               "  12 bytes differ in 3 runs\n"
+    .details = "A line for each card: agrees, or the earliest step that made an element that differs, and the\n"
+               "first difference in memory, with the last step and element that stores to that byte, in registers\n"
+               "and in the trace:\n"
+               "  card7 differs: step 2 fill r2, element 11 (0, 11); byte 300 wants 00, has 55; step 6 store r2,\n"
+               "  element 11 (0, 11), byte 0 of 4; 12 bytes differ in 3 runs\n"
                "A run is bytes that differ, next to each other, which the same step stores, or none does.\n"
                "Exit status: 0 all agree, 1 some differ, 2 wrong use, 3 a file is missing or cannot be read,\n"
                "4 the sheet is refused.\n",

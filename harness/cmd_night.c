@@ -6,11 +6,14 @@
 #include "files.h"
 #include "folder.h"
 #include "merge.h"
+#include "missing.h"
+#include "names.h"
 #include "numbers.h"
 #include "outputs.h"
 #include "page.h"
 #include "progress.h"
 #include "report.h"
+#include "since.h"
 #include "spool.h"
 #include "workers.h"
 
@@ -19,7 +22,7 @@ enum { JOBS_MAX = 1024 };
 /* Where the report goes. */
 struct report_out {
     const struct form *form;
-    const char *name; /* NULL: standard output, as the sheets are judged */
+    const char *name; /* NULL: standard output */
     FILE *file;
     const char *page_name; /* NULL: no page */
     struct page *page;
@@ -40,7 +43,7 @@ static int parse_jobs(const struct request *request, uint32_t *jobs)
     const char *word = request->words[OPTION_JOBS];
     *jobs = 1;
     if (word != NULL && !parse_count(word, strlen(word), JOBS_MAX, jobs)) {
-        return wrong_use(&night_command, "-j %s: not a number of processes, 1 to %d", word, JOBS_MAX);
+        return wrong_use(&night_command, "-j %s: not a number of processes, 1 to %d", shown(word).at, JOBS_MAX);
     }
     return DONE;
 }
@@ -55,16 +58,36 @@ static int parse_shard(const struct request *request, struct shard *shard)
     const char *slash = strchr(word, '/');
     if (slash == NULL || !parse_count(slash + 1, strlen(slash + 1), UINT32_MAX, &shard->parts) ||
         !parse_count(word, (size_t)(slash - word), shard->parts, &shard->part)) {
-        return wrong_use(&night_command, "--shard %s: not K/N, K from 1 to N", word);
+        return wrong_use(&night_command, "--shard %s: not K/N, K from 1 to N", shown(word).at);
     }
     return DONE;
 }
 
-/* What the options leave open: what each means together with the others. */
+/* What goes with --missing, which makes no report. */
+static int check_missing(const struct request *request)
+{
+    const unsigned fitting = SET(OPTION_MISSING) | SET(OPTION_NUL) | SET(OPTION_SHARD) | SET(OPTION_ONLY_CARD);
+    if (request->words[OPTION_MISSING] == NULL) {
+        return request->words[OPTION_NUL] == NULL ? DONE : wrong_use(&night_command, "-0 goes with --missing");
+    }
+    for (unsigned i = 0; i < OPTIONS; i++) {
+        if (request->words[i] != NULL && (fitting & SET(i)) == 0) {
+            return wrong_use(&night_command, "--missing does not go with %s", option_forms[i].name);
+        }
+    }
+    return DONE;
+}
+
+/* What the files and options leave open: what each means together with the others. */
 static int check_night(const struct request *request)
 {
     const char *const *words = request->words;
     const char *out = words[OPTION_OUT];
+    if (request->file_count == 0) {
+        return wrong_use(&night_command, words[OPTION_MERGE] == NULL
+                                             ? "night takes DIR"
+                                             : "night --merge takes the JSON reports of all parts, PART.json ..");
+    }
     if (words[OPTION_JSON] != NULL && words[OPTION_CSV] != NULL) {
         return wrong_use(&night_command, "a report is --json or --csv, not both");
     }
@@ -75,9 +98,20 @@ static int check_night(const struct request *request)
         return wrong_use(&night_command, "--merge takes neither --shard nor -j");
     }
     if (words[OPTION_MERGE] == NULL && request->file_count > 1) {
-        return wrong_use(&night_command, "one folder is a night, and %s is one more", request->files[1]);
+        return wrong_use(&night_command, "one folder is a night, and %s is one more", shown(request->files[1]).at);
     }
-    return DONE;
+    if (words[OPTION_NAME] != NULL && (words[OPTION_NAME][0] == '\0' || strlen(words[OPTION_NAME]) >= NAME_ROOM)) {
+        return wrong_use(&night_command, "--name %s: not a name of 1 to %d bytes", shown(words[OPTION_NAME]).at,
+                         NAME_ROOM - 1);
+    }
+    return check_missing(request);
+}
+
+/* Whether no report goes to a file that the next night would take for one of its own. */
+static bool is_out_apart(const struct request *request, enum option option)
+{
+    const char *out = request->words[option];
+    return out == NULL || is_standard_output(out) || is_kept_apart(request->files[0], out);
 }
 
 /* -- The report ------------------------------------------------------------------------------- */
@@ -100,34 +134,48 @@ static bool open_report_out(const struct request *request, const struct night *n
         .file = words[OPTION_OUT] == NULL ? stdout : open_spool(),
         .page_name = words[OPTION_HTML],
     };
-    out->page = out->page_name == NULL ? NULL : new_page();
+    out->page = out->page_name == NULL ? NULL : new_page(night);
     if (out->file == NULL || (out->page_name != NULL && out->page == NULL)) {
         close_report_out(out);
         return false;
     }
-    if (out->form->begin != NULL) {
-        out->form->begin(out->file, night);
-    }
     return true;
 }
 
-static void report_sheet(struct report_out *out, struct night *night, const char *name,
-                         const struct finding *findings)
+/* Reports all sheets of a night. */
+static bool report_sheets(const struct report_out *out, struct night *night, struct finding *findings)
 {
-    out->form->sheet(out->file, night, name, findings);
-    if (out->page != NULL) {
-        put_page_sheet(out->page, night, name, findings);
+    char name[NAME_ROOM];
+    bool done = rewind_kept(&night->kept);
+    for (size_t i = 0; done && i < night->sheets; i++) {
+        done = next_kept(&night->kept, name, findings);
+        if (done) {
+            out->form->sheet(out->file, night, i, name, findings);
+        }
+        if (done && out->page != NULL) {
+            put_page_sheet(out->page, night, name, findings);
+        }
     }
-    count_findings(night, findings);
+    return done;
+}
+
+static bool report_night(const struct report_out *out, struct night *night)
+{
+    struct finding *findings = calloc(night->cards->count + 1, sizeof findings[0]);
+    if (findings == NULL) {
+        complain("the report");
+        return false;
+    }
+    bool done = (out->form->begin == NULL || out->form->begin(out->file, night)) &&
+                report_sheets(out, night, findings) && (out->form->end == NULL || out->form->end(out->file, night));
+    free(findings);
+    return done;
 }
 
 /* Writes the files that are named: all of them, or none. */
-static bool write_report(struct report_out *out, const struct night *night)
+static bool write_report(const struct report_out *out, struct night *night)
 {
     FILE *page = NULL;
-    if (out->form->end != NULL) {
-        out->form->end(out->file, night);
-    }
     if (out->page != NULL && (page = finish_page(out->page, night)) == NULL) {
         return false;
     }
@@ -137,47 +185,30 @@ static bool write_report(struct report_out *out, const struct night *night)
 
 /* -- From a folder ---------------------------------------------------------------------------- */
 
-static bool report_folder(const struct folder *folder, const struct workers *workers, struct report_out *out,
-                          struct night *night)
+static bool take_sheets(const struct folder *folder, const struct workers *workers, struct night *night)
 {
     struct progress progress;
-    struct finding *findings = calloc(folder->cards.count, sizeof findings[0]);
-    bool done = findings != NULL;
+    struct judged *judged = new_judged(night->cards->count);
+    bool done = judged != NULL;
     start_progress(&progress, folder->sheets.count);
     for (size_t i = 0; done && i < folder->sheets.count; i++) {
-        done = get_findings(workers, i, findings);
-        hide_progress(&progress);
-        if (done) {
-            report_sheet(out, night, folder->sheets.at[i], findings);
-            show_progress(&progress, i + 1);
-        }
+        done = get_judged(workers, i, judged) && take_judged(night, folder->sheets.at[i], judged);
+        show_progress(&progress, i + 1);
     }
     hide_progress(&progress);
-    free(findings);
+    free_judged(judged);
     return done;
 }
 
-static bool judge_folder(const struct folder *folder, size_t jobs, struct report_out *out, struct night *night)
+static bool take_folder(const struct folder *folder, size_t jobs, struct night *night)
 {
     struct workers workers;
     size_t most = folder->sheets.count > 1 ? folder->sheets.count : 1;
-    if (!start_workers(folder, jobs < most ? jobs : most, &workers)) {
+    if (!start_workers(folder, night->cards, jobs < most ? jobs : most, &workers)) {
         return false;
     }
-    bool done = report_folder(folder, &workers, out, night);
+    bool done = take_sheets(folder, &workers, night);
     stop_workers(&workers);
-    return done;
-}
-
-/* -- From reports ----------------------------------------------------------------------------- */
-
-static bool report_merge(const struct merge *merge, struct report_out *out, struct night *night)
-{
-    bool done = true;
-    for (struct report_in *next = next_report(merge); done && next != NULL; next = next_report(merge)) {
-        report_sheet(out, night, next->name, next->findings);
-        done = next_sheet(next);
-    }
     return done;
 }
 
@@ -188,39 +219,126 @@ struct source {
     const struct folder *folder;
     size_t jobs;
     const struct merge *merge;
+    struct identity identity;
+    const struct list *cards; /* all of them */
+    struct shard shard;
 };
 
-static int make_report(const struct request *request, const struct source *source, const struct list *cards,
-                       const struct shard *shard)
+static bool take_source(const struct source *source, struct night *night)
 {
-    struct night night;
+    return (source->merge != NULL ? take_merge(source->merge, night)
+                                  : take_folder(source->folder, source->jobs, night)) &&
+           find_night_causes(night);
+}
+
+/* Makes the report of a night whose sheets are all to be taken. */
+static int report_source(const struct request *request, const struct source *source, struct since *since,
+                         struct night *night)
+{
     struct report_out out;
-    if (!begin_night(&night, cards, shard)) {
-        complain(request->files[0]);
-        return FAILED;
-    }
     int status = FAILED;
-    if (open_report_out(request, &night, &out)) {
-        bool done = source->merge != NULL ? report_merge(source->merge, &out, &night)
-                                          : judge_folder(source->folder, source->jobs, &out, &night);
-        if (done && write_report(&out, &night)) {
-            status = tally_status(&night.total);
+    bool done = take_source(source, night) && (since == NULL || compare_nights(since, night));
+    if (done && open_report_out(request, night, &out)) {
+        if (report_night(&out, night) && write_report(&out, night)) {
+            status = tally_status(&night->total);
         }
         close_report_out(&out);
     }
-    end_night(&night);
+    return status;
+}
+
+/* The cards that are asked for, or all; false if there is none of a name. Where no result is there yet, a card may
+ * have no file at all. */
+static bool choose_cards(const struct request *request, const struct list *all, struct list *chosen)
+{
+    bool has_choice = request->words[OPTION_ONLY_CARD] != NULL, may_lack = request->words[OPTION_MISSING] != NULL;
+    size_t number;
+    for (size_t i = 0; i < request->repeated_count; i++) {
+        const char *name = request->repeated[i].word;
+        if (!may_lack && !find_in_list(all, name, &number)) {
+            complain_of(request->files[0], "no card %s is there", shown(name).at);
+            return false;
+        }
+        if (!add_to_list(chosen, name, strlen(name))) {
+            complain(name);
+            return false;
+        }
+    }
+    for (size_t i = 0; !has_choice && i < all->count; i++) {
+        if (!add_to_list(chosen, all->at[i], strlen(all->at[i]))) {
+            complain(all->at[i]);
+            return false;
+        }
+    }
+    sort_list(chosen);
+    return true;
+}
+
+static int report_cards(const struct request *request, struct source *source, struct since *since)
+{
+    struct night night;
+    struct list cards = {NULL, 0, 0};
+    int status = FAILED;
+    if (request->words[OPTION_NAME] != NULL) {
+        snprintf(source->identity.name, sizeof source->identity.name, "%s", request->words[OPTION_NAME]);
+    }
+    if (choose_cards(request, source->cards, &cards) &&
+        begin_night(&night, &source->identity, &cards, &source->shard)) {
+        night.since = since;
+        status = report_source(request, source, since, &night);
+        end_night(&night);
+    }
+    free_list(&cards);
+    return status;
+}
+
+/* The last night is read first: if it is no report, no sheet is judged in vain. */
+static int make_report(const struct request *request, struct source *source)
+{
+    struct since since;
+    const char *last = request->words[OPTION_SINCE];
+    if (last == NULL) {
+        return report_cards(request, source, NULL);
+    }
+    if (!open_since(last, &since)) {
+        return FAILED;
+    }
+    int status = report_cards(request, source, &since);
+    close_since(&since);
     return status;
 }
 
 static int merge_night(const struct request *request)
 {
     struct merge merge;
-    if (!open_merge(request->files, request->file_count, &merge)) {
+    if (!open_merge((const char *const *)request->files, request->file_count, &merge)) {
         return FAILED;
     }
-    int status = make_report(request, &(struct source){.merge = &merge}, merged_cards(&merge), &(struct shard){1, 1});
+    const struct report_in *first = &merge.reports[0];
+    struct source source = {.merge = &merge, .identity = first->identity, .cards = &first->cards, .shard = {1, 1}};
+    int status = make_report(request, &source);
     close_merge(&merge);
     return status;
+}
+
+/* Says which results are missing in a folder. */
+static int list_missing(const struct request *request)
+{
+    struct shard shard;
+    struct folder folder;
+    struct list cards = {NULL, 0, 0};
+    int status = parse_shard(request, &shard);
+    if (status != DONE) {
+        return status;
+    }
+    if (!open_folder(request->files[0], &shard, &folder)) {
+        return FAILED;
+    }
+    bool done = choose_cards(request, &folder.cards, &cards) &&
+                print_missing(&folder, &cards, request->words[OPTION_NUL] != NULL);
+    free_list(&cards);
+    close_folder(&folder);
+    return done ? DONE : FAILED;
 }
 
 static int judge_night(const struct request *request)
@@ -235,14 +353,16 @@ static int judge_night(const struct request *request)
     if (status != DONE) {
         return status;
     }
-    if (!open_folder(request->files[0], &shard, &folder)) {
+    if (!is_out_apart(request, OPTION_OUT) || !is_out_apart(request, OPTION_HTML) ||
+        !open_folder(request->files[0], &shard, &folder)) {
         return FAILED;
     }
     if (folder.cards.count > 0) {
-        status = make_report(request, &(struct source){.folder = &folder, .jobs = jobs}, &folder.cards, &shard);
+        struct source source = {.folder = &folder, .jobs = jobs, .identity = folder.identity, .cards = &folder.cards,
+                                .shard = shard};
+        status = make_report(request, &source);
     } else {
-        fprintf(stderr, "moonbleat: %s: no card's file, NAME.CARD.after, is there: nothing to compare\n",
-                request->files[0]);
+        complain_of(request->files[0], "no card's file, NAME.CARD.after, is there: nothing to compare");
         status = FAILED;
     }
     close_folder(&folder);
@@ -255,21 +375,27 @@ static int do_night(const struct request *request)
     if (status != DONE) {
         return status;
     }
+    if (request->words[OPTION_MISSING] != NULL) {
+        return list_missing(request);
+    }
     return request->words[OPTION_MERGE] != NULL ? merge_night(request) : judge_night(request);
 }
 
 const struct command night_command = {
     .name = "night",
     .files = "DIR",
-    .files_min = 1,
     .files_max = SIZE_MAX,
     .takes = SET(OPTION_JOBS) | SET(OPTION_JSON) | SET(OPTION_CSV) | SET(OPTION_OUT) | SET(OPTION_HTML) |
-             SET(OPTION_SHARD) | SET(OPTION_MERGE),
+             SET(OPTION_SHARD) | SET(OPTION_MERGE) | SET(OPTION_NAME) | SET(OPTION_SINCE) |
+             SET(OPTION_ONLY_CARD) | SET(OPTION_MISSING) | SET(OPTION_NUL),
+    .out = "the report",
     .summary = "compare every card of a night's folder on every sheet",
     .details = "DIR has files NAME.sheet (or NAME.txt, the text form), NAME.memory, NAME.CARD.after and, if the\n"
-               "card has them, NAME.CARD.registers. A line for each sheet and card: agrees, differs, missing,\n"
-               "refused or unreadable, then totals. With --merge the files are JSON reports of all parts that\n"
-               "--shard made, in place of DIR, and the report is that of one run.\n"
+               "card has them, NAME.CARD.registers, NAME.CARD.trace and, where it refuses the sheet,\n"
+               "NAME.CARD.refusal. A line for each sheet and card: agrees, differs, missing, refused or\n"
+               "unreadable, then what each card's differing elements have in common, then totals.\n"
+               "With --merge the files are JSON reports of all parts that --shard made, in place of DIR, and the\n"
+               "report is that of one run.\n"
                "Exit status: 1 some card differs; else 3 a file is missing or cannot be read; else 4 a sheet is\n"
                "refused; else 0, all agree. 2 is wrong use.\n",
     .perform = do_night,

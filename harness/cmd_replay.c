@@ -5,11 +5,8 @@
 #include "answers.h"
 #include "command.h"
 #include "files.h"
+#include "sheet_file.h"
 #include "traces.h"
-
-/* A trace is judged to its end, and none of a sheet's is longer than MOONBLEAT_TRACE_MAX: files of
- * more than 64 megabytes are no traces of cards. */
-enum { LONGEST_TRACE = 1 << 26 };
 
 /* The accesses of a trace. */
 struct list {
@@ -126,10 +123,8 @@ static int do_replay(const struct request *request)
         return FAILED;
     }
     int status = FAILED;
-    if (read_file(request->files[1], (size_t)LONGEST_TRACE + 1, &trace)) {
-        if (trace.len > LONGEST_TRACE) {
-            fprintf(stderr, "moonbleat: %s: longer than %d bytes\n", request->files[1], LONGEST_TRACE);
-        } else {
+    if (read_file(request->files[1], (size_t)TRACE_FILE_MAX + 1, &trace)) {
+        if (is_trace_length(request->files[1], &trace)) {
             status = replay_trace(request, &sheet, &trace);
         }
         free(trace.at);

@@ -5,15 +5,27 @@
 #include "answers.h"
 #include "command.h"
 #include "files.h"
+#include "hex.h"
 #include "outputs.h"
 #include "result.h"
+#include "sheet_file.h"
 #include "tape_text.h"
 
+static void print_words(const struct request *request, const struct refused *ran, const struct bytes *memory,
+                        const struct result *result)
+{
+    print_result(result);
+    if (request->words[OPTION_HEX] != NULL) {
+        print_hex(memory);
+        print_writers(ran->sheet, ran->sheet_len, memory->len);
+    }
+}
+
 static void print_answer(const struct command *command, const struct request *request, const struct refused *ran,
-                         const struct result *result)
+                         const struct bytes *memory, const struct result *result)
 {
     if (request->words[OPTION_JSON] == NULL) {
-        print_result(result);
+        print_words(request, ran, memory, result);
         return;
     }
     struct json json = {false};
@@ -35,7 +47,7 @@ static int finish_run(const struct command *command, const struct request *reque
         return FAILED;
     }
     if (!is_standard_output(memory_name) && !is_standard_output(registers_name)) {
-        print_answer(command, request, ran, result);
+        print_answer(command, request, ran, memory, result);
     }
     return DONE;
 }
@@ -67,6 +79,9 @@ static int carry_out_or_run(const struct command *command, const struct request 
 static int do_run(const struct request *request)
 {
     struct bytes sheet;
+    if (request->words[OPTION_HEX] != NULL && request->words[OPTION_JSON] != NULL) {
+        return wrong_use(&run_command, "run prints one of --hex and --json");
+    }
     if (!read_sheet(request->files[0], &sheet)) {
         return FAILED;
     }
@@ -87,7 +102,7 @@ static int do_run_tape(const struct request *request)
         status = carry_out_or_run(&run_tape_command, request, &sheet, &tape, request->files[2]);
     }
     if (status == DONE && tape.records == 0) {
-        fprintf(stderr, "moonbleat: %s: warning: the tape is empty\n", request->files[1]);
+        complain_of(request->files[1], "warning: the tape is empty");
     }
     free(sheet.at);
     return status;
@@ -98,10 +113,17 @@ const struct command run_command = {
     .files = "SHEET MEMORY",
     .files_min = 2,
     .files_max = 2,
-    .takes = SET(OPTION_OUT) | SET(OPTION_REGISTERS) | SET(OPTION_JSON),
+    .overwrites = 2,
+    .takes = SET(OPTION_OUT) | SET(OPTION_REGISTERS) | SET(OPTION_HEX) | SET(OPTION_JSON),
+    .out = "the memory afterwards",
     .summary = "carry the sheet out on a memory; print the registers",
     .details = "Elements are printed row by row, by their sign. The last line says how many elements of loads\n"
-               "and stores had a byte.\n",
+               "and stores had a byte. With --hex the memory follows as xxd prints it, and which step wrote which\n"
+               "bytes last:\n"
+               "  00000000: 0001 0203 0009 0909 0909 0900 0c0d 0e0f  ................\n"
+               "  bytes 4 to 11: step 2 (store)\n"
+               "  no step writes 8 bytes\n"
+               "OUT may be MEMORY, if it is called so.\n",
     .perform = do_run,
 };
 
@@ -110,7 +132,9 @@ const struct command run_tape_command = {
     .files = "SHEET TAPE MEMORY",
     .files_min = 3,
     .files_max = 3,
+    .overwrites = 3,
     .takes = SET(OPTION_OUT) | SET(OPTION_REGISTERS) | SET(OPTION_JSON),
+    .out = "the memory afterwards",
     .summary = "run a tape with its sheet on a memory; print the registers",
     .details = "TAPE is as tape prints it: one record a line, six decimal numbers.\n",
     .perform = do_run_tape,

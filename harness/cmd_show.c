@@ -6,9 +6,14 @@
 #include "command.h"
 #include "fields.h"
 #include "files.h"
+#include "forms.h"
 #include "moonbleat.h"
+#include "names.h"
+#include "sheet_file.h"
 #include "sheet_text.h"
 #include "show.h"
+#include "show_files.h"
+#include "traces.h"
 
 /* What a load starts from, by name. */
 static const char *const start_names[] = {
@@ -66,6 +71,7 @@ static void show_json(const struct refused *read)
     struct json json = {false};
     struct field field;
     open_answer(&json, &show_command, read);
+    json_text(&json, "form", form_name(FORM_SHEET));
     json_number(&json, "bytes", (int64_t)read->sheet_len);
     json_open(&json, "fields", '[');
     for (size_t at = 0; field_at(read->sheet, readable_bytes(read), at, &field); at = field_end(&field)) {
@@ -102,31 +108,64 @@ static int show(const struct request *request, const struct refused *read, const
     return accepted ? DONE : answer_refusal(&show_command, request, read);
 }
 
-static int do_show(const struct request *request)
+static int show_sheet_file(const struct request *request, struct bytes *file)
 {
-    struct bytes sheet;
-    if (request->words[OPTION_JSON] != NULL && request->words[OPTION_ASM] != NULL) {
-        return wrong_use(&show_command, "show prints one of --asm and --json");
-    }
-    if (!read_sheet(request->files[0], &sheet)) {
+    if (!take_sheet(request->files[0], file)) {
         return FAILED;
     }
     uint32_t counts[MOONBLEAT_COUNTS] = {0};
     uint32_t answer[MOONBLEAT_ANSWER] = {0};
-    const struct refused read = {.sheet = sheet.at, .sheet_len = sheet.len, .answer = answer};
-    moonbleat_read(sheet.at, sheet.len, counts, answer);
-    int status = show(request, &read, counts);
-    free(sheet.at);
+    const struct refused read = {.sheet = file->at, .sheet_len = file->len, .answer = answer};
+    moonbleat_read(file->at, file->len, counts, answer);
+    return show(request, &read, counts);
+}
+
+static int show_form(const struct request *request, enum form form, struct bytes *file)
+{
+    if (form != FORM_SHEET && request->words[OPTION_ASM] != NULL) {
+        complain_of(request->files[0], "--asm prints sheets, and the form of this file is %s", form_name(form));
+        return FAILED;
+    }
+    switch (form) {
+    case FORM_TRACE:
+        return show_trace(request, file);
+    case FORM_TAPE:
+        return show_tape(request, file);
+    case FORM_MASKS:
+        return show_masks(request, file);
+    default:
+        return show_sheet_file(request, file);
+    }
+}
+
+static int do_show(const struct request *request)
+{
+    struct bytes file;
+    const char *as = request->words[OPTION_AS];
+    if (request->words[OPTION_JSON] != NULL && request->words[OPTION_ASM] != NULL) {
+        return wrong_use(&show_command, "show prints one of --asm and --json");
+    }
+    if (as != NULL && find_form(as) == FORMS) {
+        return wrong_use(&show_command, "--as %s: not sheet, trace, tape or masks", shown(as).at);
+    }
+    if (!read_file(request->files[0], (size_t)TRACE_FILE_MAX + 1, &file)) {
+        return FAILED;
+    }
+    int status = show_form(request, as == NULL ? form_of(&file) : find_form(as), &file);
+    free(file.at);
     return status;
 }
 
 const struct command show_command = {
     .name = "show",
-    .files = "SHEET",
+    .files = "FILE",
     .files_min = 1,
     .files_max = 1,
-    .takes = SET(OPTION_ASM) | SET(OPTION_JSON),
-    .summary = "print the sheet in words, or in its text form",
-    .details = "A refused sheet is printed as far as it makes sense, with a mark behind the refused field.\n",
+    .takes = SET(OPTION_AS) | SET(OPTION_ASM) | SET(OPTION_JSON),
+    .summary = "print a sheet in words or in its text form, or a trace, a tape or masks in words",
+    .details = "A refused sheet or trace is printed as far as it makes sense, with a mark behind the refused\n"
+               "field. What FILE holds is told by its bytes: a tape is text that begins with a number, a trace\n"
+               "begins with the head of an access, masks have 1,088 bytes of which the first 34 are 0, and all\n"
+               "else is a sheet or its text. --as says it for files that are empty or damaged.\n",
     .perform = do_show,
 };

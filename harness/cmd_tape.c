@@ -8,6 +8,7 @@
 #include "files.h"
 #include "outputs.h"
 #include "result.h"
+#include "sheet_file.h"
 #include "tape_text.h"
 #include "translation.h"
 
@@ -20,36 +21,14 @@ static int refuse(const struct request *request, const struct refused *refused)
     return answer_refusal(&tape_command, request, refused);
 }
 
-static void json_records(struct json *json, const struct translation *translation)
-{
-    json_open(json, "records", '[');
-    for (size_t i = 0; i < translation->records[0]; i++) {
-        json_open(json, NULL, '[');
-        for (size_t n = 0; n < MOONBLEAT_RECORD_NUMBERS; n++) {
-            json_number(json, NULL, translation->tape[MOONBLEAT_RECORD_NUMBERS * i + n]);
-        }
-        json_close(json, ']');
-    }
-    json_close(json, ']');
-}
-
-static void json_masks(struct json *json, const struct translation *translation)
-{
-    json_open(json, "masks", '[');
-    for (uint32_t step = 0; step < MOONBLEAT_STEPS_MAX; step++) {
-        json_mask(json, NULL, translation->masks, step);
-    }
-    json_close(json, ']');
-}
-
 static void print_json(const struct refused *translated, const struct translation *translation)
 {
     struct json json = {false};
     open_answer(&json, &tape_command, translated);
     json_number(&json, "memory", (int64_t)translated->memory_len);
     json_number(&json, BYTE_ELEMENTS, translated->answer[MOONBLEAT_BYTE_ELEMENTS]);
-    json_records(&json, translation);
-    json_masks(&json, translation);
+    json_records(&json, translation->tape, translation->records[0]);
+    json_masks(&json, translation->masks);
     close_answer(&json);
 }
 

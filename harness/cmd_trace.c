@@ -6,6 +6,7 @@
 #include "command.h"
 #include "files.h"
 #include "outputs.h"
+#include "sheet_file.h"
 #include "traces.h"
 
 static void print_lines(const struct refused *traced, const uint8_t *trace, size_t count)
@@ -23,12 +24,7 @@ static void print_json(const struct refused *traced, const uint8_t *trace, size_
     struct json json = {false};
     open_answer(&json, &trace_command, traced);
     json_number(&json, "memory", (int64_t)traced->memory_len);
-    json_open(&json, "accesses", '[');
-    for (size_t i = 0; i < count; i++) {
-        struct entry entry = entry_at(trace, i);
-        json_entry(&json, NULL, &entry);
-    }
-    json_close(&json, ']');
+    json_accesses(&json, trace, count);
     close_answer(&json);
 }
 
@@ -70,6 +66,7 @@ const struct command trace_command = {
     .files_min = 1,
     .files_max = 1,
     .takes = SET(OPTION_MEMORY) | SET(OPTION_OUT) | SET(OPTION_JSON),
+    .out = "the trace, which is then not printed,",
     .summary = "print what becomes of each element of the sheet's loads and stores, or write it as a trace",
     .details = "One access a line, from 0 on, with step, element and what becomes of it: skipped (outside the\n"
                "view's clip), filled or discarded (outside the tensor), or its byte in memory:\n"

@@ -2,46 +2,26 @@
 #include <inttypes.h>
 #include <stdio.h>
 #include <stdlib.h>
-#include <string.h>
 
 #include "answers.h"
 #include "command.h"
 #include "files.h"
-#include "numbers.h"
+#include "names.h"
+#include "question.h"
+#include "sheet_file.h"
 #include "where.h"
 
-/* What is asked for, by the words of the command line. */
-struct question {
-    uint32_t step;
-    enum { EVERY_ELEMENT, BY_NUMBER, BY_POSITION } of;
-    uint32_t element; /* of BY_NUMBER */
-    uint32_t row;     /* of BY_POSITION */
-    uint32_t column;
-};
-
 /* -- The question ------------------------------------------------------------------------------ */
-
-static bool parse_element(const char *word, struct question *question)
-{
-    const char *comma = strchr(word, ',');
-    if (comma == NULL) {
-        question->of = BY_NUMBER;
-        return parse_index(word, strlen(word), &question->element);
-    }
-    question->of = BY_POSITION;
-    return parse_index(word, (size_t)(comma - word), &question->row) &&
-           parse_index(comma + 1, strlen(comma + 1), &question->column);
-}
 
 static int parse_question(const struct request *request, struct question *question)
 {
     const char *step = request->files[1], *element = request->words[OPTION_ELEMENT];
     *question = (struct question){.of = EVERY_ELEMENT};
-    if (!parse_index(step, strlen(step), &question->step)) {
-        return wrong_use(&where_command, "%s: not the number of a step", step);
+    if (!parse_step(step, question)) {
+        return wrong_use(&where_command, "%s: not the number of a step", shown(step).at);
     }
     if (element != NULL && !parse_element(element, question)) {
-        return wrong_use(&where_command, "--element %s: not the number of an element, and not ROW,COLUMN", element);
+        return wrong_use(&where_command, "--element %s: " NO_ELEMENT, shown(element).at);
     }
     return DONE;
 }
@@ -143,27 +123,17 @@ static int give_way(const struct request *request, const struct where *where, un
     return DONE;
 }
 
-/* A position past a row's end would be the number of another element, so the library cannot judge it. */
-static int give_position(const struct request *request, const struct where *where, const struct question *question)
+static int give_where(const struct request *request, const struct where *where, struct question *question)
 {
     const struct access *access = &where->access;
-    if (question->row >= access->rows || question->column >= access->columns) {
+    if (question->of == EVERY_ELEMENT) {
+        return give_map(request, where);
+    }
+    if (!place_question(question, access->rows, access->columns)) {
         return wrong_use(&where_command, "--element %s: the matrix of step %" PRIu32 " is %u by %u",
                          request->words[OPTION_ELEMENT], where->number, access->rows, access->columns);
     }
-    return give_way(request, where, question->row * access->columns + question->column);
-}
-
-static int give_where(const struct request *request, const struct where *where, const struct question *question)
-{
-    switch (question->of) {
-    case BY_NUMBER:
-        return give_way(request, where, question->element);
-    case BY_POSITION:
-        return give_position(request, where, question);
-    default:
-        return give_map(request, where);
-    }
+    return give_way(request, where, question->element);
 }
 
 /* Whether the sheet itself is accepted: then a refusal is of the step or the element that is asked for. */
@@ -173,7 +143,7 @@ static bool is_accepted(const struct refused *asked)
     return moonbleat_check(asked->sheet, asked->sheet_len, asked->memory_len, answer) == 0;
 }
 
-static int answer_question(const struct request *request, const struct bytes *sheet, const struct question *question)
+static int answer_question(const struct request *request, const struct bytes *sheet, struct question *question)
 {
     uint32_t outcome[MOONBLEAT_OUTCOME], answer[MOONBLEAT_ANSWER] = {0};
     struct refused asked = {.sheet = sheet->at, .sheet_len = sheet->len, .memory_len = request->memory,

@@ -20,8 +20,10 @@ struct command {
     const char *files; /* as the help calls them, "SHEET MEMORY" */
     size_t files_min;
     size_t files_max;
+    size_t overwrites;   /* the file, counted from 1, that -o may name too and then replaces; 0: none */
     unsigned takes;      /* sets of options */
     unsigned needs;      /* ... of those that it takes */
+    const char *out;     /* what -o writes, "the trace"; NULL: it takes none */
     const char *summary; /* one line */
     const char *details; /* further lines; an indented one is printed as it stands */
     int (*perform)(const struct request *request);
@@ -36,5 +38,8 @@ extern const struct command *const commands[];
 
 /* The command of a name, or NULL. */
 const struct command *find_command(const char *name);
+
+/* Says that there is no command of a name, and which one may be meant; gives the exit status. */
+int unknown_command(const char *name);
 
 #endif

@@ -1,6 +1,8 @@
 #include <string.h>
 
 #include "command.h"
+#include "names.h"
+#include "nearest.h"
 
 const struct command *const commands[] = {
     &asm_command,      &show_command,  &check_command,  &run_command,       &tape_command,
@@ -16,4 +18,15 @@ const struct command *find_command(const char *name)
         }
     }
     return NULL;
+}
+
+int unknown_command(const char *name)
+{
+    struct nearest nearest = nearest_to(name, strlen(name));
+    for (const struct command *const *command = commands; *command != NULL; command++) {
+        consider(&nearest, (*command)->name);
+    }
+    struct text meant = {.len = 0};
+    add_nearest(&meant, &nearest, "");
+    return wrong_use(NULL, "unknown command %s%s", shown(name).at, meant.at);
 }

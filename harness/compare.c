@@ -7,9 +7,13 @@ bool carry_reference(struct reference *reference, struct bytes sheet, struct byt
     struct result *result = &reference->result;
     reference->sheet = sheet;
     reference->memory = memory;
-    reference->traced = false;
-    return moonbleat_carry_out(sheet.at, sheet.len, memory.at, memory.len, result->types, result->elements,
-                               result->answer) == 0;
+    if (moonbleat_carry_out(sheet.at, sheet.len, memory.at, memory.len, result->types, result->elements,
+                            result->answer) != 0) {
+        return false;
+    }
+    trace_origins(sheet.at, sheet.len, memory.len, &reference->origins);
+    find_shown(sheet.at, sheet.len, memory.len, &reference->origins, &reference->shown);
+    return true;
 }
 
 struct refused refused_reference(const struct reference *reference)
@@ -22,18 +26,9 @@ struct refused refused_reference(const struct reference *reference)
     };
 }
 
-static const struct origins *origins_of(struct reference *reference)
-{
-    if (!reference->traced) {
-        trace_origins(reference->sheet.at, reference->sheet.len, reference->memory.len, &reference->origins);
-        reference->traced = true;
-    }
-    return &reference->origins;
-}
-
 /* -- Memory ----------------------------------------------------------------------------------- */
 
-bool find_run(struct reference *reference, const uint8_t *after, size_t from, struct run *run)
+bool find_run(const struct reference *reference, const uint8_t *after, size_t from, struct run *run)
 {
     const uint8_t *wants = reference->memory.at;
     size_t len = reference->memory.len;
@@ -43,7 +38,7 @@ bool find_run(struct reference *reference, const uint8_t *after, size_t from, st
     if (from == len) {
         return false;
     }
-    const struct origins *origins = origins_of(reference);
+    const struct origins *origins = &reference->origins;
     size_t end = from + 1;
     while (end < len && wants[end] != after[end] && stored_by(origins, end) == stored_by(origins, from)) {
         end++;
@@ -52,6 +47,7 @@ bool find_run(struct reference *reference, const uint8_t *after, size_t from, st
     return true;
 }
 
+/* The bytes that differ, and their first; what they show is marked. */
 static void compare_memory(struct reference *reference, const uint8_t *after, struct memory_difference *difference)
 {
     if (memcmp(reference->memory.at, after, reference->memory.len) == 0) {
@@ -64,6 +60,9 @@ static void compare_memory(struct reference *reference, const uint8_t *after, st
         }
         difference->runs++;
         difference->bytes += (uint32_t)(run.end - run.first);
+        for (size_t i = run.first; i < run.end; i++) {
+            mark_byte(&reference->differing, &reference->origins, &reference->shown, i);
+        }
     }
     if (difference->runs > 0) {
         size_t byte = difference->byte;
@@ -76,23 +75,6 @@ static void compare_memory(struct reference *reference, const uint8_t *after, st
     }
 }
 
-/* Which elements of a store differ: of those whose bytes no later step stores to. */
-static void map_store(const struct reference *reference, const uint8_t *after, uint32_t step, struct map *map)
-{
-    const struct origins *origins = &reference->origins;
-    const uint8_t *type = stored_type(origins, step);
-    map->rows = type[1];
-    map->columns = type[2];
-    memset(map->cells, CELL_ELSEWHERE, map->rows * map->columns);
-    for (size_t i = 0; i < reference->memory.len; i++) {
-        if (stored_by(origins, i) == step + 1) {
-            char *cell = &map->cells[origin_of(origins, i).element];
-            bool differs = reference->memory.at[i] != after[i];
-            *cell = differs || *cell == CELL_DIFFERS ? CELL_DIFFERS : CELL_AGREES;
-        }
-    }
-}
-
 /* -- Registers -------------------------------------------------------------------------------- */
 
 struct matrix matrix_of(const struct result *result, unsigned reg)
@@ -101,21 +83,16 @@ struct matrix matrix_of(const struct result *result, unsigned reg)
                            result->elements + (size_t)MOONBLEAT_REGISTER_ELEMENTS * reg};
 }
 
-static size_t element_count(const struct matrix *matrix)
-{
-    return (size_t)matrix->type[1] * matrix->type[2];
-}
-
 /* Whether both are empty, or kind and sides are equal. */
 static bool same_type(const struct matrix *one, const struct matrix *other)
 {
-    bool both_empty = element_count(one) == 0 && element_count(other) == 0;
+    bool both_empty = type_element_count(one->type) == 0 && type_element_count(other->type) == 0;
     return both_empty || memcmp(one->type, other->type, MOONBLEAT_TYPE_BYTES) == 0;
 }
 
 bool find_element(const struct matrix *wants, const struct matrix *has, size_t from, size_t *element)
 {
-    size_t count = element_count(wants);
+    size_t count = type_element_count(wants->type);
     while (from < count && wants->elements[from] == has->elements[from]) {
         from++;
     }
@@ -145,52 +122,68 @@ bool compare_register(const struct reference *reference, const struct result *re
         .wants = state_of(&wants, element),
         .has = state_of(&has, element),
     };
-    difference->given = find_giver(reference->sheet.at, reference->sheet.len, (uint8_t)reg, &difference->step,
-                                   &difference->tag);
+    unsigned giver = reference->origins.givers[reg];
+    if (giver != 0) {
+        difference->given = 1;
+        difference->step = giver - 1;
+        difference->tag = reference->origins.steps[giver - 1].field.tag;
+    }
     return true;
 }
 
-static void compare_registers(const struct reference *reference, const struct result *registers,
+/* Marks the elements of a register that differ: of another type, all. */
+static void mark_register(struct reference *reference, const struct result *registers, unsigned reg)
+{
+    struct matrix wants = matrix_of(&reference->result, reg), has = matrix_of(registers, reg);
+    bool is_typed = same_type(&wants, &has);
+    if (type_element_count(wants.type) == 0) {
+        mark_stray(&reference->differing);
+    }
+    for (size_t i = 0; i < type_element_count(wants.type); i++) {
+        if (!is_typed || wants.elements[i] != has.elements[i]) {
+            mark_element(&reference->differing, reg, i);
+        }
+    }
+}
+
+static void compare_registers(struct reference *reference, const struct result *registers,
                               struct register_difference *first)
 {
     uint32_t count = 0;
     for (unsigned reg = 0; reg < MOONBLEAT_REGISTERS; reg++) {
         struct register_difference difference;
-        if (compare_register(reference, registers, reg, &difference) && count++ == 0) {
-            *first = difference;
+        if (compare_register(reference, registers, reg, &difference)) {
+            mark_register(reference, registers, reg);
+            *first = count++ == 0 ? difference : *first;
         }
     }
     first->registers = count;
 }
 
-/* Which elements of a register differ. */
-static void map_register(const struct reference *reference, const struct result *registers, unsigned reg,
-                         struct map *map)
-{
-    struct matrix wants = matrix_of(&reference->result, reg), has = matrix_of(registers, reg);
-    map->rows = wants.type[1];
-    map->columns = wants.type[2];
-    for (size_t i = 0; i < element_count(&wants); i++) {
-        map->cells[i] = wants.elements[i] == has.elements[i] ? CELL_AGREES : CELL_DIFFERS;
-    }
-}
-
 /* -- Both ------------------------------------------------------------------------------------- */
 
 void compare_card(struct reference *reference, const uint8_t *after, const struct result *registers,
-                  struct finding *finding)
+                  struct finding *finding, uint32_t *counts)
 {
-    *finding = (struct finding){.verdict = VERDICT_AGREES};
+    const struct origins *origins = &reference->origins;
+    const struct shown *elements = &reference->shown;
+    bool has_registers = registers != NULL;
+    *finding = (struct finding){
+        .verdict = VERDICT_AGREES,
+        .shows = has_registers ? SHOWS_MEMORY | SHOWS_REGISTERS : SHOWS_MEMORY,
+    };
+    clear_differing(&reference->differing);
     compare_memory(reference, after, &finding->memory);
-    if (registers != NULL) {
+    if (has_registers) {
         compare_registers(reference, registers, &finding->registers);
     }
-    if (finding->memory.bytes > 0 || finding->registers.registers > 0) {
-        finding->verdict = VERDICT_DIFFERS;
+    if (finding->memory.bytes == 0 && finding->registers.registers == 0) {
+        return;
     }
-    if (finding->memory.stored != 0) {
-        map_store(reference, after, finding->memory.origin.step, &finding->map);
-    } else if (finding->memory.bytes == 0 && finding->registers.typed != 0) {
-        map_register(reference, registers, finding->registers.reg, &finding->map);
+    finding->verdict = VERDICT_DIFFERS;
+    count_differing(&reference->differing, origins, elements, counts);
+    find_lead(&reference->differing, origins, elements, &finding->lead);
+    if (finding->lead.there != 0) {
+        map_lead(&reference->differing, origins, elements, has_registers, &finding->lead, &finding->map);
     }
 }

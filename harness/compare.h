@@ -7,9 +7,9 @@
 #include <stdint.h>
 
 #include "diagnose.h"
+#include "differing.h"
 #include "files.h"
 #include "finding.h"
-#include "origins.h"
 #include "result.h"
 
 /* What carrying out a sheet on a memory leaves. The bytes are lent. */
@@ -17,8 +17,9 @@ struct reference {
     struct bytes sheet;
     struct bytes memory;
     struct result result;
-    bool traced; /* whether `origins` is filled: only a difference needs it */
     struct origins origins;
+    struct shown shown;
+    struct differing differing; /* of the card that was compared last */
 };
 
 /* Bytes that differ, next to each other, which the same step stores, or none does. */
@@ -35,7 +36,7 @@ struct refused refused_reference(const struct reference *reference);
 
 /* Finds the first run of bytes that differ from byte `from` on. The card's memory has the
  * reference's length. */
-bool find_run(struct reference *reference, const uint8_t *after, size_t from, struct run *run);
+bool find_run(const struct reference *reference, const uint8_t *after, size_t from, struct run *run);
 
 /* A register: its type and its elements. */
 struct matrix {
@@ -52,8 +53,9 @@ bool find_element(const struct matrix *wants, const struct matrix *has, size_t f
 bool compare_register(const struct reference *reference, const struct result *registers, unsigned reg,
                       struct register_difference *difference);
 
-/* Compares a card's memory, and its registers unless they are NULL. */
+/* Compares a card's memory, and its registers unless they are NULL. The counts get how many elements of each sort of
+ * the reference's census differ. */
 void compare_card(struct reference *reference, const uint8_t *after, const struct result *registers,
-                  struct finding *finding);
+                  struct finding *finding, uint32_t *counts);
 
 #endif

@@ -5,6 +5,7 @@
 #include "answers.h"
 #include "files.h"
 #include "result.h"
+#include "sheet_file.h"
 
 static int print_count(const struct command *command, const struct request *request, const struct refused *counted,
                        const char *name)

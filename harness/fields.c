@@ -19,7 +19,7 @@ const char *clamp_mode_name(uint32_t mode)
     return mode < LENGTH(names) ? names[mode] : NULL;
 }
 
-static const char *reduce_mode_name(uint32_t mode)
+const char *reduce_mode_name(uint32_t mode)
 {
     static const char *const names[] = {
         [MOONBLEAT_REDUCE_ROW] = "row",
@@ -30,7 +30,7 @@ static const char *reduce_mode_name(uint32_t mode)
     return mode < LENGTH(names) ? names[mode] : NULL;
 }
 
-static const char *combine_name(uint32_t combine)
+const char *combine_name(uint32_t combine)
 {
     static const char *const names[] = {
         [MOONBLEAT_COMBINE_ADD] = "add", [MOONBLEAT_COMBINE_MIN] = "min", [MOONBLEAT_COMBINE_MAX] = "max",
@@ -39,7 +39,7 @@ static const char *combine_name(uint32_t combine)
     return combine < LENGTH(names) ? names[combine] : NULL;
 }
 
-static const char *memory_layout_name(uint32_t layout)
+const char *memory_layout_name(uint32_t layout)
 {
     static const char *const names[] = {
         [MOONBLEAT_ROW_MAJOR] = "row-major",

@@ -141,8 +141,11 @@ char prefix_of(enum sort sort);
 /* Whether a number follows from the others of its text: it is not written there. */
 bool is_computed(enum sort sort);
 
-/* The name of a clamp mode; NULL if there is none. */
+/* The names of modes and the like; NULL if there is none. */
 const char *clamp_mode_name(uint32_t mode);
+const char *reduce_mode_name(uint32_t mode);
+const char *combine_name(uint32_t combine);
+const char *memory_layout_name(uint32_t layout);
 
 /* What stands in place of an object or a view that there is none of. */
 #define NONE_WORD "none"

@@ -1,15 +1,30 @@
 #include "files.h"
 
 #include <errno.h>
+#include <stdarg.h>
 #include <stdlib.h>
 #include <string.h>
+
+#include "names.h"
 
 /* A file is read in pieces of at least this size. */
 enum { PIECE = 4096 };
 
+void complain_of(const char *name, const char *format, ...)
+{
+    va_list arguments;
+    va_start(arguments, format);
+    fputs("moonbleat: ", stderr);
+    put_word(stderr, name);
+    fputs(": ", stderr);
+    vfprintf(stderr, format, arguments);
+    fputc('\n', stderr);
+    va_end(arguments);
+}
+
 void complain(const char *name)
 {
-    fprintf(stderr, "moonbleat: %s: %s\n", name, strerror(errno));
+    complain_of(name, "%s", strerror(errno));
 }
 
 FILE *open_input(const char *name)
@@ -79,11 +94,6 @@ bool read_file(const char *name, size_t limit, struct bytes *bytes)
     }
     close_input(file);
     return done;
-}
-
-bool read_sheet(const char *name, struct bytes *sheet)
-{
-    return read_file(name, SHEET_LIMIT, sheet);
 }
 
 bool read_memory(const char *name, struct bytes *memory)

@@ -24,6 +24,9 @@ FILE *open_input(const char *name);
 /* Closes what open_input opened. */
 void close_input(FILE *file);
 
+/* Says what is wrong with a file: one line on standard error. */
+void complain_of(const char *name, const char *format, ...) __attribute__((format(printf, 2, 3)));
+
 /* Says that reading or writing a file failed, for the reason in errno. */
 void complain(const char *name);
 
@@ -38,8 +41,7 @@ bool read_file(const char *name, size_t limit, struct bytes *bytes);
 #define MEMORY_LIMIT ((size_t)MOONBLEAT_MEMORY_MAX + 1)
 #define SHEET_LIMIT ((size_t)MOONBLEAT_SHEET_MAX + 3 + UINT16_MAX)
 
-/* Read a sheet or a memory: as much of it as can change the answer. */
-bool read_sheet(const char *name, struct bytes *sheet);
+/* Reads a memory: as much of it as can change the answer. */
 bool read_memory(const char *name, struct bytes *memory);
 
 #endif

@@ -5,6 +5,7 @@
 #include "command.h"
 #include "fields.h"
 #include "kinds.h"
+#include "traces.h"
 
 const char *verdict_name(unsigned verdict)
 {
@@ -20,7 +21,8 @@ static const struct {
     bool of_card;
 } parts[PARTS] = {
     [PART_SHEET] = {"sheet", false}, [PART_TEXT] = {"txt", false},           [PART_MEMORY] = {"memory", false},
-    [PART_AFTER] = {"after", true},  [PART_REGISTERS] = {"registers", true},
+    [PART_AFTER] = {"after", true},  [PART_REGISTERS] = {"registers", true}, [PART_TRACE] = {"trace", true},
+    [PART_REFUSAL] = {"refusal", true},
 };
 
 const char *part_suffix(unsigned part)
@@ -46,6 +48,15 @@ void add_part_name(struct text *text, const char *name, const char *card, unsign
 static const char *differ(uint32_t count)
 {
     return count == 1 ? "differs" : "differ";
+}
+
+void add_lead(struct text *text, const struct lead *lead)
+{
+    if (lead->there != 0) {
+        add_text(text, "step %" PRIu32 " %s r%" PRIu32 ", element %" PRIu32 " (%" PRIu32 ", %" PRIu32 ")", lead->step,
+                 field_of_tag((uint8_t)lead->tag)->name, lead->reg, lead->element, lead->row, lead->column);
+        add_making(text, &lead->traits);
+    }
 }
 
 void add_origin(struct text *text, const struct origin *origin)
@@ -127,13 +138,73 @@ void add_register_difference(struct text *text, const struct register_difference
              differ(difference->registers));
 }
 
-void add_words(struct text *text, const struct finding *finding)
+static void add_access(struct text *text, const struct access_state *access)
 {
-    add_memory_difference(text, &finding->memory);
-    if (finding->memory.bytes > 0 && finding->registers.registers > 0) {
+    if (access->there == 0) {
+        add_text(text, "nothing more");
+        return;
+    }
+    add_text(text, "step %" PRIu32 ", element %" PRIu32 ": ", access->step, access->element);
+    add_sort_words(text, access->sort, access->byte);
+}
+
+void add_trace_difference(struct text *text, const struct trace_difference *difference)
+{
+    if (difference->differs == 0) {
+        return;
+    }
+    add_text(text, "access %" PRIu32 " of the trace wants ", difference->index);
+    add_access(text, &difference->wants);
+    add_text(text, ", has ");
+    add_access(text, &difference->has);
+    add_text(text, "; %" PRIu32 " of %" PRIu32 " access%s", difference->has_accesses, difference->wants_accesses,
+             difference->wants_accesses == 1 ? "" : "es");
+}
+
+/* Adds an answer: that a sheet is accepted, or its refusal. */
+static void add_answer(struct text *text, const char *who, const uint32_t refusal[3])
+{
+    if (refusal[0] == 0) {
+        add_text(text, "%s accepts it", who);
+    } else {
+        add_text(text, "%s refuses it with %" PRIu32 " at %" PRIu32 ", %" PRIu32, who, refusal[0], refusal[1],
+                 refusal[2]);
+    }
+}
+
+void add_refusal_difference(struct text *text, const struct refusal_difference *difference)
+{
+    if (difference->differs != 0) {
+        add_answer(text, "the reference", difference->wants);
+        add_text(text, ", ");
+        add_answer(text, "the card", difference->has);
+    }
+}
+
+bool has_difference(const struct finding *finding)
+{
+    return finding->memory.bytes > 0 || finding->registers.registers > 0 || finding->trace.differs != 0 ||
+           finding->claim.differs != 0;
+}
+
+/* Adds what separates a part of a sentence from the one before. */
+static void add_mark(struct text *text, bool has_part)
+{
+    if (text->len > 0 && has_part) {
         add_text(text, "; ");
     }
+}
+
+void add_words(struct text *text, const struct finding *finding)
+{
+    add_lead(text, &finding->lead);
+    add_mark(text, finding->memory.bytes > 0);
+    add_memory_difference(text, &finding->memory);
+    add_mark(text, finding->registers.registers > 0);
     add_register_difference(text, &finding->registers);
+    add_mark(text, finding->trace.differs != 0);
+    add_trace_difference(text, &finding->trace);
+    add_refusal_difference(text, &finding->claim);
     add_text(text, "%s", finding->reason);
 }
 

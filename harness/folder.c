@@ -1,16 +1,17 @@
-#define _POSIX_C_SOURCE 200809L
+#define _XOPEN_SOURCE 700
 
 #include "folder.h"
 
 #include <errno.h>
 #include <stdio.h>
+#include <stdlib.h>
 #include <string.h>
+#include <sys/stat.h>
 
 #include "asm.h"
+#include "hash.h"
 #include "names.h"
-
-/* A sheet's text may have comments, but not without end. */
-enum { TEXT_MAX = 1 << 20 };
+#include "same_file.h"
 
 /* -- The names -------------------------------------------------------------------------------- */
 
@@ -61,17 +62,14 @@ static bool parse_entry(const char *name, struct entry *entry)
 
 uint32_t shard_of(const char *name, uint32_t parts)
 {
-    /* FNV-1a. */
-    uint64_t hash = UINT64_C(14695981039346656037);
-    for (; *name != '\0'; name++) {
-        hash = (hash ^ (unsigned char)*name) * UINT64_C(1099511628211);
-    }
-    return (uint32_t)(hash % parts) + 1;
+    return (uint32_t)(hash_bytes(HASH_START, name, strlen(name)) % parts) + 1;
 }
 
 static void pass_over(const char *path, const char *name)
 {
-    fprintf(stderr, "moonbleat: %s: passing over ", path);
+    fputs("moonbleat: ", stderr);
+    put_word(stderr, path);
+    fputs(": passing over ", stderr);
     put_name(&(struct sink){stderr, put_plain}, name);
     fputs(": not the name of a night's file\n", stderr);
 }
@@ -85,9 +83,20 @@ static bool add_entry(const struct entry *entry, const char *name, const struct 
            (entry->card == NULL || add_to_list(&folder->cards, entry->card, entry->card_len));
 }
 
+/* Takes a file into the listing; one that is not there any more, or leads nowhere, by its name alone. */
+static void list_entry(DIR *stream, const char *name, struct listing *listing)
+{
+    struct stat status;
+    if (fstatat(dirfd(stream), name, &status, 0) != 0) {
+        status = (struct stat){.st_size = 0};
+    }
+    list_file(listing, name, &status);
+}
+
 /* Lists all entries; false and errno if that fails. */
 static bool list_entries(DIR *stream, const char *path, const struct shard *shard, struct folder *folder)
 {
+    struct listing listing = {.files = 0};
     errno = 0;
     for (const struct dirent *next = readdir(stream); next != NULL; next = readdir(stream)) {
         struct entry entry;
@@ -95,12 +104,15 @@ static bool list_entries(DIR *stream, const char *path, const struct shard *shar
             if (!add_entry(&entry, next->d_name, shard, folder)) {
                 return false;
             }
+            list_entry(stream, next->d_name, &listing);
         } else if (strcmp(next->d_name, ".") != 0 && strcmp(next->d_name, "..") != 0) {
             pass_over(path, next->d_name);
         }
         errno = 0;
     }
-    return errno == 0;
+    bool done = errno == 0;
+    folder->identity = identity_of(path, &listing);
+    return done;
 }
 
 bool open_folder(const char *path, const struct shard *shard, struct folder *folder)
@@ -121,6 +133,24 @@ bool open_folder(const char *path, const struct shard *shard, struct folder *fol
     return true;
 }
 
+/* Whether a name is that of a night's file in the folder. */
+static bool is_nights_file(const char *path, const char *name)
+{
+    struct entry entry;
+    return is_in_folder(name, path) && parse_entry(base_name(name), &entry);
+}
+
+bool is_kept_apart(const char *path, const char *out)
+{
+    char *target = realpath(out, NULL);
+    bool apart = !is_nights_file(path, out) && (target == NULL || !is_nights_file(path, target));
+    free(target);
+    if (!apart) {
+        complain_of(out, "the next night would read this as a file of its folder");
+    }
+    return apart;
+}
+
 void close_folder(struct folder *folder)
 {
     closedir(folder->stream);
@@ -133,7 +163,7 @@ void close_folder(struct folder *folder)
 /* What a sheet's files are read into. */
 struct rooms {
     uint8_t sheet[SHEET_LIMIT];
-    uint8_t text[TEXT_MAX + 1];
+    uint8_t text[SHEET_TEXT_MAX + 1];
     uint8_t memory[MEMORY_LIMIT];
 };
 
@@ -161,8 +191,8 @@ static bool read_text(const struct location *location, const char *name, struct 
     if (!read_part(location, name, PART_TEXT, room, &len, finding)) {
         return false;
     }
-    if (len > TEXT_MAX) {
-        set_unreadable(finding, PART_TEXT, "it has more than %d bytes", TEXT_MAX);
+    if (len > SHEET_TEXT_MAX) {
+        set_unreadable(finding, PART_TEXT, "it has more than %d bytes", SHEET_TEXT_MAX);
         return false;
     }
     return assemble_into(rooms, len, sheet, finding);
@@ -210,27 +240,74 @@ static bool make_reference(const struct location *location, const char *name, st
     return true;
 }
 
-static void judge_pair(const struct folder *folder, struct reference *reference, const char *name, const char *card,
-                       struct finding *finding)
+/* The names of a card's files that are there; the memory that it left must be. */
+struct pair_names {
+    struct text room[PARTS];
+    struct card_names names;
+};
+
+static const char *name_if_there(const struct folder *folder, struct pair_names *pair, const char *name,
+                                 const char *card, enum part part)
 {
-    static struct card_files files;
-    struct text after = {.len = 0}, registers = {.len = 0};
-    add_part_name(&after, name, card, PART_AFTER);
-    add_part_name(&registers, name, card, PART_REGISTERS);
-    bool has_registers = is_there(&folder->location, registers.at);
-    judge_card(reference, &folder->location, after.at, has_registers ? registers.at : NULL, &files, finding);
+    struct text *room = &pair->room[part];
+    room->len = 0;
+    add_part_name(room, name, card, part);
+    return is_there(&folder->location, room->at) ? room->at : NULL;
 }
 
-void judge_sheet(const struct folder *folder, const char *name, struct finding *findings)
+static void find_names(const struct folder *folder, const char *name, const char *card, struct pair_names *pair)
+{
+    pair->names = (struct card_names){
+        .after = name_if_there(folder, pair, name, card, PART_AFTER),
+        .registers = name_if_there(folder, pair, name, card, PART_REGISTERS),
+        .trace = name_if_there(folder, pair, name, card, PART_TRACE),
+        .refusal = name_if_there(folder, pair, name, card, PART_REFUSAL),
+    };
+}
+
+static void judge_pair(const struct folder *folder, struct reference *reference, const char *name, const char *card,
+                       struct finding *finding, uint32_t *counts)
+{
+    static struct card_files files;
+    static struct pair_names pair;
+    find_names(folder, name, card, &pair);
+    pair.names.after = pair.room[PART_AFTER].at;
+    judge_card(reference, &folder->location, &pair.names, &files, finding, counts);
+}
+
+/* Of a sheet that is refused: what the card answers. */
+static void judge_refused_pair(const struct folder *folder, const struct finding *refused, const char *name,
+                               const char *card, struct finding *finding, uint32_t *counts)
+{
+    static struct pair_names pair;
+    find_names(folder, name, card, &pair);
+    judge_refusal(refused, &folder->location, &pair.names, finding, counts);
+}
+
+bool judge_sheet(const struct folder *folder, const struct list *cards, const char *name, struct judged *judged)
 {
     static struct reference reference;
     struct finding common;
     bool made = make_reference(&folder->location, name, &reference, &common);
-    for (size_t i = 0; i < folder->cards.count; i++) {
+    if (made) {
+        judged->census.count = reference.shown.census.count;
+        memcpy(judged->census.at, reference.shown.census.at, judged->census.count * sizeof judged->census.at[0]);
+    } else {
+        begin_census(&judged->census);
+    }
+    if (!make_counts(judged)) {
+        complain(name);
+        return false;
+    }
+    for (size_t i = 0; i < cards->count; i++) {
+        struct finding *finding = &judged->findings[i];
         if (made) {
-            judge_pair(folder, &reference, name, folder->cards.at[i], &findings[i]);
+            judge_pair(folder, &reference, name, cards->at[i], finding, counts_of(judged, i));
+        } else if (common.verdict == VERDICT_REFUSED) {
+            judge_refused_pair(folder, &common, name, cards->at[i], finding, counts_of(judged, i));
         } else {
-            findings[i] = common;
+            *finding = common;
         }
     }
+    return true;
 }

@@ -6,8 +6,10 @@
 #include <stdbool.h>
 #include <stdint.h>
 
-#include "finding.h"
 #include "cards.h"
+#include "finding.h"
+#include "identity.h"
+#include "judged.h"
 #include "list.h"
 
 /* The part of a folder's sheets that one call takes, from 1; 1 of 1 is all. */
@@ -17,6 +19,7 @@ struct shard {
 };
 
 struct folder {
+    struct identity identity;
     DIR *stream;
     struct location location;
     struct list sheets; /* of the shard */
@@ -29,11 +32,15 @@ bool open_folder(const char *path, const struct shard *shard, struct folder *fol
 
 void close_folder(struct folder *folder);
 
+/* Whether an output would not be one of the folder's files, which the next night reads as a sheet's or a
+ * card's; else says so on standard error. */
+bool is_kept_apart(const char *path, const char *out);
+
 /* Which part of so many a sheet belongs to. Its name alone decides, so that no sheet is lost or taken
  * twice where one machine sees a file earlier than another. */
 uint32_t shard_of(const char *name, uint32_t parts);
 
-/* Judges every card of a folder on a sheet; a finding for each card. */
-void judge_sheet(const struct folder *folder, const char *name, struct finding *findings);
+/* Judges cards of a folder on a sheet; false if memory runs out. */
+bool judge_sheet(const struct folder *folder, const struct list *cards, const char *name, struct judged *judged);
 
 #endif

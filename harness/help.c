@@ -20,11 +20,15 @@ static const char purpose[] = "reference software for tensor shaders: write, che
 /* What holds for every command. */
 static const struct section sections[] = {
     {"FILES",
-     "SHEET, MEMORY and TRACE are files of bytes, TAPE and TEXT are lines of text; - is standard input,\n"
-     "as an OUT or a FILE standard output, which then gets nothing else. OUT and FILE are written only\n"
-     "if nothing was refused, and whole or not at all: a file that is there keeps its mode, and a\n"
-     "symbolic link is written through. A number is decimal, or hex behind 0x. A word after -- is a\n"
-     "file.\n"},
+     "MEMORY and TRACE are files of bytes, TAPE and TEXT are lines of text, and a SHEET is either, its\n"
+     "bytes or its text form: a text has no control character but tabs and line ends among its first\n"
+     "three bytes, and a sheet that is read has one. - is standard input, and as an OUT or a FILE, like\n"
+     "/dev/stdout, standard output, which then gets nothing else. OUT and FILE are written only if nothing\n"
+     "was refused, and whole or not at all: a file that is there keeps its mode, and a symbolic link is\n"
+     "written through. Pipes and devices are written to as they are. An output that would replace a file\n"
+     "that is read is refused; run may replace its memory, if OUT is the same word. A number is decimal,\n"
+     "or hex behind 0x. A word after -- is a file. docs/SHEETS.md and docs/NIGHT.md are installed in\n"
+     "share/doc/moonbleat.\n"},
     {"EXIT STATUS",
      "0 accepted; 1 refused, with number, place and sentence on standard error (with --json in the\n"
      "object); 2 wrong use; 3 a file could not be read or written, or a line of it is wrong.\n"
@@ -63,6 +67,18 @@ void print_usage(FILE *file, const struct command *command)
     for (const struct command *const *each = commands; *each != NULL; each++) {
         fprintf(file, "  %s\n", synopsis(*each).at);
     }
+    fputs("  moonbleat --version\n", file);
+}
+
+static void print_option_help(const struct command *command, unsigned option)
+{
+    const struct option_form *form = &option_forms[option];
+    printf("\n  %s %s\n      ", form->name, form->value == NULL ? "" : form->value);
+    if (option == OPTION_OUT) {
+        printf("write %s to OUT\n", command->out);
+    } else {
+        puts(form->help);
+    }
 }
 
 static void print_command_help(const struct command *command)
@@ -74,8 +90,7 @@ static void print_command_help(const struct command *command)
     }
     for (unsigned option = 0; option < OPTIONS; option++) {
         if ((command->takes & SET(option)) != 0) {
-            const struct option_form *form = &option_forms[option];
-            printf("\n  %s %s\n      %s\n", form->name, form->value == NULL ? "" : form->value, form->help);
+            print_option_help(command, option);
         }
     }
 }
@@ -84,7 +99,7 @@ static void print_tool_help(void)
 {
     printf("moonbleat: %s\n\n", purpose);
     print_usage(stdout, NULL);
-    printf("  moonbleat --version\n\n");
+    putchar('\n');
     for (const struct command *const *command = commands; *command != NULL; command++) {
         printf("  %-11s%s\n", (*command)->name, (*command)->summary);
     }
@@ -185,7 +200,7 @@ static int do_help(const struct request *request)
     if (request->file_count > 0) {
         command = find_command(request->files[0]);
         if (command == NULL) {
-            return wrong_use(NULL, "unknown command %s", request->files[0]);
+            return unknown_command(request->files[0]);
         }
     }
     print_help(command);

@@ -3,6 +3,8 @@
 #include <inttypes.h>
 #include <stdio.h>
 
+#include "names.h"
+
 static void print_text(const char *text)
 {
     putchar('"');
@@ -55,6 +57,12 @@ void json_text(struct json *json, const char *key, const char *text)
 {
     print_key(json, key);
     print_text(text);
+}
+
+void json_name(struct json *json, const char *key, const char *name)
+{
+    print_key(json, key);
+    put_json(stdout, name);
 }
 
 void json_flag(struct json *json, const char *key, bool flag)

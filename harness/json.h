@@ -14,6 +14,8 @@ void json_open(struct json *json, const char *key, char bracket);
 void json_close(struct json *json, char bracket);
 void json_number(struct json *json, const char *key, int64_t number);
 void json_text(struct json *json, const char *key, const char *text);
+/* A text that may hold any byte, as a name does. */
+void json_name(struct json *json, const char *key, const char *name);
 void json_flag(struct json *json, const char *key, bool flag);
 void json_null(struct json *json, const char *key);
 

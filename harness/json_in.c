@@ -132,7 +132,7 @@ bool json_string(struct json_in *json, char *room, size_t room_len)
 
 /* -- Numbers and keys ------------------------------------------------------------------------- */
 
-static bool read_number64(struct json_in *json, uint64_t *number)
+bool json_number64(struct json_in *json, uint64_t *number)
 {
     if (json->failed) {
         return false;
@@ -156,7 +156,7 @@ static bool read_number64(struct json_in *json, uint64_t *number)
 bool json_number32(struct json_in *json, uint32_t *number)
 {
     uint64_t wide = 0;
-    bool done = read_number64(json, &wide);
+    bool done = json_number64(json, &wide);
     *number = (uint32_t)wide;
     return done && (wide <= UINT32_MAX || json_fail(json));
 }
@@ -181,7 +181,45 @@ bool json_same_string(struct json_in *json, const char *key, const char *value)
 bool json_same_number(struct json_in *json, const char *key, uint64_t value)
 {
     uint64_t number;
-    return json_key(json, key) && read_number64(json, &number) && (number == value || json_fail(json));
+    return json_key(json, key) && json_number64(json, &number) && (number == value || json_fail(json));
+}
+
+/* Passes over a string, however long. */
+static bool skip_string(struct json_in *json)
+{
+    getc(json->file);
+    for (int c = getc(json->file); c != '"'; c = getc(json->file)) {
+        c = c == '\\' ? getc(json->file) : c;
+        if (c == EOF) {
+            return json_fail(json);
+        }
+    }
+    return true;
+}
+
+/* Brackets are counted, not matched: what is passed over says nothing. */
+bool json_skip(struct json_in *json)
+{
+    size_t depth = 0;
+    while (!json->failed) {
+        int c = peek(json);
+        bool opens = c == '{' || c == '[', closes = c == '}' || c == ']';
+        if (c == EOF || (depth == 0 && (closes || c == ','))) {
+            return json_fail(json);
+        }
+        if (c == '"') {
+            skip_string(json);
+        } else {
+            getc(json->file);
+        }
+        depth += opens;
+        depth -= closes;
+        c = peek(json);
+        if (depth == 0 && (c == ',' || c == '}' || c == ']')) {
+            return !json->failed;
+        }
+    }
+    return false;
 }
 
 bool json_end(struct json_in *json)

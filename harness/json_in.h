@@ -27,8 +27,12 @@ bool json_try(struct json_in *json, char sign);
  * string with a 0, or too long for the room, is a fault. */
 bool json_string(struct json_in *json, char *room, size_t room_len);
 
-/* Reads a whole number of 32 bits. */
+/* Read a whole number of 32 or 64 bits. */
 bool json_number32(struct json_in *json, uint32_t *number);
+bool json_number64(struct json_in *json, uint64_t *number);
+
+/* Passes over any value. */
+bool json_skip(struct json_in *json);
 
 /* Reads this key and its colon. */
 bool json_key(struct json_in *json, const char *key);

@@ -68,17 +68,22 @@ void add_field_name(struct text *text, const struct reading *reading, const stru
 
 /* -- Refusals 1 to 4 -------------------------------------------------------------------------- */
 
-/* Whether an edition has a field; where the sheet has none, every one may be meant. */
-static bool is_known(unsigned edition, const struct field_form *form)
+bool is_known_field(unsigned edition, const struct field_form *form)
 {
     return edition == 0 || form->since <= edition;
+}
+
+void add_later_edition(struct text *text, const struct field_form *form, unsigned edition)
+{
+    add_text(text, "tag 0x%02X (%s) comes with edition %u, and the sheet has edition %u", (unsigned)form->tag,
+             form->name, (unsigned)form->since, edition);
 }
 
 static void add_known_tags(struct text *text, unsigned edition)
 {
     const char *before = "";
     for (size_t i = 0; i < field_form_count; i++) {
-        if (is_known(edition, &field_forms[i])) {
+        if (is_known_field(edition, &field_forms[i])) {
             add_text(text, "%s 0x%02X", before, (unsigned)field_forms[i].tag);
             before = ",";
         }
@@ -88,16 +93,14 @@ static void add_known_tags(struct text *text, unsigned edition)
 static uint32_t judge_tag(const struct field *field, struct text *sentence)
 {
     const struct field_form *form = field->form;
-    if (form != NULL && is_known(field->edition, form)) {
+    if (form != NULL && is_known_field(field->edition, form)) {
         return 0;
     }
-    add_text(sentence, "tag 0x%02X ", (unsigned)field->tag);
     if (form == NULL) {
-        add_text(sentence, "is none of");
+        add_text(sentence, "tag 0x%02X is none of", (unsigned)field->tag);
         add_known_tags(sentence, field->edition);
     } else {
-        add_text(sentence, "(%s) comes with edition %u, and the sheet has edition %u", form->name,
-                 (unsigned)form->since, field->edition);
+        add_later_edition(sentence, form, field->edition);
     }
     return MOONBLEAT_REFUSED_TAG;
 }

@@ -56,6 +56,14 @@ void sort_list(struct list *list)
     list->count = kept;
 }
 
+bool find_in_list(const struct list *list, const char *name, size_t *number)
+{
+    char **found =
+        list->count == 0 ? NULL : bsearch(&name, list->at, list->count, sizeof list->at[0], compare_names);
+    *number = found == NULL ? 0 : (size_t)(found - list->at);
+    return found != NULL;
+}
+
 void free_list(struct list *list)
 {
     for (size_t i = 0; i < list->count; i++) {

@@ -19,6 +19,9 @@ bool add_to_list(struct list *list, const char *name, size_t len);
 /* Sorts the names by their bytes and keeps each once. */
 void sort_list(struct list *list);
 
+/* Finds the number of a name in a sorted list; false if it is not there. */
+bool find_in_list(const struct list *list, const char *name, size_t *number);
+
 void free_list(struct list *list);
 
 #endif

@@ -82,7 +82,7 @@ static void put_frame(FILE *file, const struct map *map, struct frames *frames)
         fprintf(file, "<use href=\"#f%" PRIu32 "x%" PRIu32 "\"/>", map->rows, map->columns);
         return;
     }
-    fprintf(file, "<g id=\"f%" PRIu32 "x%" PRIu32 "\">", map->rows, map->columns);
+    fprintf(file, "<g id=\"f%" PRIu32 "x%" PRIu32 "\" class=\"m-frame\">", map->rows, map->columns);
     put_lines(file, map);
     put_numbers(file, map);
     fputs("</g>", file);

@@ -5,7 +5,7 @@
 #include <stdbool.h>
 #include <stddef.h>
 
-#include "report_json.h"
+#include "report_in.h"
 
 struct merge {
     struct report_in *reports;
@@ -13,13 +13,10 @@ struct merge {
 };
 
 /* Opens the reports, which must be all parts of one night; says on standard error what is wrong. */
-bool open_merge(char **paths, size_t count, struct merge *merge);
+bool open_merge(const char *const *paths, size_t count, struct merge *merge);
 
-/* The cards of the night. */
-const struct list *merged_cards(const struct merge *merge);
-
-/* The report that has the next sheet, NULL if none is left. Call next_sheet to go past it. */
-struct report_in *next_report(const struct merge *merge);
+/* Reads all sheets of all parts into a night of some of their cards, to the end of each report. */
+bool take_merge(const struct merge *merge, struct night *night);
 
 void close_merge(struct merge *merge);
 

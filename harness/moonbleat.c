@@ -45,7 +45,7 @@ int main(int argc, char **argv)
     }
     const struct command *command = find_command(argv[1]);
     if (command == NULL) {
-        return wrong_use(NULL, "unknown command %s", argv[1]);
+        return unknown_command(argv[1]);
     }
     return flushed(perform(command, argv + 2, (size_t)argc - 2));
 }

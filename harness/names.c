@@ -76,56 +76,111 @@ static bool is_plain(const char *name)
     return true;
 }
 
-static void put_escaped(const struct sink *sink, const char *at, size_t length)
+/* Room for a character as it is written: each byte of the longest sequence as \xHH. */
+enum { SHOWN_ROOM = 4 * SEQUENCE_MAX + 1 };
+
+static void escape(const char *at, size_t length, char shown[SHOWN_ROOM])
 {
-    char escape[sizeof "\\xHH"];
     switch (*at) {
     case '\n':
-        sink->put(sink->file, "\\n");
+        snprintf(shown, SHOWN_ROOM, "\\n");
         break;
     case '\t':
-        sink->put(sink->file, "\\t");
+        snprintf(shown, SHOWN_ROOM, "\\t");
         break;
     case '"':
     case '\\':
-        snprintf(escape, sizeof escape, "\\%c", *at);
-        sink->put(sink->file, escape);
+        snprintf(shown, SHOWN_ROOM, "\\%c", *at);
         break;
     default:
         for (size_t i = 0; i < length; i++) {
-            snprintf(escape, sizeof escape, "\\x%02X", (unsigned)(unsigned char)at[i]);
-            sink->put(sink->file, escape);
+            snprintf(shown + 4 * i, SHOWN_ROOM - 4 * i, "\\x%02X", (unsigned)(unsigned char)at[i]);
         }
     }
 }
 
-/* Writes each character, escaped if it cannot be seen or is one of `others`. */
+/* Takes the next character of a text as it is to be written: escaped if it cannot be seen or is one of
+ * `others`. Gives the rest of the text. */
+static const char *show_next(const char *text, const char *others, char shown[SHOWN_ROOM])
+{
+    uint32_t point;
+    size_t length = read_point(text, &point);
+    if (length == 0 || is_unseen(point) || strchr(others, *text) != NULL) {
+        length = length == 0 ? 1 : length;
+        escape(text, length, shown);
+    } else {
+        memcpy(shown, text, length);
+        shown[length] = '\0';
+    }
+    return text + length;
+}
+
 static void put_visible(const struct sink *sink, const char *text, const char *others)
 {
+    char character[SHOWN_ROOM];
     while (*text != '\0') {
-        uint32_t point;
-        size_t length = read_point(text, &point);
-        if (length == 0 || is_unseen(point) || strchr(others, *text) != NULL) {
-            length = length == 0 ? 1 : length;
-            put_escaped(sink, text, length);
-        } else {
-            char character[SEQUENCE_MAX + 1] = {0};
-            memcpy(character, text, length);
-            sink->put(sink->file, character);
-        }
-        text += length;
+        text = show_next(text, others, character);
+        sink->put(sink->file, character);
     }
+}
+
+/* What is escaped between double quotes besides what cannot be seen. */
+#define QUOTED_OTHERS "\"\\"
+
+static void put_in_quotes(const struct sink *sink, const char *name)
+{
+    sink->put(sink->file, "\"");
+    put_visible(sink, name, QUOTED_OTHERS);
+    sink->put(sink->file, "\"");
 }
 
 void put_name(const struct sink *sink, const char *name)
 {
     if (is_plain(name)) {
         sink->put(sink->file, name);
-        return;
+    } else {
+        put_in_quotes(sink, name);
     }
-    sink->put(sink->file, "\"");
-    put_visible(sink, name, "\"\\");
-    sink->put(sink->file, "\"");
+}
+
+/* Whether a word of the command line can stand in a message as it is: all of it is seen, and it does not
+ * look like a quoted one. */
+static bool is_clear(const char *word)
+{
+    bool clear = *word != '"';
+    while (clear && *word != '\0') {
+        uint32_t point;
+        size_t length = read_point(word, &point);
+        clear = length > 0 && !is_unseen(point);
+        word += length;
+    }
+    return clear;
+}
+
+void put_word(FILE *file, const char *word)
+{
+    if (is_clear(word)) {
+        fputs(word, file);
+    } else {
+        put_in_quotes(&(struct sink){file, put_plain}, word);
+    }
+}
+
+struct text shown(const char *word)
+{
+    struct text text = {.len = 0};
+    if (is_clear(word)) {
+        add_text(&text, "%s", word);
+        return text;
+    }
+    char character[SHOWN_ROOM];
+    add_text(&text, "\"");
+    while (*word != '\0') {
+        word = show_next(word, QUOTED_OTHERS, character);
+        add_text(&text, "%s", character);
+    }
+    add_text(&text, "\"");
+    return text;
 }
 
 void put_sentence(const struct sink *sink, const char *text)

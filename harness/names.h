@@ -4,6 +4,8 @@
 
 #include <stdio.h>
 
+#include "text.h"
+
 /* Room for a name, which has at most 255 bytes. */
 enum { NAME_ROOM = 256 };
 
@@ -22,6 +24,13 @@ void put_quoted(FILE *file, const char *text);
  * it gets double quotes, and what a reader could not see or a line could not hold is written as \n,
  * \t, \", \\ or \xHH. */
 void put_name(const struct sink *sink, const char *name);
+
+/* Writes a word of the command line for a message: as it stands, blanks and all, but in double quotes and
+ * escaped as above if it has what a reader could not see. */
+void put_word(FILE *file, const char *word);
+
+/* The same as a text, for a longer sentence. */
+struct text shown(const char *word);
 
 /* Writes a sentence, in which only what could not be seen is written as \n, \t or \xHH. */
 void put_sentence(const struct sink *sink, const char *text);

@@ -12,17 +12,26 @@ enum option {
     OPTION_OUT,
     OPTION_REGISTERS,
     OPTION_MASKS,
+    OPTION_KEPT_MASKS,
+    OPTION_HEX,
+    OPTION_AS,
     OPTION_JSON,
     OPTION_ASM,
     OPTION_MAN,
     OPTION_CARD,
     OPTION_CARD_REGISTERS,
+    OPTION_CARD_TRACE,
     OPTION_ALL,
     OPTION_JOBS,
     OPTION_CSV,
     OPTION_HTML,
     OPTION_SHARD,
     OPTION_MERGE,
+    OPTION_NAME,
+    OPTION_SINCE,
+    OPTION_ONLY_CARD,
+    OPTION_MISSING,
+    OPTION_NUL,
     OPTIONS
 };
 
@@ -34,6 +43,8 @@ struct option_form {
     const char *value; /* what the help calls the word after it; NULL for a switch */
     const char *help;
     bool repeats; /* may be given more than once */
+    bool reads;   /* the word is a file that is read .. */
+    bool writes;  /* .. or written */
 };
 
 extern const struct option_form option_forms[OPTIONS];
@@ -58,7 +69,7 @@ struct request {
 struct command;
 
 /* Says what is wrong with the command line and how the command is used (NULL: any command); gives
- * the exit status. */
+ * the exit status. Words of the command line go in as names.h shows them. */
 int wrong_use(const struct command *command, const char *format, ...) __attribute__((format(printf, 2, 3)));
 
 /* Reads the words after a command's name; gives an exit status. The files are moved to the front

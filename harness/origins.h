@@ -6,6 +6,7 @@
 #include <stddef.h>
 #include <stdint.h>
 
+#include "fields.h"
 #include "moonbleat.h"
 
 /* The element whose store left a byte. */
@@ -26,10 +27,16 @@ struct origins {
         uint8_t byte;
         uint16_t element;
     } bytes[MOONBLEAT_MEMORY_MAX];
-    struct store {
-        uint8_t reg;
-        uint8_t type[MOONBLEAT_TYPE_BYTES];
-    } stores[MOONBLEAT_STEPS_MAX];
+    size_t step_count;
+    struct step_origin {
+        struct field field;
+        uint8_t reg;                         /* that it gives or stores */
+        uint8_t type[MOONBLEAT_TYPE_BYTES];  /* of its matrix */
+        uint8_t giver;                       /* of a store: the step that gives its matrix */
+    } steps[MOONBLEAT_STEPS_MAX];
+    uint8_t givers[MOONBLEAT_REGISTERS]; /* the last step that gives each register, + 1; 0: none does */
+    uint8_t trace[MOONBLEAT_TRACE_MAX];
+    size_t access_count;
 };
 
 /* Finds the origins for a sheet that moonbleat_check accepts for the memory's length. */
@@ -41,10 +48,10 @@ unsigned stored_by(const struct origins *origins, size_t byte);
 /* The origin of a byte that some step stores to. */
 struct origin origin_of(const struct origins *origins, size_t byte);
 
-/* The type of the matrix that a store takes: kind, rows, columns. */
-const uint8_t *stored_type(const struct origins *origins, uint32_t step);
+/* The bytes of an element of a type. */
+size_t type_element_size(const uint8_t type[MOONBLEAT_TYPE_BYTES]);
 
-/* Finds the last step that gives a register its matrix, and the step's tag; false if none does. */
-bool find_giver(const uint8_t *sheet, size_t sheet_len, uint8_t reg, uint32_t *step, uint32_t *tag);
+/* The elements of a matrix of a type. */
+unsigned type_element_count(const uint8_t type[MOONBLEAT_TYPE_BYTES]);
 
 #endif

@@ -5,61 +5,12 @@
 #include <string.h>
 
 #include "files.h"
+#include "grid.h"
 #include "map.h"
 #include "names.h"
+#include "page_style.h"
+#include "since.h"
 #include "spool.h"
-
-/* Blue and orange, which colour-blind readers tell apart; every verdict has a sign and a word besides. */
-static const char style[] =
-    ":root{--ink:#1a2129;--soft:#56616c;--line:#d3dae0;--ground:#f5f7f9;--agree:#00639c;--agree-soft:#dcebf5;"
-    "--differ:#b04600;--other:#6b5900;--other-soft:#f6edc9}\n"
-    "*{box-sizing:border-box}\n"
-    "body{margin:0 auto;padding:1.25rem;max-width:70rem;color:var(--ink);background:#fff;"
-    "font:16px/1.5 system-ui,-apple-system,'Segoe UI',Roboto,'DejaVu Sans',sans-serif}\n"
-    "header{padding:1rem 1.25rem;border-left:.6rem solid;background:var(--ground)}\n"
-    "header.agrees{border-color:var(--agree)}header.differs{border-color:var(--differ)}"
-    "header.open{border-color:var(--other)}\n"
-    "header p{margin:0;color:var(--soft)}\n"
-    "h1{margin:.1rem 0 .3rem;font-size:1.9rem;line-height:1.2}\n"
-    "h2{margin:2rem 0 .6rem;font-size:1.25rem}\n"
-    "h3{margin:0 0 .5rem;font-size:1rem;overflow-wrap:anywhere}\n"
-    "a{color:inherit}\n"
-    ".wide{overflow-x:auto}\n"
-    "table{border-collapse:collapse}\n"
-    "th,td{padding:.3rem .7rem;border-bottom:1px solid var(--line);text-align:left;vertical-align:top}\n"
-    "thead th{border-bottom:2px solid var(--ink);font-size:.85rem;vertical-align:bottom}\n"
-    "tbody th{font-weight:600;overflow-wrap:break-word;max-width:18rem}\n"
-    ".number{text-align:right;font-variant-numeric:tabular-nums}\n"
-    ".grid td{padding:.2rem .25rem;text-align:center}.grid thead th+th{text-align:center}\n"
-    ".grid th:first-child{position:sticky;left:0;background:#fff}\n"
-    ".grid .run td{text-align:left;color:var(--soft)}\n"
-    ".sign{display:inline-block;min-width:1.8rem;padding:0 .45rem;border-radius:.25rem;text-align:center;"
-    "text-decoration:none;white-space:nowrap}\n"
-    ".sign.agrees{color:var(--agree);background:var(--agree-soft)}\n"
-    ".sign.differs{color:#fff;background:var(--differ);font-weight:700}\n"
-    ".sign.missing,.sign.refused,.sign.unreadable{color:var(--other);background:var(--other-soft);font-weight:700}\n"
-    ".legend{margin:.2rem 0 .8rem;color:var(--soft);font-size:.9rem}.pair{white-space:nowrap;margin-right:1rem}\n"
-    "article{display:flex;flex-wrap:wrap;gap:.8rem 2rem;justify-content:space-between;margin:0 0 1rem;"
-    "padding:1rem 1.25rem;border:1px solid var(--line);border-left:.35rem solid var(--differ);border-radius:.3rem;"
-    "break-inside:avoid}\n"
-    "article div{flex:1 1 18rem;min-width:0}\n"
-    "article p{margin:.15rem 0;overflow-wrap:anywhere}\n"
-    "article p.first{font-weight:600}article p+p.first{margin-top:.7rem}\n"
-    "figure{margin:0;flex:0 1 auto;max-width:100%}figcaption{color:var(--soft);font-size:.85rem}\n"
-    "svg{display:block;max-width:100%;height:auto}\n"
-    "svg text{font:6px system-ui,'DejaVu Sans',sans-serif;fill:var(--soft);text-anchor:middle}\n"
-    ".m-agrees{fill:var(--agree-soft)}.m-elsewhere{fill:#fff}.m-differs{fill:var(--differ)}\n"
-    ".m-cross{stroke:#fff;stroke-width:1.6;fill:none}.m-lines{stroke:var(--line);stroke-width:.5;fill:none}\n"
-    "ul{padding-left:1.2rem}li{margin:.2rem 0;overflow-wrap:anywhere}\n"
-    "@media (max-width:34rem){body{padding:.75rem}h1{font-size:1.5rem}th,td{padding:.25rem .3rem;font-size:.9rem}"
-    "thead th{font-size:.8rem}tbody th{max-width:10rem}.word{display:none}td .sign{white-space:normal;text-align:left}"
-    ".grid td .sign{text-align:center}article{padding:.8rem}}\n"
-    "@media print{body{max-width:none;padding:0;font-size:10pt}*{print-color-adjust:exact;"
-    "-webkit-print-color-adjust:exact}.wide{overflow:visible}.grid th:first-child{position:static}"
-    "h2{break-after:avoid}tr{break-inside:avoid}}\n";
-
-/* So many sheets in a row on which every card agrees are one row of the grid. */
-enum { RUN_MIN = 8 };
 
 /* The parts of a page that grow with each sheet: rows of the grid, what differs in words and maps, and what could
  * not be compared. The page is put together when the totals, which come first, are known. */
@@ -69,32 +20,20 @@ struct page {
     FILE *spools[SPOOLS];
     size_t differing;
     struct frames frames;
-    size_t run; /* sheets on which every card agrees, since the last that has another verdict */
-    char run_names[RUN_MIN][NAME_ROOM]; /* the first of these .. */
-    char run_last[NAME_ROOM];           /* .. and the last */
+    struct grid grid;
 };
 
-static const char *verdict_sign(unsigned verdict)
-{
-    static const char *const signs[VERDICTS] = {
-        [VERDICT_AGREES] = "&#10003;", [VERDICT_DIFFERS] = "&#10007;",    [VERDICT_MISSING] = "&#8211;",
-        [VERDICT_REFUSED] = "R",       [VERDICT_UNREADABLE] = "?",
-    };
-    return signs[verdict];
-}
-
-static void put_sign(FILE *file, unsigned verdict)
-{
-    fprintf(file, "<span class=\"sign %s\">%s</span>", verdict_name(verdict), verdict_sign(verdict));
-}
-
-struct page *new_page(void)
+struct page *new_page(const struct night *night)
 {
     struct page *page = calloc(1, sizeof *page);
-    if (page == NULL) {
+    uint32_t *verdicts = calloc(night->cards->count + 1, sizeof verdicts[0]);
+    if (page == NULL || verdicts == NULL) {
         complain("a page");
+        free(verdicts);
+        free(page);
         return NULL;
     }
+    page->grid.verdicts = verdicts;
     for (size_t i = 0; i < SPOOLS; i++) {
         page->spools[i] = open_spool();
         if (page->spools[i] == NULL) {
@@ -102,16 +41,21 @@ struct page *new_page(void)
             return NULL;
         }
     }
+    page->grid.file = page->spools[GRID];
     return page;
 }
 
 void free_page(struct page *page)
 {
-    for (size_t i = 0; page != NULL && i < SPOOLS; i++) {
+    if (page == NULL) {
+        return;
+    }
+    for (size_t i = 0; i < SPOOLS; i++) {
         if (page->spools[i] != NULL) {
             fclose(page->spools[i]);
         }
     }
+    free(page->grid.verdicts);
     free(page);
 }
 
@@ -140,24 +84,37 @@ static void put_paragraphs(FILE *file, struct text words)
     }
 }
 
-static void put_difference(struct page *page, const char *name, const char *card, const struct finding *finding)
+/* What differs, in words and as a map. */
+static void put_words(FILE *file, struct page *page, const struct finding *finding)
 {
-    FILE *file = page->spools[DIFFERENCES];
-    struct text memory = {.len = 0}, registers = {.len = 0};
-    fprintf(file, "<article id=\"d%zu\"><div><h3>", page->differing);
-    put_page_name(file, card);
-    fputs(" on ", file);
-    put_page_name(file, name);
-    fputs("</h3>", file);
+    struct text lead = {.len = 0}, memory = {.len = 0}, registers = {.len = 0}, trace = {.len = 0}, claim = {.len = 0};
+    add_lead(&lead, &finding->lead);
     add_memory_difference(&memory, &finding->memory);
     add_register_difference(&registers, &finding->registers);
+    put_paragraphs(file, lead);
     put_paragraphs(file, memory);
     put_paragraphs(file, registers);
+    add_trace_difference(&trace, &finding->trace);
+    add_refusal_difference(&claim, &finding->claim);
+    put_paragraphs(file, trace);
+    put_paragraphs(file, claim);
     fputs("</div>", file);
     if (finding->map.rows > 0) {
         put_map(file, &finding->map, &page->frames);
     }
     fputs("</article>\n", file);
+}
+
+static void put_difference(struct page *page, const struct night *night, const char *name, size_t card,
+                           const struct finding *finding)
+{
+    FILE *file = page->spools[DIFFERENCES];
+    fprintf(file, "<article id=\"d%zu\"><div><h3>", page->differing);
+    put_page_name(file, night->cards->at[card]);
+    fputs(" on ", file);
+    put_page_name(file, name);
+    fputs("</h3>", file);
+    put_words(file, page, finding);
 }
 
 /* A line for a card that could not be judged; card NULL: no card could. */
@@ -185,103 +142,29 @@ static bool is_of_sheet(const struct finding *finding)
             !is_cards_part(finding->part));
 }
 
-static void put_cell(struct page *page, const struct finding *finding)
+/* Whether what is found is of the sheet's own files, for every card. */
+static bool is_common(const struct night *night, const struct finding *findings)
 {
-    FILE *grid = page->spools[GRID];
-    fputs("<td>", grid);
-    if (finding->verdict == VERDICT_DIFFERS) {
-        fprintf(grid, "<a class=\"sign %s\" href=\"#d%zu\">%s</a>", verdict_name(VERDICT_DIFFERS), page->differing,
-                verdict_sign(VERDICT_DIFFERS));
-    } else {
-        put_sign(grid, finding->verdict);
-    }
-    fputs("</td>", grid);
-}
-
-static void begin_row(FILE *grid, const char *name)
-{
-    fputs("<tr><th>", grid);
-    put_page_name(grid, name);
-    fputs("</th>", grid);
-}
-
-static void put_row(struct page *page, const struct night *night, const char *name, const struct finding *findings)
-{
-    begin_row(page->spools[GRID], name);
+    bool common = true;
     for (size_t i = 0; i < night->cards->count; i++) {
-        const struct finding *finding = &findings[i];
-        const char *card = night->cards->at[i];
-        if (finding->verdict == VERDICT_DIFFERS) {
-            page->differing++;
-            put_difference(page, name, card, finding);
-        } else if (finding->verdict != VERDICT_AGREES && (i == 0 || !is_of_sheet(finding))) {
-            put_uncompared(page, name, is_of_sheet(finding) ? NULL : card, finding);
-        }
-        put_cell(page, finding);
+        common = common && is_of_sheet(&findings[i]);
     }
-    fputs("</tr>\n", page->spools[GRID]);
-}
-
-/* A row for all sheets of a run. */
-static void put_run(const struct page *page, const struct night *night)
-{
-    FILE *grid = page->spools[GRID];
-    fputs("<tr class=\"run\"><th>", grid);
-    put_page_name(grid, page->run_names[0]);
-    fputs(" to ", grid);
-    put_page_name(grid, page->run_last);
-    fprintf(grid, "</th><td colspan=\"%zu\">", night->cards->count);
-    put_sign(grid, VERDICT_AGREES);
-    fprintf(grid, " %zu sheets: every card agrees</td></tr>\n", page->run);
-}
-
-/* A row on which every card agrees. */
-static void put_agreeing_row(FILE *grid, const struct night *night, const char *name)
-{
-    begin_row(grid, name);
-    for (size_t i = 0; i < night->cards->count; i++) {
-        fputs("<td>", grid);
-        put_sign(grid, VERDICT_AGREES);
-        fputs("</td>", grid);
-    }
-    fputs("</tr>\n", grid);
-}
-
-/* Writes the sheets that agree since the last that did not: each, or all as one row. */
-static void end_run(struct page *page, const struct night *night)
-{
-    if (page->run >= RUN_MIN) {
-        put_run(page, night);
-    } else {
-        for (size_t i = 0; i < page->run; i++) {
-            put_agreeing_row(page->spools[GRID], night, page->run_names[i]);
-        }
-    }
-    page->run = 0;
-}
-
-static bool all_agree(const struct night *night, const struct finding *findings)
-{
-    for (size_t i = 0; i < night->cards->count; i++) {
-        if (findings[i].verdict != VERDICT_AGREES) {
-            return false;
-        }
-    }
-    return true;
+    return common;
 }
 
 void put_page_sheet(struct page *page, const struct night *night, const char *name, const struct finding *findings)
 {
-    if (!all_agree(night, findings)) {
-        end_run(page, night);
-        put_row(page, night, name, findings);
-        return;
+    bool common = is_common(night, findings);
+    put_grid_sheet(&page->grid, night, name, findings);
+    for (size_t i = 0; i < night->cards->count; i++) {
+        const struct finding *finding = &findings[i];
+        if (finding->verdict == VERDICT_DIFFERS) {
+            put_difference(page, night, name, i, finding);
+            page->differing++;
+        } else if (finding->verdict != VERDICT_AGREES && (i == 0 || !common)) {
+            put_uncompared(page, name, common ? NULL : night->cards->at[i], finding);
+        }
     }
-    if (page->run < RUN_MIN) {
-        strcpy(page->run_names[page->run], name);
-    }
-    strcpy(page->run_last, name);
-    page->run++;
 }
 
 /* -- The whole -------------------------------------------------------------------------------- */
@@ -318,16 +201,21 @@ static void put_head(FILE *file, const struct night *night)
 {
     const size_t *counts = night->total.counts;
     bool differs = counts[VERDICT_DIFFERS] > 0, is_open = count_uncompared(&night->total) > 0;
+    struct text identity = {.len = 0};
     fputs("<!DOCTYPE html>\n<html lang=\"en\"><head><meta charset=\"utf-8\"/>"
           "<meta name=\"viewport\" content=\"width=device-width, initial-scale=1\"/>\n<title>", file);
     put_verdict(file, night);
-    fprintf(file, "</title>\n<style>\n%s</style></head>\n<body>\n", style);
-    fprintf(file, "<header class=\"%s\"><p>Moonbleat: the night's report</p><h1>",
+    fprintf(file, "</title>\n<style>\n%s</style></head>\n<body>\n", page_style);
+    fprintf(file, "<header class=\"%s\"><p>Moonbleat: the report of night ",
             differs ? "differs" : is_open ? "open" : "agrees");
+    put_page_name(file, night->identity.name);
+    fputs("</p><h1>", file);
     put_verdict(file, night);
-    fprintf(file, "</h1><p>%zu sheet%s on %zu card%s: %zu agree, %zu differ, %zu could not be compared.</p></header>\n",
+    fprintf(file, "</h1><p>%zu sheet%s on %zu card%s: %zu agree, %zu differ, %zu could not be compared.</p>",
             night->sheets, plural(night->sheets), night->cards->count, plural(night->cards->count),
             counts[VERDICT_AGREES], counts[VERDICT_DIFFERS], count_uncompared(&night->total));
+    add_identity(&identity, &night->identity);
+    fprintf(file, "<p class=\"identity\">%s</p></header>\n", identity.at);
 }
 
 /* A card's verdict in words. */
@@ -352,6 +240,18 @@ static bool has_column(const struct night *night, unsigned verdict)
     return verdict == VERDICT_AGREES || verdict == VERDICT_DIFFERS || night->total.counts[verdict] > 0;
 }
 
+/* A card's name, which leads to its first cause. */
+static void put_card_link(FILE *file, const struct night *night, size_t card)
+{
+    if (night->causes[card].count > 0) {
+        fprintf(file, "<a href=\"#c%zu-0\">", card);
+        put_page_name(file, night->cards->at[card]);
+        fputs("</a>", file);
+    } else {
+        put_page_name(file, night->cards->at[card]);
+    }
+}
+
 static void put_card_table(FILE *file, const struct night *night)
 {
     fputs("<section><h2>Cards</h2><div class=\"wide\"><table><thead><tr><th>card</th><th>verdict</th>", file);
@@ -365,7 +265,7 @@ static void put_card_table(FILE *file, const struct night *night)
     fputs("</tr></thead><tbody>\n", file);
     for (size_t i = 0; i < night->cards->count; i++) {
         fputs("<tr><th>", file);
-        put_page_name(file, night->cards->at[i]);
+        put_card_link(file, night, i);
         fputs("</th><td>", file);
         put_card_verdict(file, &night->tallies[i]);
         fputs("</td>", file);
@@ -390,10 +290,10 @@ static bool put_grid(struct page *page, const struct night *night)
             fprintf(file, " %s</span> ", verdict_name(i));
         }
     }
-    fputs("</p><div class=\"wide\"><table class=\"grid\"><thead><tr><th>sheet</th>", file);
+    fputs("</p><div class=\"tall\"><table class=\"grid\"><thead><tr><th>sheet</th>", file);
     for (size_t i = 0; i < night->cards->count; i++) {
         fputs("<th>", file);
-        put_page_name(file, night->cards->at[i]);
+        put_card_link(file, night, i);
         fputs("</th>", file);
     }
     fputs("</tr></thead><tbody>\n", file);
@@ -402,31 +302,106 @@ static bool put_grid(struct page *page, const struct night *night)
     return done;
 }
 
-static bool put_whole(struct page *page, const struct night *night)
+/* The sheets of a cause, each leading to its difference. */
+static void put_cause_sheets(FILE *file, const struct night *night, size_t card, size_t cause)
+{
+    const char *mark = "<p class=\"sheets\">Sheets: ";
+    for (size_t i = 0; find_of_cause(night, card, cause, &i); i++) {
+        fprintf(file, "%s<a href=\"#d%zu\">", mark, i);
+        put_page_name(file, night->kept.differences[i].sheet);
+        fputs("</a>", file);
+        mark = ", ";
+    }
+    fputs("</p>", file);
+}
+
+/* A cause: its headline, its sheets, and a worked example. */
+static bool put_cause(struct page *page, struct night *night, size_t card, size_t cause)
 {
     FILE *file = page->spools[WHOLE];
+    struct shown_cause told;
+    if (!show_cause(night, card, cause, &told)) {
+        return false;
+    }
+    fprintf(file, "<article class=\"cause\" id=\"c%zu-%zu\"><div><h3>", card, cause);
+    put_page_name(file, night->cards->at[card]);
+    fputs(": ", file);
+    put_html(file, told.headline.at);
+    fputs("</h3>", file);
+    put_cause_sheets(file, night, card, cause);
+    fputs("<p>For instance on ", file);
+    put_page_name(file, told.sheet);
+    fputs(":</p>", file);
+    put_words(file, page, &told.finding);
+    return true;
+}
+
+static bool put_causes(struct page *page, struct night *night)
+{
+    bool done = true;
+    fputs("<section><h2>Causes</h2><p class=\"legend\">What the elements that differ have in common: how many elements "
+          "of the sort differ, and how many others do. A map shows the matrix of the earliest step, by row and column: "
+          "crossed elements differ, blue ones agree, the others are not shown by memory or registers.</p>\n",
+          page->spools[WHOLE]);
+    for (size_t i = 0; i < night->cards->count; i++) {
+        for (size_t j = 0; done && j < night->causes[i].count; j++) {
+            done = put_cause(page, night, i, j);
+        }
+    }
+    fputs("</section>\n", page->spools[WHOLE]);
+    return done;
+}
+
+/* What has changed since another night. */
+static void put_changes(FILE *file, const struct since *since)
+{
+    fputs("<section><h2>Since night ", file);
+    put_page_name(file, since->last.identity.name);
+    fprintf(file, ", %s</h2><ul>\n", since->last.identity.date);
+    for (size_t i = 0; i < since->count; i++) {
+        struct text change = {.len = 0};
+        add_change(&change, &since->lines[i]);
+        fputs("<li><b>", file);
+        put_page_name(file, since->lines[i].card);
+        fputs("</b>: ", file);
+        put_html(file, change.at);
+        fputs("</li>\n", file);
+    }
+    fputs(since->count == 0 ? "<li>No card differs or did.</li></ul></section>\n" : "</ul></section>\n", file);
+}
+
+static bool put_spool(struct page *page, unsigned spool, const char *before, const char *behind)
+{
+    fputs(before, page->spools[WHOLE]);
+    bool done = copy_spool(page->spools[spool], page->spools[WHOLE]);
+    fputs(behind, page->spools[WHOLE]);
+    return done;
+}
+
+static bool put_whole(struct page *page, struct night *night)
+{
+    FILE *file = page->spools[WHOLE];
+    bool done = true;
     put_head(file, night);
+    if (night->since != NULL) {
+        put_changes(file, night->since);
+    }
     put_card_table(file, night);
-    bool done = put_grid(page, night);
     if (page->differing > 0) {
-        fputs("<section><h2>First differences</h2><p class=\"legend\">A map shows the matrix of the step, by row and "
-              "column: crossed elements differ, blue ones agree, white ones have no byte or were stored over by a "
-              "later step.</p>\n", file);
-        done = done && copy_spool(page->spools[DIFFERENCES], file);
-        fputs("</section>\n", file);
+        done = put_causes(page, night) &&
+               put_spool(page, DIFFERENCES, "<section><h2>Differences</h2>\n", "</section>\n");
     }
     if (count_uncompared(&night->total) > 0) {
-        fputs("<section><h2>Not compared</h2><ul>\n", file);
-        done = done && copy_spool(page->spools[UNCOMPARED], file);
-        fputs("</ul></section>\n", file);
+        done = done && put_spool(page, UNCOMPARED, "<section><h2>Not compared</h2><ul>\n", "</ul></section>\n");
     }
+    done = done && put_grid(page, night);
     fputs("</body></html>\n", file);
     return done;
 }
 
-FILE *finish_page(struct page *page, const struct night *night)
+FILE *finish_page(struct page *page, struct night *night)
 {
-    end_run(page, night);
+    end_grid(&page->grid, night);
     if (!put_whole(page, night)) {
         complain("a file for the page");
         return NULL;

@@ -9,7 +9,7 @@
 struct page;
 
 /* NULL, and a complaint on standard error, if there is no room for it. */
-struct page *new_page(void);
+struct page *new_page(const struct night *night);
 void free_page(struct page *page);
 
 /* Takes the findings of the next sheet. */
@@ -17,6 +17,6 @@ void put_page_sheet(struct page *page, const struct night *night, const char *na
 
 /* Puts the page together behind the last sheet; gives the spool that has it, which stays the page's. NULL,
  * and a complaint on standard error, if that fails. */
-FILE *finish_page(struct page *page, const struct night *night);
+FILE *finish_page(struct page *page, struct night *night);
 
 #endif

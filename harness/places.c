@@ -69,8 +69,8 @@ uint64_t clipped_width(const struct access *access)
     return access->columns < access->view.columns.span ? access->columns : access->view.columns.span;
 }
 
-/* Rule 1: the index of an element; false if it is clipped. */
-static bool find_matrix_index(const struct access *access, unsigned element, struct place *place)
+/* Rule 1: the index of an element; false if it is clipped, or, where the clip has no end, before it. */
+static bool find_matrix_index(const struct access *access, unsigned element, bool has_end, struct place *place)
 {
     const struct view *view = &access->view;
     uint64_t row = element / access->columns, column = element % access->columns;
@@ -78,7 +78,8 @@ static bool find_matrix_index(const struct access *access, unsigned element, str
         place->matrix_index = element;
         return true;
     }
-    if (bound_of(&view->rows, row) != WITHIN || bound_of(&view->columns, column) != WITHIN) {
+    const enum bound bounds[] = {bound_of(&view->rows, row), bound_of(&view->columns, column)};
+    if (bounds[0] == BEFORE || bounds[1] == BEFORE || (has_end && (bounds[0] == BEHIND || bounds[1] == BEHIND))) {
         return false;
     }
     place->matrix_index = (row - view->rows.offset) * clipped_width(access) + column - view->columns.offset;
@@ -191,23 +192,70 @@ static uint32_t low_bits(uint32_t number, unsigned size)
     return number & UINT32_MAX >> (8 * (sizeof number - size));
 }
 
+/* Rules 2 to 5. */
+static void follow_index(const struct access *access, struct place *place)
+{
+    find_index(access, place);
+    if (place->index > UINT32_MAX) {
+        place->outcome = INDEX_TOO_LARGE;
+        return;
+    }
+    find_coordinates(&access->layout, place);
+    place->outcome = outcome_of(access, place);
+    if (place->outcome == FILLED) {
+        place->bits = low_bits(access->layout.value, access->size);
+    } else if (place->outcome == PLACED) {
+        find_byte(access, place);
+    }
+}
+
 struct place place_of(const struct access *access, unsigned element)
 {
     struct place place = {.outcome = SKIPPED};
-    if (!find_matrix_index(access, element, &place)) {
-        return place;
-    }
-    find_index(access, &place);
-    if (place.index > UINT32_MAX) {
-        place.outcome = INDEX_TOO_LARGE;
-        return place;
-    }
-    find_coordinates(&access->layout, &place);
-    place.outcome = outcome_of(access, &place);
-    if (place.outcome == FILLED) {
-        place.bits = low_bits(access->layout.value, access->size);
-    } else if (place.outcome == PLACED) {
-        find_byte(access, &place);
+    if (find_matrix_index(access, element, true, &place)) {
+        follow_index(access, &place);
     }
     return place;
+}
+
+struct place place_unclipped(const struct access *access, unsigned element)
+{
+    struct place place = {.outcome = SKIPPED};
+    if (find_matrix_index(access, element, false, &place)) {
+        follow_index(access, &place);
+    }
+    return place;
+}
+
+/* -- Bytes of elements that a store discards --------------------------------------------------- */
+
+/* The layout of a store has no blocks. */
+static int64_t byte_at(const struct access *access, const int64_t coordinates[DIMENSIONS_MAX])
+{
+    int64_t index = 0;
+    for (unsigned i = 0; i < access->layout.count; i++) {
+        index += coordinates[i] * access->layout.dimensions[i].stride;
+    }
+    return (int64_t)access->base + index * access->size;
+}
+
+int64_t byte_outside(const struct access *access, const struct place *place)
+{
+    int64_t coordinates[DIMENSIONS_MAX];
+    for (unsigned i = 0; i < access->layout.count; i++) {
+        coordinates[i] = place->coordinates[i].given;
+    }
+    return byte_at(access, coordinates);
+}
+
+int64_t byte_clamped(const struct access *access, const struct place *place)
+{
+    int64_t coordinates[DIMENSIONS_MAX];
+    for (unsigned i = 0; i < access->layout.count; i++) {
+        const struct coordinate *coordinate = &place->coordinates[i];
+        coordinates[i] = coordinate->side == MOONBLEAT_SIDE_INSIDE
+                             ? coordinate->given
+                             : clamped(access->layout.mode, coordinate->given, access->layout.dimensions[i].size);
+    }
+    return byte_at(access, coordinates);
 }

@@ -96,6 +96,15 @@ struct place {
 
 struct place place_of(const struct access *access, unsigned element);
 
+/* The place that a skipped element would have if the clip did not end where it does; skipped where it lies before
+ * the clip. */
+struct place place_unclipped(const struct access *access, unsigned element);
+
+/* Where a discarded element would go if its store wrote on outside the tensor, or clamped as loads do: the byte
+ * from the start of memory, which may lie outside. */
+int64_t byte_outside(const struct access *access, const struct place *place);
+int64_t byte_clamped(const struct access *access, const struct place *place);
+
 /* Where a position lies from a clip. */
 enum bound { WITHIN, BEFORE, BEHIND };
 enum bound bound_of(const struct clip *clip, uint64_t position);

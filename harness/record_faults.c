@@ -7,10 +7,6 @@
 #include "moonbleat.h"
 #include "step_faults.h"
 
-/* The numbers of a record. */
-enum { RECORD_OP, RECORD_REGISTER, RECORD_FIRST, RECORD_COUNT, RECORD_BYTE, RECORD_STEP };
-enum { RECORD_OBJECT = RECORD_FIRST, RECORD_BITS = RECORD_BYTE, RECORD_WHOLE_STEP = RECORD_REGISTER };
-
 enum { BYTE_STEP_MAX = 65535 };
 
 /* The ops, and how many numbers of their records are used. */

@@ -58,7 +58,8 @@ bool is_access(const struct step *step)
     return step->field.tag == MOONBLEAT_TAG_LOAD || step->field.tag == MOONBLEAT_TAG_STORE;
 }
 
-bool find_access(const struct refused *refused, const struct step *step, struct access *access)
+bool find_addressing(const struct refused *refused, const struct step *step, const uint8_t type[MOONBLEAT_TYPE_BYTES],
+                     struct access *access)
 {
     struct field layout, view;
     struct values values;
@@ -75,11 +76,15 @@ bool find_access(const struct refused *refused, const struct step *step, struct 
         field_values(&view, &values);
         access->view = view_of(&values, &access->layout);
     }
-    const uint8_t *type = register_type(step, matrix_of(step));
     access->base = step->values.at[step->values.count - 1].raw;
     access->kind = type[MOONBLEAT_TYPE_KIND];
     access->rows = type[MOONBLEAT_TYPE_ROWS];
     access->columns = type[MOONBLEAT_TYPE_COLUMNS];
     access->size = kind_bits(access->kind) / 8;
     return access->columns > 0;
+}
+
+bool find_access(const struct refused *refused, const struct step *step, struct access *access)
+{
+    return find_addressing(refused, step, register_type(step, matrix_of(step)), access);
 }

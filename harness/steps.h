@@ -30,4 +30,8 @@ bool is_access(const struct step *step);
 /* What a load or a store whose types are known addresses with; false if a part of it is missing. */
 bool find_access(const struct refused *refused, const struct step *step, struct access *access);
 
+/* The same for a step whose matrix has this type, without the types. */
+bool find_addressing(const struct refused *refused, const struct step *step, const uint8_t type[MOONBLEAT_TYPE_BYTES],
+                     struct access *access);
+
 #endif

@@ -1,9 +1,9 @@
+#define _POSIX_C_SOURCE 200809L
+
 #include "tape_text.h"
 
 #include <inttypes.h>
 #include <stdio.h>
-
-#include "files.h"
 
 /* Past 32 bits, and a further digit still fits in 64. */
 #define FAR_PAST_32_BITS INT64_C(10000000000)
@@ -92,20 +92,44 @@ static bool read_records(FILE *file, struct tape *tape)
     return true;
 }
 
+/* Reads the records of a stream that is open. */
+static bool read_stream(const char *name, FILE *file, struct tape *tape)
+{
+    bool done = read_records(file, tape);
+    if (ferror(file)) {
+        complain(name);
+        return false;
+    }
+    if (!done) {
+        complain_of(name, "line %zu is no record of six 32-bit numbers", tape->records + 1);
+    }
+    return done;
+}
+
 bool read_tape(const char *name, struct tape *tape)
 {
     FILE *file = open_input(name);
     if (file == NULL) {
         return false;
     }
-    bool done = read_records(file, tape);
-    if (ferror(file)) {
-        complain(name);
-        done = false;
-    } else if (!done) {
-        fprintf(stderr, "moonbleat: %s: line %zu is no record of six 32-bit numbers\n", name, tape->records + 1);
-    }
+    bool done = read_stream(name, file, tape);
     close_input(file);
+    return done;
+}
+
+bool take_tape(const char *name, const struct bytes *file, struct tape *tape)
+{
+    tape->records = 0;
+    if (file->len == 0) {
+        return true;
+    }
+    FILE *stream = fmemopen(file->at, file->len, "rb");
+    if (stream == NULL) {
+        complain(name);
+        return false;
+    }
+    bool done = read_stream(name, stream, tape);
+    fclose(stream);
     return done;
 }
 
@@ -115,4 +139,17 @@ void print_tape(const int32_t *numbers, size_t records)
         bool last = i % MOONBLEAT_RECORD_NUMBERS == MOONBLEAT_RECORD_NUMBERS - 1;
         printf("%" PRId32 "%c", numbers[i], last ? '\n' : ' ');
     }
+}
+
+void json_records(struct json *json, const int32_t *numbers, size_t records)
+{
+    json_open(json, "records", '[');
+    for (size_t i = 0; i < records; i++) {
+        json_open(json, NULL, '[');
+        for (size_t n = 0; n < MOONBLEAT_RECORD_NUMBERS; n++) {
+            json_number(json, NULL, *numbers++);
+        }
+        json_close(json, ']');
+    }
+    json_close(json, ']');
 }

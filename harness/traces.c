@@ -52,6 +52,24 @@ void add_entry(struct text *text, const struct refused *traced, const struct ent
     add_sort_words(text, entry->sort, entry->byte);
 }
 
+void json_accesses(struct json *json, const uint8_t *trace, size_t count)
+{
+    json_open(json, "accesses", '[');
+    for (size_t i = 0; i < count; i++) {
+        struct entry entry = entry_at(trace, i);
+        json_entry(json, NULL, &entry);
+    }
+    json_close(json, ']');
+}
+
+bool is_trace_length(const char *name, const struct bytes *file)
+{
+    if (file->len > TRACE_FILE_MAX) {
+        complain_of(name, "longer than %d bytes", TRACE_FILE_MAX);
+    }
+    return file->len <= TRACE_FILE_MAX;
+}
+
 void json_entry(struct json *json, const char *key, const struct entry *entry)
 {
     json_open(json, key, '{');

@@ -6,6 +6,7 @@
 #include <stdint.h>
 
 #include "diagnose.h"
+#include "files.h"
 #include "json.h"
 #include "text.h"
 
@@ -34,5 +35,15 @@ void add_entry(struct text *text, const struct refused *traced, const struct ent
 
 /* The same as an object. */
 void json_entry(struct json *json, const char *key, const struct entry *entry);
+
+/* The first accesses of a trace as an array of such objects. */
+void json_accesses(struct json *json, const uint8_t *trace, size_t count);
+
+/* A trace is judged to its end, and none of a sheet's is longer than MOONBLEAT_TRACE_MAX: files of
+ * more than 64 megabytes are no traces of cards. */
+enum { TRACE_FILE_MAX = 1 << 26 };
+
+/* Whether a file, read to one byte more at most, is not longer; else says so on standard error. */
+bool is_trace_length(const char *name, const struct bytes *file);
 
 #endif

@@ -22,3 +22,21 @@ void json_mask(struct json *json, const char *key, const uint8_t masks[MOONBLEAT
     }
     json_close(json, ']');
 }
+
+void json_masks(struct json *json, const uint8_t masks[MOONBLEAT_MASKS])
+{
+    json_open(json, "masks", '[');
+    for (uint32_t step = 0; step < MOONBLEAT_STEPS_MAX; step++) {
+        json_mask(json, NULL, masks, step);
+    }
+    json_close(json, ']');
+}
+
+bool is_masks_length(const char *name, const struct bytes *file)
+{
+    if (file->len != MOONBLEAT_MASKS) {
+        complain_of(name, "it has %s bytes than the %d of masks", file->len < MOONBLEAT_MASKS ? "fewer" : "more",
+                    MOONBLEAT_MASKS);
+    }
+    return file->len == MOONBLEAT_MASKS;
+}

@@ -24,6 +24,12 @@ bool translate(const struct bytes *sheet, size_t memory_len, struct translation 
 /* Whether a step touched an element, by the masks of a sheet. */
 bool is_touched(const uint8_t masks[MOONBLEAT_MASKS], uint32_t step, uint32_t element);
 
+/* Whether a file, read to one byte more at most, has the length of masks; else says so on standard error. */
+bool is_masks_length(const char *name, const struct bytes *file);
+
+/* All masks as an array of 32, one a step. */
+void json_masks(struct json *json, const uint8_t masks[MOONBLEAT_MASKS]);
+
 /* A step's mask as an array of the elements that it touched. */
 void json_mask(struct json *json, const char *key, const uint8_t masks[MOONBLEAT_MASKS], uint32_t step);
 

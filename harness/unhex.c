@@ -50,8 +50,20 @@ static bool convert(void)
     return high == -1;
 }
 
-int main(void)
+/* --help says how it is used; there are no other words. */
+static int say_usage(bool asked)
 {
+    fputs("usage: unhex < HEX > BYTES\n"
+          "Makes bytes of hex digits: blanks between them do not matter, and # starts a comment.\n",
+          asked ? stdout : stderr);
+    return asked ? 0 : 2;
+}
+
+int main(int argc, char **argv)
+{
+    if (argc > 1) {
+        return say_usage(argc == 2 && (strcmp(argv[1], "--help") == 0 || strcmp(argv[1], "-h") == 0));
+    }
     bool done = convert();
     if (!done) {
         fputs("unhex: not pairs of hex digits\n", stderr);

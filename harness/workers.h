@@ -7,24 +7,24 @@
 #include <stdio.h>
 #include <sys/types.h>
 
-#include "finding.h"
 #include "folder.h"
 
 /* Sheet i is worker i mod `count`'s. A single worker is this process itself. */
 struct workers {
     const struct folder *folder;
+    const struct list *cards; /* that they judge */
     size_t count;
     struct worker {
         pid_t process;
-        FILE *findings; /* a pipe that they are read from */
+        FILE *judged; /* a pipe that it is read from */
     } *at;
 };
 
 /* Starts workers; says on standard error what went wrong. */
-bool start_workers(const struct folder *folder, size_t count, struct workers *workers);
+bool start_workers(const struct folder *folder, const struct list *cards, size_t count, struct workers *workers);
 
-/* Gets the findings of sheet i, for each card; to be asked for in order. */
-bool get_findings(const struct workers *workers, size_t i, struct finding *findings);
+/* Gets what is found on sheet i; to be asked for in order. */
+bool get_judged(const struct workers *workers, size_t i, struct judged *judged);
 
 /* Ends the workers, also before they are done. */
 void stop_workers(struct workers *workers);

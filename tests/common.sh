@@ -85,6 +85,16 @@ silent() {
     fi
 }
 
+# broken TEXT WORD..: exit status 3, nothing printed, and standard error is the text.
+broken() {
+    text=$1
+    shift
+    call 3 "$@"
+    silent
+    printf 'moonbleat: %s\n' "$text" > expected
+    same "$*" stderr expected
+}
+
 # absent NAME: no such file, and no temporary one of that name.
 absent() {
     for name in "$1" "$1".*; do

@@ -39,6 +39,10 @@ prefix=$work/prefix
 version=$(sed -n 's/^.define MOONBLEAT_VERSION_[A-Z]* //p' "$root/include/moonbleat.h" | paste -s -d. -)
 expect 'make install' make_it install PREFIX="$prefix"
 expect 'the tool' prints "moonbleat $version" "$prefix/bin/moonbleat" --version
+expect 'unhex' prints 'AB' sh -c "echo '41 42 # comment' | '$prefix/bin/unhex'"
+for page in SHEETS.md NIGHT.md night.png; do
+    expect "docs/$page" cmp "$root/docs/$page" "$prefix/share/doc/moonbleat/$page"
+done
 
 # A consumer that knows nothing but pkg-config.
 export PKG_CONFIG_PATH=$prefix/lib/pkgconfig
@@ -77,8 +81,10 @@ expect 'completion of help' prints 'tape' complete_words help ta
 expect 'completion of options' prints '--memory' complete_words check --m
 expect 'completion of where' prints '--memory --element --json --help' complete_words where sheet 1 -
 expect 'completion of tape' prints '--memory --masks --json --help' complete_words tape sheet -
+expect 'completion of show' prints '--as --json --asm --help' complete_words show file -
+expect 'completion of forms' prints 'sheet trace tape masks' complete_words show --as ''
 expect 'completion of touched' prints 'touched' complete_words to
-expect 'completion of --help' prints '-o --registers --json --help' complete_words run -
+expect 'completion of --help' prints '-o --registers --hex --json --help' complete_words run -
 touch "$work/sheet-file"
 expect 'completion of files' prints "$work/sheet-file" complete_words check "$work/sheet-f"
 
@@ -89,6 +95,35 @@ expect 'nothing is left' test -z "$(find "$prefix" -type f)"
 expect 'make install DESTDIR' make_it install DESTDIR="$work/stage" PREFIX=/usr
 expect 'the staged paths' grep -q -x 'prefix=/usr' "$work/stage/usr/lib/pkgconfig/moonbleat.pc"
 expect 'the staged tool' test -x "$work/stage/usr/bin/moonbleat"
+
+# Programs that are missing are named before any work: here those of a path that has little.
+mkdir "$work/few"
+for program in sh bash make echo sed paste find sort; do
+    ln -s "$(type -P "$program")" "$work/few/$program"
+done
+# The flags of the make that runs this do not count.
+# lacks GOAL PROGRAM..: the goal fails for want of these, and nothing else is done.
+lacks() {
+    goal=$1
+    shift
+    ! MAKEFLAGS='' PATH=$work/few make_it "$goal" ARCHIVE="$work/none.a" TOOL="$work/tool" CC=cc > "$work/lacks" 2>&1 &&
+        grep -q "not on the path: $*[ ;]" "$work/lacks" && [ ! -e "$work/tool" ] && [ "$(wc -l < "$work/lacks")" -eq 1 ]
+}
+expect 'make demo without rt' lacks demo cc python3 rt
+expect 'where rt comes from' grep -q 'rt comes with the Rattle kit' "$work/lacks"
+expect 'make without rt' lacks all cc rt
+expect 'make lint without cppcheck' lacks lint cc cppcheck g++
+expect 'make check without programs' lacks check cargo cc cppcheck g++ groff jq pkg-config python3 rt
+expect 'make compare without cargo' lacks compare cargo rt
+expect 'make memcheck without valgrind' lacks memcheck cargo cc jq python3 rt valgrind
+expect 'make deps without programs' prints 'apt install gcc python3 jq groff pkg-config cargo g++ cppcheck valgrind git
+rt is not on the path: rt comes with the Rattle kit; it proves and builds the library, and ARCHIVE=path names one that is built' \
+    env MAKEFLAGS='' PATH="$work/few" make -s -C "$root" --no-print-directory deps
+for program in cc python3 jq groff pkg-config cargo g++ cppcheck valgrind git rt; do
+    ln -s "$work/few/sh" "$work/few/$program"
+done
+expect 'make deps' prints 'every package is there
+rt is there' env MAKEFLAGS='' PATH="$work/few" make -s -C "$root" --no-print-directory deps
 
 # The sources of a commit, where there is one.
 if git -C "$root" rev-parse -q --verify HEAD > /dev/null 2>&1; then

@@ -20,6 +20,16 @@ errors() {
     same 'standard error' stderr expected
 }
 
+# pairs REPORT: the lines of sheets and cards of a report in text, which stand behind its first paragraph.
+pairs() {
+    awk -v RS= 'NR == 2' "$1"
+}
+
+# body REPORT: these and the totals, without the night's name and its causes.
+body() {
+    awk -v RS= 'NR == 2 { print; print "" } { last = $0 } END { print last }' "$1"
+}
+
 # put NAME BYTE OCTAL..: writes bytes, each as three octal digits, into a file from a byte on.
 put() {
     file=$1
@@ -59,7 +69,7 @@ cp wanted differing
 put differing 300 125 125 125 125
 put differing 308 125 125 125 125
 put differing 400 125 125 125 125
-first='byte 300 wants 00, has 55; step 6 store r2, element 11 (0, 11), byte 0 of 4; 12 bytes differ in 3 runs'
+first='step 2 fill r2, element 11 (0, 11); byte 300 wants 00, has 55; step 6 store r2, element 11 (0, 11), byte 0 of 4; 12 bytes differ in 3 runs'
 call 1 diff sheet memory --card card7=differing --card card9=agreeing
 lines "card7 differs: $first" 'card9 agrees'
 call 1 diff sheet memory --all --card card9=agreeing --card card7=differing
@@ -75,7 +85,7 @@ lines 'card9 agrees' "card7 differs: $first" \
 cp wanted differing
 put differing 254 001 001 001 001 001 001 001 001 001 001 001 001 001 001 001 001 001 001 001
 call 1 diff sheet memory --all --card card7=differing
-lines 'card7 differs: byte 254 wants 00, has 01; step 5 store r1, element 3 (0, 3), byte 2 of 4; 19 bytes differ in 2 runs' \
+lines 'card7 differs: step 1 fill r1, element 3 (0, 3); byte 254 wants 00, has 01; step 5 store r1, element 3 (0, 3), byte 2 of 4; 19 bytes differ in 2 runs' \
     '  bytes 254 to 255: step 5 store r1, element 3 (0, 3), byte 2 of 4, to element 3 (0, 3), byte 3' \
     '    254 wants 00 00, has 01 01' \
     '  bytes 256 to 272: step 6 store r2, element 0 (0, 0), byte 0 of 4, to element 4 (0, 4), byte 0' \
@@ -92,25 +102,25 @@ put registers 1052 002
 put registers 1056 377 377 377 377
 put registers 1060 003
 call 1 diff sheet memory --card card7=agreeing --registers card7=registers --all
-lines 'card7 differs: register 1, element 3 (0, 3) wants 1, has 2; step 1 fill r1; 1 register differs' \
+lines 'card7 differs: step 1 fill r1, element 3 (0, 3); register 1, element 3 (0, 3) wants 1, has 2; step 1 fill r1; 1 register differs' \
     '  register 1, elements 3 (0, 3) to 5 (0, 5): step 1 fill r1' \
     '    3 wants 1 1 1, has 2 4294967295 3'
 put registers 12 005 001 020
 call 1 diff sheet memory --registers card7=registers --card card7=agreeing
-lines 'card7 differs: register 1, element 3 (0, 3) wants 1, has 2; step 1 fill r1; 2 registers differ'
+lines 'card7 differs: step 1 fill r1, element 3 (0, 3); register 1, element 3 (0, 3) wants 1, has 2; step 1 fill r1; 2 registers differ'
 cp wanted_registers registers
 put registers 12 005 001 020
 call 1 diff sheet memory --card card7=differing --registers card7=registers --all
-lines "card7 differs: byte 0 wants 00, has 01; no step writes there; 1 byte differs in 1 run; register 3 wants \
+lines "card7 differs: step 4 transpose r3, element 0 (0, 0); byte 0 wants 00, has 01; no step writes there; 1 byte differs in 1 run; register 3 wants \
 16 by 1 of u32, has 1 by 16 of s32; step 4 transpose r3; 1 register differs" \
     '  bytes 0 to 0: no step writes there' '    0 wants 00, has 01' \
     '  register 3 wants 16 by 1 of u32, has 1 by 16 of s32; step 4 transpose r3'
 put registers 12 000 000 000
 call 1 diff sheet memory --card card7=agreeing --registers card7=registers
-lines 'card7 differs: register 3 wants 16 by 1 of u32, has nothing; step 4 transpose r3; 1 register differs'
+lines 'card7 differs: step 4 transpose r3, element 0 (0, 0); register 3 wants 16 by 1 of u32, has nothing; step 4 transpose r3; 1 register differs'
 put registers 12 310 010 010
 call 1 diff sheet memory --card card7=agreeing --registers card7=registers
-lines 'card7 differs: register 3 wants 16 by 1 of u32, has 8 by 8 of an unknown kind; step 4 transpose r3; 1 register differs'
+lines 'card7 differs: step 4 transpose r3, element 0 (0, 0); register 3 wants 16 by 1 of u32, has 8 by 8 of an unknown kind; step 4 transpose r3; 1 register differs'
 bytes few_steps 01 0100 01
 call 1 diff few_steps memory --card card7=memory --registers card7=wanted_registers
 lines "card7 differs: register 0 wants nothing, has 1 by 16 of u32; no step gives it; 4 registers differ"
@@ -128,10 +138,13 @@ tool asm "$network/sheet.txt" -o network || fail 'the sheet of a network'
 call 0 run network network_memory -o network_after --registers registers
 put registers 1048 000 000 000 000
 call 1 diff network network_memory --card card7=network_after --registers card7=registers
-lines 'card7 differs: register 1, element 2 (2, 0) wants -140, has 0; step 2 vector r1; 1 register differs'
+lines "card7 differs: step 2 vector r1, element 2 (2, 0), with a matrix that is column-major with an input as \
+packed-u8 with a matrix of s8; register 1, element 2 (2, 0) wants -140, has 0; step 2 vector r1; 1 register differs"
 put network_after 84 000
 call 1 diff network network_memory --card card7=network_after
-lines 'card7 differs: byte 84 wants C5, has 00; step 4 store r2, element 1 (1, 0), byte 0 of 4; 1 byte differs in 1 run'
+lines "card7 differs: step 3 vector r2, element 1 (1, 0), with a matrix that is row-major with a bias with an input \
+as u8 with a matrix of s16; byte 84 wants C5, has 00; step 4 store r2, element 1 (1, 0), byte 0 of 4; 1 byte differs in \
+1 run"
 
 # A clipped load without an object, then a store. In edition 3 a card that keeps what its register held differs, by the
 # bytes and by the register; in edition 2 one that starts from zeros does. Each is right in the other edition.
@@ -152,13 +165,14 @@ for card in keeping zeroing; do
 done
 both='--card keeping=keeping --registers keeping=keeping_registers
     --card zeroing=zeroing --registers zeroing=zeroing_registers'
+lead='step 1 load r0, element 0 (0, 0), which a load skips'
 at='step 2 store r0, element 0 (0, 0), byte 0 of 1; 4 bytes differ in 2 runs; register 0, element 0 (0, 0) wants'
 # shellcheck disable=SC2086
 call 1 diff zeroing_sheet memory $both
-lines "keeping differs: byte 32 wants 00, has 64; $at 0, has 100; step 1 load r0; 1 register differs" 'zeroing agrees'
+lines "keeping differs: $lead; byte 32 wants 00, has 64; $at 0, has 100; step 1 load r0; 1 register differs" 'zeroing agrees'
 # shellcheck disable=SC2086
 call 1 diff keeping_sheet memory $both
-lines 'keeping agrees' "zeroing differs: byte 32 wants 64, has 00; $at 100, has 0; step 1 load r0; 1 register differs"
+lines 'keeping agrees' "zeroing differs: $lead; byte 32 wants 64, has 00; $at 100, has 0; step 1 load r0; 1 register differs"
 mkdir editions
 for sheet in keeping zeroing; do
     cp "${sheet}_sheet" "editions/$sheet.sheet"
@@ -169,7 +183,7 @@ for sheet in keeping zeroing; do
     done
 done
 call 1 night editions
-sed '/^$/,$d;s/;.*//' stdout > found
+pairs stdout | sed 's/^\(.* differs\): .*; \(byte [0-9]* wants [^;]*\);.*/\1: \2/' > found
 printf '%s\n' 'keeping keeping agrees' 'keeping zeroing differs: byte 32 wants 64, has 00' \
     'zeroing keeping differs: byte 32 wants 00, has 64' 'zeroing zeroing agrees' > expected
 same 'a night of two editions' found expected
@@ -278,7 +292,8 @@ checked() {
 # The worked example: what its README and its report say.
 python3 "$root/examples/night/make_night.py" example || fail 'the example'
 reports 1 example_report example
-same 'the example' example_report.txt "$root/examples/night/report.txt"
+sed '1s/.*/night example/' example_report.txt > found
+same 'the example' found "$root/examples/night/report.txt"
 checked example_report.txt example_report.json example_report.csv example_report.html
 sed -n 's/^    \(.* differs: .*\)/\1/p' "$root/examples/night/README.md" > shown
 if [ -s shown ]; then pass; else fail 'the example shows no line'; fi
@@ -292,13 +307,16 @@ cp example/border-mirror-u16.* shown_night
 rm shown_night/*.alder.registers shown_night/*.birch.registers shown_night/*.cedar.after
 call 1 night shown_night
 sed -n '/^    border-mirror-u16 alder agrees$/,/^    night: /p' "$root/docs/NIGHT.md" | sed 's/^    //' > shown
-same 'the night in docs/NIGHT.md' stdout shown
+sed 1,2d stdout > found
+same 'the night in docs/NIGHT.md' found shown
 
 # Random sheets, and what an independent reading of the rules expects of them.
 mkdir random
 python3 "$tests/night_oracle.py" random 1 "${ORACLE_SHEETS:-60}" || fail 'the random sheets'
 reports 1 random_report random/night
-same 'random sheets' random_report.txt random/report.txt
+body random_report.txt > found
+same 'random sheets' found random/report.txt
+contains ' elements differ, and nothing explains it' random_report.txt
 checked random_report.txt random_report.json random_report.csv random_report.html random/maps.json
 same 'no message' stderr /dev/null
 
@@ -339,13 +357,13 @@ done
 reports 0 alike_report alike
 checked alike_report.txt alike_report.json alike_report.csv alike_report.html
 contains '<h1>Every card agrees on every sheet</h1>' alike_report.html
-contains '<th>s1 to s9</th>' alike_report.html
+contains '<th>s1 to s9<span class="count">, 9 sheets</span></th>' alike_report.html
 rm alike/s4.card1.after
 reports 3 alike_report alike
 checked alike_report.txt alike_report.json alike_report.csv alike_report.html
 contains '<h1>No card differs, but 1 comparison could not be made</h1>' alike_report.html
 cp refused alike/s5.sheet
-rm alike/s4.*
+rm alike/s4.* alike/s5.card1.after
 reports 4 alike_report alike
 checked alike_report.txt alike_report.json alike_report.csv alike_report.html
 contains 's5 card1 refused: refusal 7 at step 0' alike_report.txt
@@ -446,7 +464,7 @@ checked bad_report.txt bad_report.json bad_report.csv bad_report.html
 reports 1 parallel_report bad -j 3
 agree 'bad input in three processes' parallel_report bad_report
 # Pairs of a sheet and the card `other`, which has one file, are all missing but for the sheet's own faults.
-grep -v -e ' other missing: ' bad_report.txt | sed '/^$/,$d' > found
+pairs bad_report.txt | grep -v -e ' other missing: ' > found
 cat > expected << 'END'
 -o ok agrees
 "<i>&\"'" ok agrees
@@ -461,7 +479,7 @@ empty ok unreadable: empty.ok.after: it has 0 bytes, not the memory's 512
 folder ok unreadable: folder.sheet: Is a directory
 folder other unreadable: folder.sheet: Is a directory
 linked ok agrees
-longmemory ok refused: refusal 18: the memory is longer than 65536 bytes
+longmemory ok differs: the reference refuses it with 18 at 0, 0, the card accepts it
 longmemory other refused: refusal 18: the memory is longer than 65536 bytes
 longtext ok unreadable: longtext.txt: it has more than 1048576 bytes
 longtext other unreadable: longtext.txt: it has more than 1048576 bytes
@@ -477,7 +495,7 @@ one.two ok agrees
 pipe ok unreadable: pipe.sheet: not a regular file
 pipe other unreadable: pipe.sheet: not a regular file
 plain ok agrees
-refused ok refused: refusal 7 at step 0: transpose: register 1 is empty
+refused ok differs: the reference refuses it with 7 at 0, 0, the card accepts it
 refused other refused: refusal 7 at step 0: transpose: register 1 is empty
 shortmemory ok unreadable: shortmemory.ok.after: it has more than the memory's 320 bytes
 shortregisters ok unreadable: shortregisters.ok.registers: it has 4111 bytes, not a registers file's 4112
@@ -511,6 +529,7 @@ cp few_steps small/s.sheet
 : > small/s.memory
 : > small/s.card.after
 call 0 night small
+sed -i 1,2d stdout
 lines 's card agrees' '' 'card: 1 agree, 0 differ, 0 missing, 0 refused, 0 unreadable' \
     'night: 1 sheet, 1 card: 1 agree, 0 differ, 0 missing, 0 refused, 0 unreadable'
 
@@ -590,8 +609,31 @@ unmerged 'part 1 of 2 is missing' part2.json
 unmerged 'part 1 of 2 is given twice' part1.json part1.json
 unmerged 'part 1 of 2 is given twice' part1.json part2.json part1.json
 unmerged 'example_report.json: part 1 of 1, but part1.json is one of 2' part1.json example_report.json
-tool night example --shard 2/2 --json -o other2.json
-unmerged 'other2.json: its cards are not those of part1.json' part1.json other2.json
+tool night example --card alder --shard 2/2 --json -o other2.json
+tool night example --shard 1/2 --json -o half1.json
+unmerged 'other2.json: its cards are not those of half1.json' half1.json other2.json
+# Two nights of the same name, cards and sheets, one of which has a file less.
+mkdir other
+cp -pr example other
+rm other/example/turned-u8.alder.registers
+tool night example --shard 1/2 --json -o half1.json
+tool night other/example --shard 2/2 --json -o other2.json
+unmerged 'other2.json: its night has another digest than that of half1.json: parts of two nights are not merged' \
+    half1.json other2.json
+tool night example --shard 2/2 --json -o half2.json
+sed 's/"name": "example"/"name": "another"/' half1.json > half1b.json
+unmerged 'half2.json: its night has another name than that of half1b.json: parts of two nights are not merged' \
+    half1b.json half2.json
+sed 's/"date": "2/"date": "1/' half1.json > half1b.json
+unmerged 'half2.json: its night has another date than that of half1b.json: parts of two nights are not merged' \
+    half1b.json half2.json
+sed 's/"version": "/"version": "1/' half1.json > half1b.json
+unmerged 'half2.json: its night has another version than that of half1b.json: parts of two nights are not merged' \
+    half1b.json half2.json
+# What is wrong at the very end of the second part is found before the first line is printed.
+sed '$s/"sheets": [0-9]*/"sheets": 99/' half2.json > broken.json
+call 3 night --merge half1.json broken.json
+silent
 unmerged 'nowhere.json: No such file or directory' part1.json nowhere.json
 
 # faulty LINE WHAT: broken.json is no report from this line on.
@@ -625,12 +667,21 @@ altered() {
     if cmp -s example_report.json broken.json; then fail "nothing is altered by $1"; fi
     faulty "$2" "$1"
 }
-head_lines=$(grep -n '"sheets": \[' example_report.json | cut -d: -f1)
-altered 's/"format": 1/"format": 2/' 2
+head_lines=$(grep -n '^ "sheets": \[' example_report.json | cut -d: -f1)
+for format in 1 3; do
+    sed "s/\"format\": 2/\"format\": $format/" example_report.json > broken.json
+    call 3 night --merge broken.json -o out
+    errors "moonbleat: broken.json: a report of format $format, and this is for format 2: make it anew"
+    same "format $format" out old
+done
 altered 's/moonbleat night/moonbleat/' 1
-altered 's/"part": 1/"part": 2/' 3
-altered 's/"parts": 1/"parts": 0/' 3
-altered 's/"alder", "birch"/"birch", "birch"/' 4
+altered 's/"edition": 3/"edition": x/' 3
+altered 's/"part": 1/"part": 2/' 4
+altered 's/"parts": 1/"parts": 0/' 4
+altered 's/"alder", "birch"/"birch", "birch"/' 5
+altered '0,/"made": 5/s/"made": 5/"made": 99/' "$(grep -n '"made": 5' example_report.json | head -n 1 | cut -d: -f1)"
+altered '0,/"made": 5, "remainder": 1/s/"made": 5, "remainder": 1/"remainder": 1, "made": 5/' \
+    "$(grep -n '"made": 5' example_report.json | head -n 1 | cut -d: -f1)"
 altered '0,/"agrees"/s/"agrees"/"agreed"/' "$((head_lines + 2))"
 altered '0,/"agrees"}/s/"agrees"}/"differs"}/' "$((head_lines + 2))"
 altered 's/"byte": 80/"byte": -80/' "$(grep -n '"byte": 80,' example_report.json | cut -d: -f1)"
@@ -653,6 +704,7 @@ def part(name):
 print(next(n for n in map(str, range(100)) if part(n) == 2))')
 sed "0,/\"sheet\": \"sheet[0-9]*/s//\"sheet\": \"$name/" part1.json > broken.json
 call 3 night --merge broken.json part2.json
+head_lines=$(grep -n '^ "sheets": \[' part1.json | cut -d: -f1)
 errors "moonbleat: broken.json: line $((head_lines + 1)): not a whole report of moonbleat night"
 # Damaged in many ways.
 if python3 "$tests/night_fuzz.py" "$bin/moonbleat" example_report.json "${DAMAGED:-60}" > problems 2>&1; then

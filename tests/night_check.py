@@ -20,12 +20,13 @@ def check(condition, what):
 
 
 def read_text(path):
-    """The lines of the pairs as (sheet, card, verdict, what follows), then the totals' lines."""
+    """The night's line, those of the pairs as (sheet, card, verdict, what follows), those of the causes, and the
+    totals'."""
     with open(path, encoding="utf-8") as file:
-        pairs, totals = file.read().split("\n\n")
+        night, pairs, *causes, totals = file.read().split("\n\n")
     name = r'("(?:[^"\\]|\\.)*"|[^ ]*)'
     parsed = [re.fullmatch(name + " " + name + r" (\w+)(?:: (.*))?", line).groups("") for line in pairs.split("\n")]
-    return parsed, totals.strip().split("\n")
+    return night, parsed, "".join(causes).split("\n") if causes else [], totals.strip().split("\n")
 
 
 def readable(name):
@@ -64,18 +65,47 @@ def check_json(path, pairs, totals, maps):
     return report
 
 
+def check_causes(path, report, pairs, lines):
+    """The headlines of the text are the report's, and each difference is among the sheets of its causes."""
+    found = []
+    for entry in report["causes"]:
+        card = readable(entry["card"])
+        for number, cause in enumerate(entry["causes"]):
+            words = next(w for s, c, _, w in pairs if (s, c) == (readable(cause["example"]), card))
+            found += [f"{card}: {cause['headline']}", f"  for instance {readable(cause['example'])} differs: {words}",
+                      "  sheets: " + ", ".join(map(readable, cause["sheets"]))]
+            sheets = [s["sheet"] for s in report["sheets"] for f in s["findings"]
+                      if f["card"] == entry["card"] and number in f.get("causes", [])]
+            check(sheets == cause["sheets"] and cause["differ"] <= cause["of"], f"{path}: {cause['headline']}")
+    check(found == lines, f"{path}: its causes are not the text's: {found[:3]} {lines[:3]}")
+    for sheet in report["sheets"]:
+        for finding in sheet["findings"]:
+            check((finding["verdict"] == "differs") == bool(finding.get("causes")), f"{path}: {finding}")
+
+
+def check_identity(path, report, line):
+    identity = report["identity"]
+    words = (f"night {readable(identity['name'])}, {identity['date']}, moonbleat {identity['version']}, editions 1 to "
+             f"{identity['edition']}, {identity['files']} file{'s'[:identity['files'] != 1]}, digest {identity['digest']}")
+    check(line == words, f"{path}: {line}")
+
+
 def check_finding(path, verdict, words, finding):
     """The numbers of a finding stand in its sentence too."""
     memory, registers = finding.get("memory"), finding.get("registers")
     if verdict == "differs":
-        check(memory or registers, f"{path}: nothing differs")
+        check(memory or registers or "trace" in finding or "refusal" in finding, f"{path}: nothing differs")
     if memory:
         start = f"byte {memory['byte']} wants {memory['wants']:02X}, has {memory['has']:02X}; "
         origin = "no step writes there"
         if memory["stored"]:
             origin = ("step {step} store r{register}, element {element} ({row}, {column}), byte {element_byte} of "
                       "{element_size}").format(**memory)
-        check(words.startswith(start + origin), f"{path}: {words}")
+        check(start + origin in words, f"{path}: {words}")
+    if "lead" in finding:
+        lead = finding["lead"]
+        place = f"r{lead['register']}, element {lead['element']} ({lead['row']}, {lead['column']})"
+        check(words.startswith(f"step {lead['step']} ") and place in words, f"{path}: {words}")
     if registers:
         check(f"register {registers['register']}" in words, f"{path}: {words}")
     if verdict == "refused":
@@ -98,6 +128,16 @@ def check_csv(path, report, pairs):
         for key in ("step", "register", "element", "row", "column"):
             check(row[key] == (str(memory[key]) if memory.get("stored") else ""), f"{path}: {row}")
         check(row["registers"] == str(finding.get("registers", {}).get("registers", "")), f"{path}: {row}")
+        lead = finding.get("lead", {})
+        check((row["lead_step"], row["lead_element"]) == (str(lead.get("step", "")), str(lead.get("element", ""))),
+              f"{path}: {row}")
+        names = next(entry["causes"] for entry in report["causes"] if entry["card"] == finding["card"])
+        check(row["causes"] == "; ".join(names[i]["cause"] for i in finding.get("causes", [])), f"{path}: {row}")
+        check(row["base"] == "10", f"{path}: {row}")
+        identity = report["identity"]
+        check((row["night"], row["date"], row["version"], row["edition"], row["digest"]) ==
+              (identity["name"], identity["date"], identity["version"], str(identity["edition"]), identity["digest"]),
+              f"{path}: {row}")
 
 
 def text_of(element):
@@ -128,33 +168,40 @@ def check_html(path, pairs, report):
             for row in table.findall("tbody/tr")]
     check(rows == [[readable(t["card"])] + [t[v] for v in columns] for t in report["totals"]], f"{path}: the cards")
     check(all(v in columns or report["night"][v] == 0 for v in SIGNS), f"{path}: the cards' columns")
+    check_page_causes(path, root, report)
     grid = root.find(".//table[@class='grid']")
     check([text_of(th) for th in grid.find("thead/tr")] == ["sheet"] + cards, f"{path}: the grid's head")
-    articles = {a.get("id"): a for a in root.iter("article")}
+    articles = {a.get("id"): a for a in root.iter("article") if a.get("class") != "cause"}
     verdicts = {}
     for sheet, card, verdict, words in pairs:
         verdicts.setdefault(sheet, []).append((card, verdict, words))
     sheets = list(verdicts)
     position = 0
     for row in grid.findall("tbody/tr"):
+        sheet, count = sheets[position], 1
         if row.get("class") == "run":
-            count = int(re.search(r"(\d+) sheets: every card agrees", text_of(row)).group(1))
+            count = int(re.search(r", (\d+) sheets$", text_of(row.find("th"))).group(1))
             run = sheets[position:position + count]
-            check(text_of(row.find("th")) == f"{run[0]} to {run[-1]}", f"{path}: {text_of(row)}")
-            check(all(v == "agrees" for s in run for _, v, _ in verdicts[s]), f"{path}: {text_of(row)}")
-            position += count
-            continue
-        sheet = sheets[position]
-        position += 1
-        check(text_of(row.find("th")) == sheet, f"{path}: {sheet}")
+            check(text_of(row.find("th")) == f"{run[0]} to {run[-1]}, {count} sheets", f"{path}: {text_of(row)}")
+            check(all([v for _, v, _ in verdicts[s]] == [v for _, v, _ in verdicts[sheet]] for s in run) and count >= 8,
+                  f"{path}: {text_of(row)}")
+        else:
+            check(text_of(row.find("th")) == sheet, f"{path}: {sheet}")
+        position += count
         for cell, (card, verdict, words) in zip(row.findall("td"), verdicts[sheet]):
+            label = f"{card} differs on {sheet}" if verdict == "differs" else verdict
             check(text_of(cell) == SIGNS[verdict] and cell[0].get("class") == f"sign {verdict}", f"{path}: {sheet}")
+            check(cell[0].get("aria-label") == label, f"{path}: {sheet}")
             if verdict == "differs":
-                article = articles.pop(cell[0].get("href")[1:])
+                article = articles[cell[0].get("href")[1:]]
                 check(text_of(article.find("div/h3")) == f"{card} on {sheet}", f"{path}: {sheet} {card}")
-                check("; ".join(text_of(p) for p in article.findall("div/p")) == words, f"{path}: {sheet} {card}")
-                check_map(path, article, report, sheet, card)
-    check(position == len(sheets) and not articles, f"{path}: sheets or differences are left")
+    check(position == len(sheets), f"{path}: sheets are left")
+    differing = [(sheet, card, words) for sheet, card, verdict, words in pairs if verdict == "differs"]
+    check(list(articles) == [f"d{i}" for i in range(len(differing))], f"{path}: the differences")
+    for article, (sheet, card, words) in zip(articles.values(), differing):
+        check(text_of(article.find("div/h3")) == f"{card} on {sheet}", f"{path}: {sheet} {card}")
+        check("; ".join(text_of(p) for p in article.findall("div/p")) == words, f"{path}: {sheet} {card}")
+        check_map(path, article, report, sheet, card)
     for sheet, card, verdict, words in pairs:
         if verdict in ("missing", "refused", "unreadable"):
             lines = [text_of(li) for li in root.iter("li")]
@@ -163,6 +210,26 @@ def check_html(path, pairs, report):
     differing = len({card for _, card, verdict, _ in pairs if verdict == "differs"})
     if differing:
         check(text_of(root.find(".//h1")).startswith(f"{differing} of {len(cards)} card"), f"{path}: the verdict")
+
+
+def check_page_causes(path, root, report):
+    """The causes come before the differences and the grid; cards lead to them, and they to their sheets."""
+    headings = [text_of(h) for h in root.iter("h2")]
+    order = [h for h in ("Since", "Cards", "Causes", "Differences", "Not compared", "Sheets and cards")
+             if any(heading.startswith(h) for heading in headings)]
+    check(len(order) == len(headings) and all(a.startswith(b) for a, b in zip(headings, order)), f"{path}: {headings}")
+    articles = {a.get("id"): a for a in root.iter("article") if a.get("class") == "cause"}
+    links = [a.get("href") for a in root.find(".//table").iter("a")]
+    differing = [(s["sheet"], f["card"]) for s in report["sheets"] for f in s["findings"] if f["verdict"] == "differs"]
+    for i, entry in enumerate(report["causes"]):
+        check((f"#c{i}-0" in links) == bool(entry["causes"]), f"{path}: the link of {entry['card']}")
+        for j, cause in enumerate(entry["causes"]):
+            article = articles.pop(f"c{i}-{j}")
+            check(text_of(article.find("div/h3")) == f"{readable(entry['card'])}: {cause['headline']}",
+                  f"{path}: {cause['headline']}")
+            linked = [differing[int(a.get("href")[2:])] for a in article.findall("div/p[@class='sheets']/a")]
+            check(linked == [(sheet, entry["card"]) for sheet in cause["sheets"]], f"{path}: {cause['headline']}")
+    check(not articles, f"{path}: a cause too many")
 
 
 def check_map(path, article, report, sheet, card):
@@ -187,11 +254,13 @@ def check_map(path, article, report, sheet, card):
 
 
 def main(text, json_path, csv_path, html, maps=None):
-    pairs, totals = read_text(text)
+    night, pairs, causes, totals = read_text(text)
     if maps is not None:
         with open(maps, encoding="utf-8") as file:
             maps = json.load(file)
     report = check_json(json_path, pairs, totals, maps)
+    check_identity(json_path, report, night)
+    check_causes(json_path, report, pairs, causes)
     check_csv(csv_path, report, pairs)
     check_html(html, pairs, report)
 

@@ -29,12 +29,14 @@ class Refused(Exception):
 
 # -- Addressing: rules 1 to 5 ----------------------------------------------------------------------
 
-def index_through_view(layout, view, row, column, columns):
-    """Rules 1 and 2; None for a skipped element."""
+def index_through_view(layout, view, row, column, columns, has_end=True):
+    """Rules 1 and 2; None for a skipped element, or, if the clip has no end, for one before it."""
     if view is None:
         return row * columns + column
     row_offset, row_span, column_offset, column_span = view["clip"]
-    if not (row_offset <= row < row_offset + row_span and column_offset <= column < column_offset + column_span):
+    if row < row_offset or column < column_offset:
+        return None
+    if has_end and (row >= row_offset + row_span or column >= column_offset + column_span):
         return None
     index = (row - row_offset) * min(columns, column_span) + column - column_offset
     sizes = [d["span"] for d in layout["dimensions"]]
@@ -85,6 +87,38 @@ def byte_of(layout, index, base, size, is_store):
     return None if outside else base + tensor * size
 
 
+def coordinates_of(layout, index):
+    """Rule 3, with the offsets of rule 4."""
+    coordinates = []
+    for dimension in reversed(layout["dimensions"]):
+        index, c = divmod(index, dimension["span"])
+        coordinates.insert(0, c + dimension["offset"])
+    return coordinates
+
+
+def side_words(layout, index):
+    """Where an element first lies outside; None if it is inside."""
+    for i, (c, dimension) in enumerate(zip(coordinates_of(layout, index), layout["dimensions"])):
+        if not 0 <= c < dimension["size"]:
+            return f" {'below' if c < 0 else 'above'} in dimension {i}"
+    return None
+
+
+def load_words(layout, index):
+    if index is None:
+        return ", which a load skips"
+    side = side_words(layout, index)
+    if side is None:
+        return ", which a load reads inside its tensor"
+    mode = layout["mode"]
+    name = {CLAMP_TO_EDGE: "ClampToEdge", REPEAT: "Repeat", MIRROR_REPEAT: "MirrorRepeat"}.get(mode)
+    return f", which {name} clamps{side}" if name else f", which Constant fills{side}"
+
+
+def byte_through(layout, coordinates, base, size):
+    return base + size * sum(c * d["stride"] for c, d in zip(coordinates, layout["dimensions"]))
+
+
 # -- Numbers ---------------------------------------------------------------------------------------
 
 def is_signed(kind):
@@ -117,8 +151,16 @@ class Machine:
         self.sheet, self.memory = sheet, bytearray(memory)
         self.registers = {}
         self.givers = {}
+        self.makers = {}
         self.origins = {}
-        self.maps = {}
+        self.left_out = []
+        self.shadows = {}
+
+    def give(self, register, number, name, rows, columns, words):
+        """Notes which step made a register's elements, and what is said of each."""
+        self.givers[register] = (number, name)
+        self.makers[register] = {"step": number, "name": name, "register": register, "sides": (rows, columns),
+                                 "words": words if isinstance(words, list) else [words] * (rows * columns)}
 
     def addresses(self, register, layout, view, base, is_store):
         kind, rows, columns, _ = self.registers[register]
@@ -133,9 +175,51 @@ class Machine:
                 raise Refused
             yield element, index is None, byte
 
+    def indices(self, register, layout, view, has_end=True):
+        """The index of each element after rule 2, None where it is skipped."""
+        _, rows, columns, _ = self.registers[register]
+        view = None if view == NONE else self.sheet["views"][view]
+        for element in range(rows * columns):
+            try:
+                yield index_through_view(self.sheet["layouts"][layout], view, element // columns, element % columns,
+                                         columns, has_end)
+            except Refused:
+                yield None
+
+    def leave_out(self, maker, placed, layout, view, base, size):
+        """Notes where the elements that a store leaves out would have gone: by which mistake, and their bytes."""
+        register, numbered = maker["register"], self.sheet["layouts"][layout]
+        sizes = [d["size"] for d in numbered["dimensions"]]
+        pairs = zip(self.indices(register, layout, view), self.indices(register, layout, view, has_end=False))
+        for element, (index, unclipped) in enumerate(pairs):
+            if element in placed:
+                continue
+            if index is None:
+                if unclipped is not None and side_words(numbered, unclipped) is None:
+                    byte = byte_through(numbered, coordinates_of(numbered, unclipped), base, size)
+                    self.left_out.append(("unclipped", maker, element, ", which it must skip", byte, size))
+                continue
+            coordinates = coordinates_of(numbered, index)
+            words = ", which it must discard" + side_words(numbered, index)
+            byte = byte_through(numbered, coordinates, base, size)
+            self.left_out.append(("outside", maker, element, words, byte, size))
+            if numbered["mode"] != CONSTANT:
+                inside = [coordinate_of(numbered, c, n, False) for c, n in zip(coordinates, sizes)]
+                byte = byte_through(numbered, inside, base, size)
+                self.left_out.append(("clamped", maker, element, words, byte, size))
+
+    def cast_shadows(self):
+        """By byte and mistake: the first element that would have gone there, behind the last store."""
+        for mistake, maker, element, words, byte, size in self.left_out:
+            if byte < 0 or byte + size > len(self.memory):
+                continue
+            for i in range(byte, byte + size):
+                if i not in self.origins or self.origins[i][0] <= maker["step"]:
+                    self.shadows.setdefault(i, {}).setdefault(mistake, (maker, element, words))
+
     def fill(self, number, register, rows, columns, kind, value):
         self.registers[register] = (kind, rows, columns, [value] * (rows * columns))
-        self.givers[register] = (number, "fill")
+        self.give(register, number, "fill", rows, columns, "")
 
     def load(self, number, register, object, layout, view, base):
         kind, rows, columns, elements = self.registers[register if object == NONE else object]
@@ -147,7 +231,8 @@ class Machine:
                 elements[element] = int.from_bytes(self.memory[byte:byte + size], "little")
             elif not skipped:
                 elements[element] = self.sheet["layouts"][layout]["value"] % (1 << 8 * size)
-        self.givers[register] = (number, "load")
+        words = [load_words(self.sheet["layouts"][layout], index) for index in self.indices(register, layout, view)]
+        self.give(register, number, "load", rows, columns, words)
 
     def store(self, number, register, layout, view, base):
         kind, rows, columns, elements = self.registers[register]
@@ -162,17 +247,19 @@ class Machine:
                     raise Refused
                 seen.add(byte)
                 placed.append((element, byte))
-        self.maps[number] = (rows, columns)
+        maker = {"step": number, "name": "store", "register": register, "sides": (rows, columns)}
         for element, byte in placed:
             self.memory[byte:byte + size] = elements[element].to_bytes(size, "little")
             for i in range(size):
-                self.origins[byte + i] = (number, register, element, element // columns, element % columns, i, size)
+                self.origins[byte + i] = (number, register, element, element // columns, element % columns, i, size,
+                                          self.makers[register])
+        self.leave_out(maker, {element for element, _ in placed}, layout, view, base, size)
 
     def transpose(self, number, result, source):
         kind, rows, columns, elements = self.registers[source]
         turned = [elements[r * columns + c] for c in range(columns) for r in range(rows)]
         self.registers[result] = (kind, columns, rows, turned)
-        self.givers[result] = (number, "transpose")
+        self.give(result, number, "transpose", columns, rows, "")
 
     def number_at(self, byte, kind):
         if byte + SIZES[kind] > len(self.memory):
@@ -190,7 +277,11 @@ class Machine:
             addend = self.number_at(bias + 4 * row, S32) if has_bias else 0
             sums.append((products + addend) % (1 << 32))
         self.registers[result] = (kind, m, 1, sums)
-        self.givers[result] = (number, "vector")
+        words = f", with a matrix that is {'row' if order == ROW_MAJOR else 'column'}-major"
+        words += " with a bias" if has_bias else ""
+        packed = {PACKED_S8: "packed-s8", PACKED_U8: "packed-u8"}
+        words += f" with an input as {packed[interpretation] if interpretation in packed else NAMES[interpretation]}"
+        self.give(result, number, "vector", m, 1, words + f" with a matrix of {NAMES[matrix]}")
 
     def perform(self, number, step):
         getattr(self, step[0])(number, *step[1:])
@@ -300,7 +391,7 @@ def sheet_bytes(sheet):
         numbers += [(p, 1) for p in view["permutation"]] + [(n, 2) for pair in view["dimensions"] for n in pair]
         out += field(0x11, numbers + [(n, 2) for n in view["clip"]])
     tags = {"fill": (0x20, [1, 1, 1, 1, 4]), "load": (0x21, [1, 1, 1, 1, 4]), "store": (0x22, [1, 1, 1, 4]),
-            "transpose": (0x24, [1, 1]), "vector": (0x26, [1, 1, 1, 1, 1, 1, 1, 1, 2, 4, 1, 4])}
+            "reduce": (0x23, [1, 1, 1, 1, 1, 1]), "transpose": (0x24, [1, 1]), "vector": (0x26, [1, 1, 1, 1, 1, 1, 1, 1, 2, 4, 1, 4])}
     for name, *numbers in sheet["steps"]:
         tag, widths = tags[name]
         out += field(tag, list(zip(numbers, widths)))
@@ -322,7 +413,7 @@ def counted(count, noun):
 def memory_words(machine, after):
     differing = [i for i in range(len(after)) if after[i] != machine.memory[i]]
     if not differing:
-        return None, None
+        return None
 
     def step(i):
         return machine.origins.get(i, (None,))[0]
@@ -330,19 +421,47 @@ def memory_words(machine, after):
     runs = sum(1 for i in differing if i - 1 not in differing or step(i) != step(i - 1))
     first = differing[0]
     words = f"byte {first} wants {machine.memory[first]:02X}, has {after[first]:02X}; "
-    found_map = None
     if first in machine.origins:
-        number, register, element, row, column, byte, size = machine.origins[first]
+        number, register, element, row, column, byte, size, _ = machine.origins[first]
         words += f"step {number} store r{register}, element {element} ({row}, {column}), byte {byte} of {size}"
-        rows, columns = machine.maps[number]
-        cells = ["."] * (rows * columns)
-        for i, origin in machine.origins.items():
-            if origin[0] == number:
-                cells[origin[2]] = "x" if i in differing or cells[origin[2]] == "x" else "="
-        found_map = ["".join(cells[r * columns:(r + 1) * columns]) for r in range(rows)]
     else:
         words += "no step writes there"
-    return words + f"; {counted(len(differing), 'byte')} in {runs} run{'' if runs == 1 else 's'}", found_map
+    return words + f"; {counted(len(differing), 'byte')} in {runs} run{'' if runs == 1 else 's'}"
+
+
+def shown_elements(machine, after, wanted=None, had=None):
+    """Every element that memory, and registers if they are given, show: (step, element), its maker, what is said of
+    it, the store that shows it, and whether it differs."""
+    for i in range(len(after)):
+        differs = after[i] != machine.memory[i]
+        if i in machine.origins:
+            number, _, element, _, _, _, _, maker = machine.origins[i]
+            yield maker, element, maker["words"][element], number, differs
+        else:
+            for maker, element, words in machine.shadows.get(i, {}).values():
+                yield maker, element, words, maker["step"], differs
+    for register, maker in machine.makers.items() if wanted else []:
+        for element, word in enumerate(maker["words"]):
+            same_type = wanted[register][:3] == had[register][:3]
+            differs = not same_type or wanted[register][3][element] != had[register][3][element]
+            yield maker, element, word, None, differs
+
+
+def lead_of(shown):
+    """The words and the map of the earliest step that made an element that differs, or must leave one out."""
+    shown = list(shown)
+    differing = [(maker["step"], element, maker, words) for maker, element, words, _, differs in shown if differs]
+    if not differing:
+        return None, None
+    step, element, maker, words = min(differing, key=lambda found: found[:2])
+    rows, columns = maker["sides"]
+    cells = ["."] * (rows * columns)
+    for other, e, _, store, differs in shown:
+        if other["step"] == step or (maker["name"] == "store" and store == step):
+            cells[e] = "x" if differs or cells[e] == "x" else "="
+    lead = (f"step {step} {maker['name']} r{maker['register']}, element {element} ({element // columns}, "
+            f"{element % columns}){words}")
+    return lead, ["".join(cells[r * columns:(r + 1) * columns]) for r in range(rows)]
 
 
 def type_words(register):
@@ -353,17 +472,14 @@ def type_words(register):
 def register_words(machine, wanted, had):
     differing = [i for i in range(4) if wanted[i] != had[i]]
     if not differing:
-        return None, None
+        return None
     first = differing[0]
     want, has = wanted[first], had[first]
-    found_map = None
     if want[:3] == has[:3]:
         kind, rows, columns, elements = want
         element = next(i for i in range(rows * columns) if elements[i] != has[3][i])
         words = (f"register {first}, element {element} ({element // columns}, {element % columns}) wants "
                  f"{value(kind, elements[element])}, has {value(kind, has[3][element])}")
-        cells = ["=" if a == b else "x" for a, b in zip(elements, has[3])]
-        found_map = ["".join(cells[r * columns:(r + 1) * columns]) for r in range(rows)]
     else:
         words = f"register {first} wants {type_words(want)}, has {type_words(has)}"
     if first in machine.givers:
@@ -371,7 +487,7 @@ def register_words(machine, wanted, had):
         words += f"; step {number} {name} r{first}"
     else:
         words += "; no step gives it"
-    return words + f"; {counted(len(differing), 'register')}", found_map
+    return words + f"; {counted(len(differing), 'register')}"
 
 
 def spoiled_memory(rng, machine):
@@ -422,6 +538,7 @@ def main(folder, seed, count):
         machine = Machine(sheet, memory)
         for step_number, step in enumerate(sheet["steps"]):
             machine.perform(step_number, step)
+        machine.cast_shadows()
         registers = [machine.registers.get(i, (0, 0, 0, [])) for i in range(4)]
         write(name + ".sheet", sheet_bytes(sheet))
         write(name + ".memory", memory)
@@ -432,8 +549,9 @@ def main(folder, seed, count):
 
         after = spoiled_memory(rng, machine)
         write(name + ".memory.after", after)
-        words, found_map = memory_words(machine, after)
-        say(name, "memory", "differ" if words else "agree", words or "")
+        words = memory_words(machine, after)
+        lead, found_map = lead_of(shown_elements(machine, after))
+        say(name, "memory", "differ" if words else "agree", "; ".join(w for w in (lead, words) if w))
         if found_map:
             maps[f"{name} memory"] = found_map
 
@@ -441,10 +559,9 @@ def main(folder, seed, count):
         after = spoiled_memory(rng, machine) if rng.random() < 0.3 else machine.memory
         write(name + ".registers.after", after)
         write(name + ".registers.registers", registers_bytes(had))
-        words, found_map = memory_words(machine, after)
-        more, register_map = register_words(machine, registers, had)
-        say(name, "registers", "differ", "; ".join(w for w in (words, more) if w))
-        found_map = register_map if words is None else found_map
+        lead, found_map = lead_of(shown_elements(machine, after, registers, had))
+        words = (lead, memory_words(machine, after), register_words(machine, registers, had))
+        say(name, "registers", "differ", "; ".join(w for w in words if w))
         if found_map:
             maps[f"{name} registers"] = found_map
 

@@ -232,7 +232,7 @@ static void try_file(const char *folder, const char *name)
         return;
     }
     snprintf(path, sizeof path, "%s/%s", folder, name);
-    if (!read_sheet(path, &sheet)) {
+    if (!read_file(path, SHEET_LIMIT, &sheet)) {
         failed++;
         return;
     }

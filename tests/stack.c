@@ -146,7 +146,7 @@ static size_t stack_of(void (*call)(void))
 int main(int argc, char **argv)
 {
     for (int i = 1; i < argc; i++) {
-        if (!read_sheet(argv[i], &lent.sheet)) {
+        if (!read_file(argv[i], SHEET_LIMIT, &lent.sheet)) {
             return 1;
         }
         for (size_t f = 0; f < FUNCTIONS; f++) {

@@ -109,6 +109,13 @@ carried_strip() {
     fi
 }
 
+# refused_line STRIP: the line of the step that its refusal names.
+refused_line() {
+    step=$(sed 's/.* at step \([0-9]*\)[,:].*/\1/' "$strips/$1/refusal.txt")
+    grep -n -E '^(fill|load|store|reduce|transpose|multiply-add|vector) ' "$strips/$1/sheet.txt" |
+        sed -n "$((step + 1))s/:.*//p"
+}
+
 # put_edition NUMBER: makes the sheet one of this edition.
 put_edition() {
     printf '%b' "\\000$1" | dd of=sheet bs=1 seek=3 conv=notrunc status=none
@@ -143,7 +150,7 @@ for folder in "$strips"/*/; do
     same "$strip: asm" assembled sheet
     : > expected
     if [ -e "$folder/refusal.txt" ]; then
-        sed "s|^|$folder/sheet.txt: warning: |" "$folder/refusal.txt" > expected
+        sed "s|^|$folder/sheet.txt:$(refused_line "$strip"): warning: |" "$folder/refusal.txt" > expected
     fi
     same "$strip: the warnings of asm" stderr expected
     call 0 show --asm sheet
@@ -691,7 +698,7 @@ for words in -h help 'help --'; do
     call 0 $words
     same "$words" stdout help
 done
-sed -n '/^usage:$/,/^ *moonbleat help/p' help > usage
+sed -n '/^usage:$/,/^ *moonbleat --version/p' help > usage
 commands=$(sed -n 's/^  moonbleat \([a-z-]*\) .*/\1/p' usage)
 for command in $commands; do
     call 0 help "$command"
@@ -743,7 +750,7 @@ wrong '--memory 0x: not a length in bytes' check sheet --memory 0x
 wrong '--memory 0x1g: not a length in bytes' check sheet --memory=0x1g
 wrong '--memory 0x10000000000000000: not a length in bytes' check sheet --memory 0x10000000000000000
 wrong '--memory : not a length in bytes' check sheet --memory=
-wrong 'check does not take --memory-' check sheet --memory- 64
+wrong 'check does not take --memory-; did you mean --memory?' check sheet --memory- 64
 wrong 'check does not take --mem' check sheet --mem 64
 wrong '--man takes no word after it' help --man=1
 wrong 'check takes SHEET, and --memory is one more' check sheet -- --memory
@@ -810,15 +817,16 @@ wrong '--memory 12x: not a length in bytes' where sheet 1 --memory 12x
 wrong 'touched takes SHEET STEP ELEMENT' touched
 wrong 'touched takes SHEET STEP ELEMENT' touched sheet 1
 wrong 'touched takes SHEET STEP ELEMENT, and memory is one more' touched sheet 1 0 memory
-wrong 'touched does not take --masks' touched sheet 1 0 --masks out
+wrong 'touched --masks takes STEP ELEMENT, and sheet is one more' touched sheet 1 0 --masks out
 wrong 'touched does not take -1' touched sheet -1 0
-for word in load 1x '' 0x 1,0 4294967296; do
+for word in load 1x '' 0x 4294967296; do
     wrong "$word: not the number of a step" touched sheet "$word" 0
-    wrong "$word: not the number of an element" touched sheet 1 "$word"
+    wrong "$word: not the number of an element, and not ROW,COLUMN" touched sheet 1 "$word"
 done
+wrong '1,0: not the number of a step' touched sheet 1,0 0
 wrong '--memory 12x: not a length in bytes' touched sheet 1 0 --memory 12x
 wrong '--json takes no word after it' touched sheet 1 0 --json=1
-wrong 'show takes SHEET' show
+wrong 'show takes FILE' show
 wrong 'show does not take --memory' show sheet --memory 64
 
 # Lengths in hex, behind =, and left out; files behind --.
@@ -836,16 +844,6 @@ call 0 check -- --help
 rm ./--help
 
 # -- Files that cannot be read -------------------------------------------------------------------
-
-# broken TEXT WORD..: exit status 3, nothing printed, and standard error is the text.
-broken() {
-    text=$1
-    shift
-    call 3 "$@"
-    silent
-    echo "moonbleat: $text" > expected
-    same "$*" stderr expected
-}
 
 gone='No such file or directory'
 broken "nowhere: $gone" check nowhere --memory 64
@@ -1044,13 +1042,6 @@ broken 'folder: not a regular file' run sheet memory -o folder
 broken "nowhere/out: $gone" trace sheet -o nowhere/out
 broken 'sheet/out: Not a directory' trace sheet -o sheet/out
 broken 'folder: not a regular file' trace sheet -o folder
-mkfifo pipe
-broken 'pipe: not a regular file' run-tape sheet tape memory -o pipe
-if [ -p pipe ]; then pass; else fail 'a pipe was replaced'; fi
-# Through a link, so that a fault here could not replace the device itself.
-ln -s /dev/null device
-broken 'device: not a regular file' run sheet memory -o device
-if [ -h device ]; then pass; else fail 'a device was replaced'; fi
 # Nobody can make a file in the first folder; in the second, root can.
 call 3 run sheet memory -o /proc/out
 silent
@@ -1367,7 +1358,7 @@ done
 misspelt "${repeat_text}load r1 object zeros L0 base 0\n" 'text:1:1: layout 0 comes before the edition' \
     'text:3:1: step 0 (load) comes before the edition' 'text:3:1: the sheet has no edition'
 misspelt "edition 3\n${repeat_text}load r1 object zero L0 base 0\nload r1 L0 zeros base 0\nstore r1 object zeros L0 base 0\n" \
-    "text:4:16: expected the object as r0, not 'zero'" "text:5:12: expected 'base' and a number, not 'zeros'" \
+    "text:4:16: expected the object as r0, not 'zero'; did you mean 'zeros'?" "text:5:12: expected 'base' and a number, not 'zeros'" \
     "text:6:10: expected the layout as L0, not 'object'" "text:6:17: expected 'base' and a number, not 'zeros'"
 
 weights='matrix s8 2x8 row-major stride 8 offset 0'
@@ -1402,7 +1393,7 @@ misspelt "edition 2\nvector r1 3 of r0 as 7 matrix 6 2x8 2 stride 0 offset 0 bia
     'text:2:61: expected the bias offset, a number'
 misspelt "edition 2\nvector r1 s32 from r0 as u8 $weights bais 8\n" \
     "text:2:15: expected 'of' and a number, not 'from'" \
-    "text:2:71: expected the end of the line, not 'bais'"
+    "text:2:71: expected the end of the line, not 'bais'; did you mean 'bias'?"
 misspelt "edition 2\nvector r1 s32 of r0 as u8 $weights bias 4294967296\n" \
     'text:2:74: bias offset 4294967296 is not within 0 to 4294967295'
 misspelt 'fill r0 1x8 u8 0\n' 'text:1:1: step 0 (fill) comes before the edition' 'text:1:1: the sheet has no edition'
@@ -1418,7 +1409,7 @@ misspelt 'edition 1\n\tlayout L0 Mirror value x\n\tdim block 0 size 4 stride 1 o
     "text:2:12: expected the clamp mode: Undefined or Constant or ClampToEdge or Repeat or MirrorRepeat, not 'Mirror'" \
     "text:2:25: expected the clamp value, a number, not 'x'" \
     'text:3:12: block 0 is not within 1 to 4096' \
-    "text:3:30: expected 'span' and a number, not 'ofset'" \
+    "text:3:30: expected 'span' and a number, not 'ofset'; did you mean 'offset'?" \
     'text:3:43: span 9999 is not within 1 to 4096'
 misspelt 'edition 1\nlayout L1 Repeat\n' "text:2:8: expected 'L0', this layout's name, not 'L1'"
 misspelt 'edition 1\nlayout L0 Repeat\n' 'text:2:1: the layout has no dimensions'
@@ -1461,7 +1452,7 @@ misspelt 'allow\n' 'text:1:1: the sheet has no edition' "text:1:6: expected 'ref
     yes "vector r1 s32 of r0 as u8 $weights bias 0" | head -n 32
 } > text
 call 0 asm text -o sheet
-says 'text: warning: refusal 7 at step 0: vector: register 0 is empty'
+says 'text:50: warning: refusal 7 at step 0: vector: register 0 is empty'
 sed -n 's/^#define MOONBLEAT_SHEET_MAX \([0-9]*\).*/\1/p' "$root/include/moonbleat.h" > expected
 wc -c < sheet > stdout
 same 'the length of the longest sheet' stdout expected
@@ -1482,7 +1473,7 @@ same 'many errors' stderr expected
 # What the library refuses is written where the text allows it, with a warning.
 printf 'allow refused\nlayout L0 7\n  dim size 0 stride 1 span 5000\nfill r9 0x200 9 1\nbytes 77\n' > text
 call 0 asm text -o sheet
-says 'text: warning: refusal 3 at byte 0: layout 0 comes before the edition'
+says 'text:2: warning: refusal 3 at byte 0: layout 0 comes before the edition'
 bytes expected 10 1000 01 07 00000000 0100 0000 0100 0000 8813 20 0800 09 00 C8 09 01000000 77
 same 'a refused sheet of a text' sheet expected
 call 1 show --asm sheet
@@ -1492,12 +1483,12 @@ same 'a refused sheet of its own text' again expected
 misspelt 'allow refused\nfill r256 1x1 u8 0\n' 'text:2:6: register 256 is not within 0 to 255'
 printf 'allow refused\nedition 1\nvector r5 0 of r4 as 7 matrix 255 0x255 9 stride 0 offset 0 bias 1\n' > text
 call 0 asm text -o sheet
-says 'text: warning: refusal 2 at byte 4: tag 0x26 (vector) comes with edition 2, and the sheet has edition 1'
+says 'text:3: warning: refusal 2 at byte 4: tag 0x26 (vector) comes with edition 2, and the sheet has edition 1'
 bytes expected "$edition" 26 1300 05 00 04 07 FF 00 FF 09 0000 00000000 01 01000000
 same 'a vector step that is refused, of a text' sheet expected
 printf 'allow refused\nedition 4\nload r1 object zeros L0 base 0\n' > text
 call 0 asm text -o sheet
-says 'text: warning: refusal 6 at byte 0: edition 4 is not within 1 to 3'
+says 'text:2: warning: refusal 6 at byte 0: edition 4 is not within 1 to 3'
 bytes expected 01 0100 04 "$without"
 same 'a load from zeros of an edition that is refused' sheet expected
 
@@ -1923,14 +1914,14 @@ same 'the demo in README.md' stdout expected
 # The commands of README.md, from the sheet above with a size of 0 on, and what it says that they print.
 sed -n 's/^    //;/^-- the sheet$/,/^-- its tape$/p' "$root/README.md" | grep -v '^--' | sed 's/size 4/size 0/' > my.txt
 sed -n '/^    \$ /,/^$/p' "$root/README.md" | sed 's/^    //' > console
-sed -n 's/^\$ //p' console | sed "s|target/tool/moonbleat|$bin/moonbleat|" > commands
+sed -n 's/^\$ //p' console | sed "s|target/tool/|$bin/|g" > commands
 grep -v -e '^\$ ' -e '^$' console > expected
 sh commands > stdout 2>&1
 same 'the commands of README.md' stdout expected
 if [ -s expected ]; then pass; else fail 'no commands in README.md'; fi
 
 # The usage in the manual is the tool's.
-sed -n 's/^    \(moonbleat [a-z]\)/  \1/p' "$root/harness/README.md" > stdout
+sed -n 's/^    \(moonbleat [a-z-]\)/  \1/p' "$root/harness/README.md" > stdout
 sed 1d usage > expected
 same 'the usage in the manual' stdout expected
 

@@ -1,4 +1,4 @@
-//! The strips of the scope and five beside them: sheets and memories from the files under `strips/`, and what the
+//! The strips of the scope and eight beside them: sheets and memories from the files under `strips/`, and what the
 //! scope says that they give.
 
 use crate::jobs::{Answer, Jobs, OutcomeRow, State, AGREES};
@@ -36,7 +36,7 @@ macro_rules! strip {
     };
 }
 
-/// Every strip, in the scope's order; the last five are none of the scope's.
+/// Every strip, in the scope's order; the last eight are none of the scope's.
 pub fn strips() -> Vec<Strip> {
     use Expected::*;
     vec![
@@ -61,6 +61,12 @@ pub fn strips() -> Vec<Strip> {
         strip!("14-spans-of-one", Register(0, [2, 4], &[0, 1, 2, 4, 5, 6, 0, 1])),
         strip!("15-no-object-kept", Register(0, [2, 4], &[100, 100, 16, 17, 100, 100, 20, 21])),
         strip!("15-no-object-zeros", Register(0, [2, 4], &[0, 0, 16, 17, 0, 0, 20, 21])),
+        strip!(
+            "16-clip-ends",
+            Register(1, [4, 4], &[99, 99, 99, 99, 99, 0, 1, 99, 99, 2, 3, 99, 99, 99, 99, 99])
+        ),
+        strip!("17-view-sizes", Register(1, [2, 4], &[0, 1, 4, 5, 8, 9, 0, 1])),
+        strip!("18-low-bits", Register(1, [1, 8], &[120, 120, 0, 1, 2, 3, 120, 120])),
     ]
 }
 
@@ -337,6 +343,6 @@ mod tests {
 
     #[test]
     fn the_reference_gives_what_the_scope_says() {
-        assert_eq!(check_strips(&Reference::default()), Ok(18));
+        assert_eq!(check_strips(&Reference::default()), Ok(21));
     }
 }

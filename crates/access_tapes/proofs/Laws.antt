@@ -1,14 +1,15 @@
 -- The outcomes that the entries of a survey stand for: in range, and with the runs and the mask of their access.
-use Prim.Native.Nat.{ℕ, _^_, _<_}
+use Prim.Native.Nat.{ℕ, _^_, _<_, _≤_}
 use mathlib.Core.Path.{_≡_, sym, ap, _∙_}
 use mathlib.Core.Bool.{Bool}
 use mathlib.Core.List.{List}
 use native.Mathlib.Omega.{arith}
 use lib.ListN.{length}
+use Rattle.outcomes.specs.declared.Outcome.{Outcome}
 use Rattle.outcomes.specs.declared.Outcome.the-variants.{Skipped}
-use Rattle.addressing.specs.Rules.{elementsOf}
+use Rattle.addressing.specs.Rules.{elementsOf, lowBits}
 use Rattle.addressing.specs.declared.Access.{Access}
-use Rattle.accesses.specs.Entries.{entryOutcome}
+use Rattle.accesses.specs.Entries.{entryOutcome, Told}
 use Rattle.accesses.specs.Laws.Surveys.{entry-cases}
 use Rattle.transfers.specs.Transfers.{outcomeOf}
 use Rattle.accepted.specs.Accepted.{entriesOutcome, Listed}
@@ -17,7 +18,7 @@ use Rattle.accepted.specs.Laws.Elements.{access-count, access-at}
 use Rattle.runs.specs.Ranges.{Fitting}
 use Rattle.runs.specs.Laws.RunRecords.{recordsOf, of-runs}
 use Rattle.runs.specs.Runs.{runs, runsRecords}
-use Rattle.runs.specs.Laws.Writing.{runs-same}
+use Rattle.runs.specs.Laws.Writing.{runs-same, count-all, count-few}
 use Rattle.masks.specs.Masks.{bitOf, maskOf}
 use Rattle.masks.specs.Entries.{entryBit}
 use Rattle.masks.specs.Laws.Bits.{entries-bit}
@@ -27,7 +28,14 @@ use Rattle.access_tapes.specs.Accesses.{accessOutcomes}
 pub entry-fits : (fill : ℕ) → fill < 2 ^ 32 → (x : ℕ) → Fitting (entryOutcome fill x)
 entry-fits fill h x = entry-cases Fitting fill tt (λ b l. omega (arith, l)) h tt x
 
+-- no more runs than elements
+pub runs-few : (f : ℕ → Outcome) (n : ℕ) → length (runs f n) ≤ n
+runs-few f n = omega (arith, count-all f n, count-few f n)
+
 -- the runs of an access are those that its entries say
+pub told-runs : (a : Access) (entries : List ℕ) → Told a entries → runs (entriesOutcome entries (lowBits a)) (elementsOf a) ≡ runs (outcomeOf a) (elementsOf a)
+told-runs a entries told = runs-same _ _ (elementsOf a) told
+
 module _ {a : Access} {entries : List ℕ} {o : Outcomes} (l : Listed a entries o) where
   pub listed-runs : runs (entriesOutcome entries (o .fill)) (o .count) ≡ runs (outcomeOf a) (elementsOf a)
   listed-runs = rw (l .count) (runs-same _ _ (elementsOf a) (l .each))

@@ -1,33 +1,31 @@
 // The records of one load or store, counted and written, and its mask.
 ghost use mathlib.Core.Path.{_≡_};
-ghost use Prim.Native.Nat.{_<_, _≤_};
+ghost use Prim.Native.Nat.{ℕ, _<_, _≤_};
 ghost use lib.ListN.{length};
 ghost use lib.Seq.{sets};
 ghost use Rattle.sheet.specs.Sizes.{registerCount, stepPlaces, matrixPlaces};
 ghost use Rattle.addressing.specs.Rules.{elementsOf};
+ghost use Rattle.accesses.specs.Entries.{Told};
 ghost use Rattle.transfers.specs.Transfers.{outcomeOf};
-ghost use Rattle.checking.specs.Steps.{accessOf};
-ghost use Rattle.accepted.specs.Accepted.{ClearWindow, entriesOutcome};
+ghost use Rattle.accepted.specs.Accepted.{ClearAccess, entriesOutcome};
 ghost use Rattle.runs.specs.Runs.{runs, runsRecords};
 ghost use Rattle.masks.specs.Masks.{maskArea, maskPlace, bitOf, maskOf};
 ghost use Rattle.access_tapes.specs.Accesses.{accessOutcomes, accessRecords};
 ghost use Rattle.access_tapes.specs.Writing.{Room, Wrote};
-use registers::MatrixType;
+use addressing::Access;
 use runs::Run;
-use sheet::Tensors;
-use sheet::Window;
 use sheet::sizes::PLACES;
 
-// How many runs the first `n` elements of a survey make.
-fn count_runs(entries: &[u32; PLACES], n: usize, fill: u32) -> usize
+// How many runs the first `n` elements of a survey make, whatever bits fill an element.
+fn count_runs(entries: &[u32; PLACES], n: usize) -> usize
     requires { ⌜ n ≤ matrixPlaces ⌝ }
-    ensures { λ r. ⌜ r ≡ length (runs (entriesOutcome (now (entries .entry)) fill) n) ⌝ }
+    ensures { λ r. ⌜ ((fill : ℕ) → r ≡ length (runs (entriesOutcome (now (entries .entry)) fill) n)) ⌝ }
 {
     let mut held = Run::Idle;
     let mut records = 0;
     let mut k = 0;
     while k < n {
-        let o = accesses::outcome_of(entries[k], fill);
+        let o = accesses::outcome_of(entries[k], 0);
         let t = runs::next_run(held, k, o);
         let done = t.done;
         records += runs::records_of(done);
@@ -37,7 +35,15 @@ fn count_runs(entries: &[u32; PLACES], n: usize, fill: u32) -> usize
     records + runs::records_of(held)
 }
 
-// Writes their records from record `start` of a tape on: the next record's number.
+// How many records the runs of an access are, by the entries that its check left.
+pub fn count_access(entries: &[u32; PLACES], access: Access) -> usize
+    requires { ⌜ (elementsOf access ≤ matrixPlaces) × Told access (now entries) ⌝ }
+    ensures { λ r. ⌜ (r ≡ length (runs (outcomeOf access) (elementsOf access))) × (r ≤ matrixPlaces) ⌝ }
+{
+    count_runs(entries, (access.rows as usize) * (access.columns as usize))
+}
+
+// Writes the records of the runs from record `start` of a tape on: the next record's number.
 fn write_runs(
     tape: &mut [i32],
     entries: &[u32; PLACES],
@@ -64,45 +70,25 @@ fn write_runs(
     runs::write_run(tape, at, load, register, held)
 }
 
-// How many records the runs of a load or a store of a matrix of type t are. The entries are lent room.
-pub fn count_window(
-    entries: &mut [u32; PLACES],
-    tensors: Tensors,
-    load: bool,
-    window: Window,
-    t: MatrixType,
-    memory: usize,
-) -> usize
-    requires { ⌜ ClearWindow tensors load window t memory × (length (now entries) ≡ matrixPlaces) ⌝ }
-    ensures { λ _. ⌜ length (now (entries .exit)) ≡ matrixPlaces ⌝ }
-    ensures { λ r. ⌜ r ≡ length (runs (outcomeOf (accessOf tensors load window t memory)) (elementsOf (accessOf tensors load window t memory))) ⌝ }
-{
-    let o = accepted::survey_window(entries, tensors, load, window, t, memory);
-    count_runs(entries, o.count, o.fill)
-}
-
-// Writes them from record `at` of a tape on, and the mask of step `k`, of the same survey: the next record's number.
-pub fn write_window(
+// Writes the records of an access from record `at` of a tape on, and the mask of step `k`, of the same survey: the next record's number.
+// The entries are lent room.
+pub fn write_access(
     tape: &mut [i32],
     masks: &mut [u8],
     entries: &mut [u32; PLACES],
     at: usize,
     k: usize,
-    tensors: Tensors,
-    load: bool,
+    access: Access,
     register: u8,
-    window: Window,
-    t: MatrixType,
-    memory: usize,
 ) -> usize
-    requires { ⌜ ClearWindow tensors load window t memory × (length (now entries) ≡ matrixPlaces) ⌝ }
+    requires { ⌜ (0 < access .rows → ClearAccess access) × (length (now entries) ≡ matrixPlaces) ⌝ }
     requires { ⌜ (k < stepPlaces) × (maskArea ≤ length (now masks)) ⌝ }
-    requires { ⌜ (register < registerCount) × Room (now tape) at (accessRecords (accessOf tensors load window t memory) register) ⌝ }
+    requires { ⌜ (register < registerCount) × Room (now tape) at (accessRecords access register) ⌝ }
     ensures { λ _. ⌜ length (now (entries .exit)) ≡ matrixPlaces ⌝ }
-    ensures { λ r. ⌜ Wrote (now (tape .entry)) (now (tape .exit)) at (accessRecords (accessOf tensors load window t memory) register) r ⌝ }
-    ensures { λ _. ⌜ now (masks .exit) ≡ sets (now (masks .entry)) (maskPlace k) (maskOf (bitOf (accessOutcomes (accessOf tensors load window t memory)))) ⌝ }
+    ensures { λ r. ⌜ Wrote (now (tape .entry)) (now (tape .exit)) at (accessRecords access register) r ⌝ }
+    ensures { λ _. ⌜ now (masks .exit) ≡ sets (now (masks .entry)) (maskPlace k) (maskOf (bitOf (accessOutcomes access))) ⌝ }
 {
-    let o = accepted::survey_window(entries, tensors, load, window, t, memory);
+    let o = accepted::survey_access(entries, access);
     masks::put_mask(masks, k, entries, o.count);
-    write_runs(tape, entries, o.count, o.fill, at, load, register)
+    write_runs(tape, entries, o.count, o.fill, at, access.load, register)
 }

@@ -25,6 +25,7 @@ use Rattle.clashes.specs.Entries.{filledEntry, discardedEntry, hasByte, hits, s
 use Rattle.accesses.specs.declared.Tally.{Tally}
 use Rattle.accesses.specs.Refusals.{elementOutcome, firstRefused, sameByte, sameAt, clashRefusal, elementsRefusal, placedOne, placedCount, checkedBy, checkedElements, misplaced, otherRank, storeBlocked, accessRefusal, checkedAccess}
 use Rattle.accesses.specs.Entries.{Near, entryOf, Surveyed}
+use Rattle.accesses.specs.Rows.{Passed, Went, Row}
 use Rattle.sheet.specs.Sizes.{matrixPlaces, memoryLimit}
 use Rattle.accesses.specs.declared.Checked.{Checked}
 
@@ -58,16 +59,6 @@ entries-same (Placed x) (Placed y) n m =
     rw (ne-eqb (y + 1) 0 (omega arith), lt-ltb (y + 1) filledEntry (omega arith))
     (by-test (eqb x y) (λ t. let e : x ≡ y = eqb-true x y t in rw (t, eq-eqb (x + 1) (y + 1) (omega arith)))
     (λ t. let d : x ≡ y → ⊥ = eqb-false x y t in rw (t, ne-eqb (x + 1) (y + 1) (omega arith))))
-
--- The first m elements of an access, passed up to k without a refusal
-pub record Passed (f : ℕ → Located) (m k placed : ℕ) (entries : List ℕ) : Type 0 where
-  pub inside : k ≤ m
-  pub most : m ≤ matrixPlaces
-  pub room : length entries ≡ matrixPlaces
-  pub few : placed ≤ k
-  pub stop : firstRefused f k (m - k) ≡ firstRefused f 0 m
-  pub count : placed ≡ placedCount f k
-  pub each : (i : ℕ) → i < k → getD entries i 0 ≡ entryOf (f i .outcome)
 
 module _ (f : ℕ → Located) where
   stop-here : (k m : ℕ) → 0 < m → (f k .refusal ≡ 0 → ⊥) → firstRefused f k m ≡ stopAt (f k .refusal) k

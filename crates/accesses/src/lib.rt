@@ -1,6 +1,6 @@
 // All elements of a load or a store: refusals 9 to 15, and how many elements have a byte.
 ghost use mathlib.Core.Path.{_≡_};
-ghost use mathlib.Core.Bool.{true};
+ghost use mathlib.Core.Bool.{true, false};
 ghost use Prim.Native.Nat.{_≤_, _<_};
 ghost use lib.ListN.{length};
 ghost use Rattle.refusals.specs.Refusals.{stopAt};
@@ -10,10 +10,14 @@ ghost use Rattle.addressing.specs.Valid.{SizedAccess, Planned};
 ghost use Rattle.sheet.specs.Sizes.{rankPlaces, matrixPlaces};
 ghost use Rattle.accesses.specs.Refusals.{elementOutcome, otherRank, blocksOne, storeBlocked, elementsRefusal, placedOne, checkedBy, checkedElements, checkedAccess};
 ghost use Rattle.accesses.specs.Entries.{Near, entryOf, entryOutcome, Surveyed, Told};
+
+pub mod rows;
+
 use addressing::Access;
 use addressing::Plan;
 use clashes::DISCARDED;
 use clashes::FILLED;
+use dimensions::LAYOUT_NUMBERS;
 use outcomes::Outcome;
 use refusals::BLOCKED_STORE;
 use refusals::BYTE_TWICE;
@@ -43,7 +47,7 @@ pub fn no_entries() -> [u32; PLACES]
 }
 
 // An element's entry: 0 for a skipped one, one more than its byte for one that has a byte, and two numbers past all bytes.
-fn entry(o: Outcome) -> u32
+pub fn entry(o: Outcome) -> u32
     requires { ⌜ Near o ⌝ }
     ensures { λ r. ⌜ r ≡ entryOf o ⌝ }
 {
@@ -72,7 +76,7 @@ pub fn outcome_of(entry: u32, fill: u32) -> Outcome
     }
 }
 
-fn placed_one(o: Outcome) -> usize
+pub fn placed_one(o: Outcome) -> usize
     ensures { λ r. ⌜ (r ≡ placedOne o) × (r ≤ 1) ⌝ }
 {
     match o {
@@ -83,7 +87,30 @@ fn placed_one(o: Outcome) -> usize
     }
 }
 
-// The elements in order, up to the first that is refused, and each one's entry.
+// Fewer elements, or rows of fewer, take longer row by row than one by one.
+const FEW: usize = 8;
+
+const SHORT: u16 = 3;
+
+// Whether the elements go row by row: without a view, where not all dimensions are fixed.
+fn by_rows(viewed: bool, numbers: &[u16; LAYOUT_NUMBERS], rank: u8, count: usize) -> bool
+    requires { ⌜ rank ≤ rankPlaces ⌝ }
+    ensures { λ r. ⌜ (r ≡ true → (viewed ≡ false) × (0 < rank)) ⌝ }
+{
+    if count < FEW {
+        return false;
+    }
+    if viewed {
+        return false;
+    }
+    if rank < 1 {
+        return false;
+    }
+    let last = dimensions::dimension_at(numbers, rank as usize - 1);
+    SHORT <= last.span
+}
+
+// The elements in order, up to the first that is refused, and each one's entry: row by row, or each located by itself.
 pub fn survey(entries: &mut [u32; PLACES], p: Plan) -> Tally
     requires { ⌜ Planned p × (length (now entries) ≡ matrixPlaces) ⌝ }
     ensures { λ r. ⌜ Surveyed (elementOutcome (p .access)) (elementsOf (p .access)) r (now (entries .exit)) ⌝ }
@@ -94,6 +121,10 @@ pub fn survey(entries: &mut [u32; PLACES], p: Plan) -> Tally
     let sizes = p.sizes;
     let strides = p.strides;
     let numbers = p.numbers;
+    let tail = p.tail;
+    if by_rows(p.access.viewed, &numbers, tail.rank, count) {
+        return rows::survey_rows(entries, p);
+    }
     let mut placed = 0;
     let mut k = 0;
     while k < count {

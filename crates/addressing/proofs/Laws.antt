@@ -1,38 +1,45 @@
 -- Laws of the rules' definitions.
-use Prim.Native.Nat.{ℕ, zero, suc, _+_, _*_, _%_, _^_, _<_, _≤_}
+use Prim.Native.Nat.{ℕ, zero, suc, _+_, _-_, _*_, _/_, _%_, _^_, _<_, _≤_}
 use mathlib.Core.Path.{_≡_, refl, sym, ap, _∙_}
 use mathlib.Core.Bool.{Bool, true, false, true≢false}
 use native.Mathlib.Nat.{mul-le-mul, not-suc-le-zero, div-add-mod', zero-mul, suc-mul}
 use native.Mathlib.Omega.{arith}
 use lib.Dec.{ltb, leb}
-use lib.IntN.{ℤ, pos, _+ℤ_}
+use lib.IntN.{ℤ, pos, negsuc, _+ℤ_}
 use lib.ListN.{getD}
 use mathlib.Core.List.{List}
-use borrow.Author.Tests.{le-leb, lt-leb, ltb-false}
+use borrow.Author.Tests.{lt-ltb, le-ltb, le-leb, lt-leb, ltb-false}
 use Rattle.refusals.specs.Refusals.{indexTooLarge}
 use Rattle.numbers.specs.Choice.{pick}
-use Rattle.numbers.specs.Laws.Choice.{pick-case}
-use Rattle.tensor_ranges.specs.Laws.Facts.{InSize, layout-span, view-most, view-size}
+use Rattle.numbers.specs.Laws.Choice.{pick-case, by-order}
+use Rattle.tensor_ranges.specs.Laws.Facts.{InSize, layout-some, layout-block, layout-size, layout-span, view-most, view-size}
+use Rattle.tensor_ranges.specs.Layouts.{layoutOk}
 use Rattle.tensor_ranges.specs.Views.{theViewDimension}
-use Rattle.addressing.specs.Valid.{ValidAccess, Planned}
+use Rattle.addressing.specs.Valid.{ValidAccess, Planned, AtMost}
+use Rattle.addressing.specs.Rows.{upTo, lastOf, cellOf, Out, Inside}
+use Rattle.addressing.specs.Laws.Rows.{tensor-is-up}
 use Rattle.addressing.specs.declared.Plan.{Plan}
 use Rattle.sheet.specs.declared.ClampMode.{ClampMode}
 use Rattle.sheet.specs.declared.Clip.{Clip}
 use Rattle.sheet.specs.declared.Dimension.{Dimension}
+use Rattle.sheet.specs.declared.Layout.{Layout}
 use Rattle.sheet.specs.declared.View.{View}
 use Rattle.addressing.specs.declared.Access.{Access}
 use Rattle.clamps.specs.declared.Clamped.{Clamped}
-use Rattle.sheet.specs.Sizes.{rankPlaces, matrixPlaces}
+use Rattle.clamps.specs.declared.Clamped.the-variants.{Refused, Discarded, Filled, At}
+use Rattle.sheet.specs.Sizes.{rankPlaces, matrixPlaces, sizeLimit}
 use Rattle.view_indices.specs.Plans.{sizesOf, stridesOf}
 use Rattle.view_indices.specs.Laws.Indices.{five-at}
 use Rattle.dimensions.specs.declared.Tail.{Tail}
-use Rattle.dimensions.specs.Dimensions.{tailOf, tailNumbers}
+use Rattle.dimensions.specs.Dimensions.{lead, tailOf, tailNumbers}
+use Rattle.dimensions.specs.Laws.Tails.{lead-most}
 use Rattle.addressing.specs.Plans.{planned}
 use Rattle.view_indices.specs.Indices.{viewSizes, viewStrides, spanOf}
 use Rattle.spans.specs.Spans.{spanCoordinates}
 use Rattle.clamps.specs.Clamps.{twos, coordinateOf, clamped, sided}
 use Rattle.clamps.specs.declared.Sided.{Sided}
-use Rattle.addressing.specs.Rules.{outsideClip, outsideView, elementsOf, clipWidth, lowBits, scaled, part, tensorIndex, refused, settled, reached}
+use Rattle.clamps.specs.Laws.Offsets.{lower, upper}
+use Rattle.addressing.specs.Rules.{outsideClip, outsideView, elementsOf, clipWidth, lowBits, scaled, part, plus, tensorIndex, refused, settled, reached}
 
 -- Rule 1: inside the clip the offset can be subtracted
 pub clip-low : (c : Clip) (x : ℕ) → outsideClip c x ≡ false → c .offset ≤ x
@@ -78,6 +85,92 @@ pub part-told : (load : Bool) (mode : ClampMode) (d : Dimension) (s : ℕ) {offs
     → offset ≡ d .offset → c ≡ pos s +ℤ twos offset → n ≡ d .size → r ≡ sided load mode c n → r .clamped ≡ x → scaled d x ≡ part load mode d s
 part-told load mode d s {x = x} e f g h i = part-is load mode d s {x = x} (rw (← e, ← f, ← g) (sym (ap (λ (y : Sided). y .clamped) h) ∙ i))
 
+-- the fixed dimensions and those after them are all
+pub tail-whole : (l : Layout) (t : Tail) → t ≡ tailOf l → lead l + t .rank ≡ l .rank
+unfolding tailOf
+tail-whole l t e = rw e (omega (arith, lead-most l))
+
+-- a bound may be wider
+pub at-most-more : {m n : ℕ} (x : Clamped) → m ≤ n → AtMost m x → AtMost n x
+at-most-more Refused h b = b
+at-most-more Discarded h b = b
+at-most-more Filled h b = b
+at-most-more (At x) h b = omega arith
+
+-- the last dimension
+module _ (l : Layout) (ok : layoutOk l ≡ true) where
+  last-inside : l .rank - 1 < l .rank
+  last-inside = omega (arith, layout-some l ok)
+
+  pub last-size : InSize (lastOf l .size)
+  last-size = layout-size l ok (l .rank - 1) last-inside
+
+  pub last-block : InSize (lastOf l .block)
+  last-block = layout-block l ok (l .rank - 1) last-inside
+
+  pub last-span : InSize (lastOf l .span)
+  last-span = layout-span l ok (l .rank - 1) last-inside
+
+-- an element of a row, by what its last dimension gives
+pub cell-is : (a : Access) (t s : ℕ) {x : Dimension} (y : Clamped) → x ≡ lastOf (a .layout) → part (a .load) (a .layout .mode) x s ≡ y
+    → settled a (plus (At t) y) ≡ cellOf a (At t) s
+cell-is a t s y e f =
+    ap (λ (z : Clamped). settled a (plus (At t) z)) (sym f ∙ ap (λ (d : Dimension). part (a .load) (a .layout .mode) d s) e)
+
+-- a coordinate that is inside
+part-inside : (load : Bool) (mode : ClampMode) (d : Dimension) (s c : ℕ) → coordinateOf d s ≡ pos c → c < d .size
+    → part load mode d s ≡ At (c / d .block * d .stride)
+unfolding part clamped pick
+part-inside load mode d s c e h = rw (e, lt-leb (d .size) c h)
+
+past : (s b c : ℕ) → s ≡ b + 1 + c → pos s +ℤ negsuc b ≡ pos c
+past s b c e = simp (le-ltb s (suc b) (omega arith)) (ap pos (omega arith))
+
+before : (s b : ℕ) → s ≤ b → pos s +ℤ negsuc b ≡ negsuc (b - s)
+before s b h = simp (lt-ltb s (suc b) (omega arith)) (ap negsuc (omega arith))
+
+-- the same by the low 16 bits of the sum: an offset is 16 bits, and below 0 they are past every size
+pub part-near : (load : Bool) (mode : ClampMode) (d : Dimension) (s : ℕ) {raw c : ℕ} → InSize (d .size) → s < sizeLimit → raw ≡ d .offset → raw < 65536
+    → c ≡ (s + raw) % 65536 → c < d .size → part load mode d s ≡ At (c / d .block * d .stride)
+part-near load mode d s {raw} {c} ok h e m f g =
+    part-inside load mode d s c
+    (by-order raw 32768
+    (λ l. let z : twos (d .offset) ≡ pos raw = rw (← e) (lower raw l) in rw z (ap pos (omega arith)))
+    (λ l. let z : twos (d .offset) ≡ negsuc (65535 - raw) = rw (← e) (upper raw m l) in rw z (past s (65535 - raw) c (omega (arith, ok .most)))))
+    g
+
+-- coordinates outside
+out-below : (d : Dimension) (s b : ℕ) → coordinateOf d s ≡ negsuc b → Out d s
+unfolding clamped
+out-below d s b e load mode = rw e refl
+
+out-above : (d : Dimension) (s c : ℕ) → coordinateOf d s ≡ pos c → d .size ≤ c → Out d s
+unfolding clamped pick
+out-above d s c e h load mode = rw (e, le-leb (d .size) c h) refl
+
+module _ (d : Dimension) (ok : InSize (d .size)) {raw size : ℕ} (e : raw ≡ d .offset) (f : size ≡ d .size) where
+  pub inside-lower : {to : ℕ} → raw < 32768 → to ≡ size - raw → Inside d (record { from = 0; to = to; first = raw })
+  inside-lower h t =
+      let z : twos (d .offset) ≡ pos raw = rw (← e) (lower raw h) in
+      record {
+        starts = omega arith;
+        most = λ l. omega (arith, ok .most);
+        each = λ load mode i l. part-inside load mode d (0 + i) (raw + i) (rw z (ap pos (omega arith))) (omega arith);
+        below = λ s l. absurd (not-suc-le-zero l);
+        above = λ s l. out-above d s (s + raw) (rw z refl) (omega arith);
+      }
+
+  pub inside-upper : raw < 65536 → 32768 ≤ raw → Inside d (record { from = 65536 - raw; to = 65536 - raw + size; first = 0 })
+  inside-upper l h =
+      let z : twos (d .offset) ≡ negsuc (65535 - raw) = rw (← e) (upper raw l h) in
+      record {
+        starts = omega arith;
+        most = λ m. omega (arith, ok .most);
+        each = λ load mode i m. part-inside load mode d (65536 - raw + i) (0 + i) (rw z (past (65536 - raw + i) (65535 - raw) (0 + i) (omega arith))) (omega arith);
+        below = λ s m. out-below d s (65535 - raw - s) (rw z (before s (65535 - raw) (omega arith)));
+        above = λ s m. out-above d s (s - (65536 - raw)) (rw z (past s (65535 - raw) (s - (65536 - raw)) (omega arith))) (omega arith);
+      }
+
 module _ (a : Access) where
   pub reached-far : (index : ℕ) → 2 ^ 32 ≤ index → refused indexTooLarge ≡ reached a index
   unfolding reached pick
@@ -87,6 +180,12 @@ module _ (a : Access) where
       → tensorIndex (a .load) (a .layout) (spanCoordinates (a .layout) index) (a .layout .rank) ≡ x → settled a x ≡ reached a index
   unfolding reached pick
   reached-is index x h e = rw (lt-leb _ _ h, e)
+
+  -- the same by what the loop over the dimensions after the fixed ones gives
+  pub reached-up : (index : ℕ) (x : Clamped) (t : Tail) → ValidAccess a → t ≡ tailOf (a .layout) → index < 2 ^ 32
+      → upTo (a .load) (a .layout) (lead (a .layout) + t .rank) index ≡ x → settled a x ≡ reached a index
+  reached-up index x t ok e h f =
+      reached-is index x h (tensor-is-up (a .load) (a .layout) (ok .sized .layout) index ∙ (rw (tail-whole (a .layout) t e) at f))
 
 -- Rule 2: the sizes of a view's dimensions
 pub view-sizes-in : (a : Access) → ValidAccess a → a .viewed ≡ true → (i : ℕ) → i < a .view .rank

@@ -3,10 +3,8 @@ use Prim.Native.Nat.{ℕ, zero, suc, _+_, _-_, _*_, _/_, _%_, _<_, _≤_}
 use mathlib.Core.Path.{_≡_, refl, sym, ap, _∙_}
 use mathlib.Core.Bool.{Bool, true}
 use mathlib.Core.List.{List}
-use native.Mathlib.Nat.{add-zero, not-suc-le-zero}
+use native.Mathlib.Nat.{add-zero}
 use native.Mathlib.Omega.{arith}
-use lib.ListN.{length, getD, set, replicate, length-set}
-use lib.Seq.{getD-set-same}
 use Rattle.tensor_ranges.specs.Laws.Facts.{layout-most, layout-span}
 use Rattle.tensor_ranges.specs.Layouts.{theDimension, layoutOk}
 use Rattle.sheet.specs.declared.ClampMode.{ClampMode}
@@ -15,54 +13,18 @@ use Rattle.sheet.specs.declared.Layout.{Layout}
 use Rattle.sheet.specs.Sizes.{rankPlaces}
 use Rattle.clamps.specs.declared.Clamped.{Clamped}
 use Rattle.clamps.specs.declared.Clamped.the-variants.{Refused, Discarded, Filled, At}
-use Rattle.view_indices.specs.Indices.{spanOf, coordinates}
-use Rattle.spans.specs.Spans.{spanCoordinates, splitBy}
-use Rattle.addressing.specs.Rules.{scaled, part, plus, tensorIndex}
-use Rattle.clamps.specs.Clamps.{coordinateOf, clamped}
-use Rattle.clamps.specs.Laws.Clamps.{stopOf, AtOr, clamped-one}
+use Rattle.view_indices.specs.Indices.{spanOf}
+use Rattle.spans.specs.Spans.{splitBy}
+use Rattle.addressing.specs.Rules.{part, plus}
+use Rattle.addressing.specs.Rows.{upTo}
+use Rattle.addressing.specs.Laws.Rows.{part-one, up-one, plus-stop, up-last}
+use Rattle.clamps.specs.Laws.Clamps.{stopOf, AtOr}
 use Rattle.spans.specs.Laws.Splits.{split-rest, split-quotient}
 use Rattle.spans.specs.declared.Split.{Split}
 use Rattle.dimensions.specs.Dimensions.{dimensionNumbers, dimensionIn, lead, leadStart, tailOf, tailNumbers, partLimit}
 use Rattle.dimensions.specs.Laws.Tails.{lead-most, tail-dimension}
 use Rattle.dimensions.specs.declared.Tail.{Tail}
-use Rattle.view_indices.specs.Laws.Indices.{coordinates-more}
-use Rattle.spans.specs.Laws.Coordinates.{coordinates-keep}
 use Rattle.addressing.proofs.Tails.{lead-sum}
-
--- Rules 4 and 5: an index, or what all dimensions that are outside have in common
-scaled-one : (z : Clamped) (d : Dimension) (x : Clamped) → AtOr z x → AtOr z (scaled d x)
-scaled-one z d Refused h = h
-scaled-one z d Discarded h = h
-scaled-one z d Filled h = h
-scaled-one z d (At x) h = h
-
-part-one : (load : Bool) (mode : ClampMode) (d : Dimension) (s : ℕ) → AtOr (stopOf load mode) (part load mode d s)
-unfolding part
-part-one load mode d s =
-    scaled-one (stopOf load mode) d (clamped load mode (coordinateOf d s) (d .size)) (clamped-one load mode (coordinateOf d s) (d .size))
-
-plus-one : (z x y : Clamped) → AtOr z x → AtOr z y → AtOr z (plus x y)
-plus-one z Refused y g h = g
-plus-one z Discarded y g h = g
-plus-one z Filled y g h = g
-plus-one z (At x) Refused g h = h
-plus-one z (At x) Discarded g h = h
-plus-one z (At x) Filled g h = h
-plus-one z (At x) (At y) g h = tt
-
-tensor-one : (load : Bool) (l : Layout) (cs : List ℕ) (n : ℕ) → AtOr (stopOf load (l .mode)) (tensorIndex load l cs n)
-unfolding tensorIndex
-tensor-one load l cs zero = tt
-tensor-one load l cs (suc n) =
-    plus-one (stopOf load (l .mode)) (tensorIndex load l cs n) (part load (l .mode) (theDimension (l .dimensions) n) (getD cs n 0)) (tensor-one load l cs n)
-    (part-one load (l .mode) (theDimension (l .dimensions) n) (getD cs n 0))
-
--- beside one that is outside the others do not count
-plus-stop : (z x y : Clamped) → AtOr z x → z ≡ y → ((a : ℕ) → plus (At a) y ≡ y) → plus x y ≡ y
-plus-stop z Refused y g h after = sym g ∙ h
-plus-stop z Discarded y g h after = sym g ∙ h
-plus-stop z Filled y g h after = sym g ∙ h
-plus-stop z (At a) y g h after = after a
 
 plus-zero : (x : Clamped) → plus x (At 0) ≡ x
 plus-zero Refused = refl
@@ -75,12 +37,6 @@ plus-sum Refused a b = refl
 plus-sum Discarded a b = refl
 plus-sum Filled a b = refl
 plus-sum (At x) a b = let e : x + a + b ≡ x + (b + a) = omega arith in rw e
-
-tensor-last : (load : Bool) (l : Layout) (cs : List ℕ) (d : ℕ) → 0 < d
-    → tensorIndex load l cs d ≡ plus (tensorIndex load l cs (d - 1)) (part load (l .mode) (theDimension (l .dimensions) (d - 1)) (getD cs (d - 1) 0))
-unfolding tensorIndex
-tensor-last load l cs zero h = absurd (not-suc-le-zero h)
-tensor-last load l cs (suc d) h = let q : suc d - 1 ≡ d = omega arith in rw q refl
 
 -- the last of d dimensions after the fixed ones, by the numbers that are left
 module _ (l : Layout) (ok : layoutOk l ≡ true) {ns : List ℕ} {d : ℕ} {x : Dimension} (n : ns ≡ tailNumbers l) (h : 0 < d) (m : d ≤ l .rank - lead l)
@@ -107,121 +63,97 @@ module _ (l : Layout) (ok : layoutOk l ≡ true) {ns : List ℕ} {d : ℕ} {x : 
         → r ≡ part load (l .mode) (theDimension (l .dimensions) (lead l + d - 1)) (left % spanOf l (lead l + d - 1))
     same-part load q = q ∙ rw (same-rest, same-dimension)
 
--- The loop over a layout's dimensions: those from d on are done and have a sum; `left` is what is left of the index.
-pub record Summing (load : Bool) (l : Layout) (index d left sum : ℕ) : Type 0 where
-  pub few : d ≤ l .rank
-  pub small : sum ≤ (l .rank - d) * partLimit
-  pub cs : List ℕ
-  pub long : length cs ≡ rankPlaces
-  pub goes : coordinates (λ (i : ℕ). i) (spanOf l) d left cs ≡ spanCoordinates l index
-  pub whole : plus (tensorIndex load l (spanCoordinates l index) d) (At sum) ≡ tensorIndex load l (spanCoordinates l index) (l .rank)
+-- The loop over the first n dimensions: those from d on are done and have a sum; `left` is what is left of the index.
+pub record Summing (load : Bool) (l : Layout) (n index d left sum : ℕ) : Type 0 where
+  pub few : d ≤ n
+  pub small : sum ≤ (n - d) * partLimit
+  pub whole : plus (upTo load l d left) (At sum) ≡ upTo load l n index
 
-module _ (load : Bool) (l : Layout) (ok : layoutOk l ≡ true) (index : ℕ) where
-  pub summing-start : Summing load l index (l .rank) index 0
-  unfolding spanCoordinates
-  summing-start =
-      record {
-        few = omega arith;
-        small = omega arith;
-        cs = replicate rankPlaces 0;
-        long = refl;
-        goes = refl;
-        whole = plus-zero _;
-      }
+module _ (load : Bool) (l : Layout) (n index : ℕ) where
+  pub summing-start : Summing load l n index n index 0
+  summing-start = record { few = omega arith; small = omega arith; whole = plus-zero _ }
 
-  module _ (d left sum : ℕ) (w : Summing load l index d left sum) (h : 0 < d) where
+  module _ (d left sum : ℕ) (w : Summing load l n index d left sum) (h : 0 < d) where
     abbrev span : ℕ
     span = spanOf l (d - 1)
 
     abbrev next : Clamped
     next = part load (l .mode) (theDimension (l .dimensions) (d - 1)) (left % span)
 
-    further : coordinates (λ (i : ℕ). i) (spanOf l) (d - 1) (left / span) (set (w .cs) (d - 1) (left % span)) ≡ spanCoordinates l index
-    further = coordinates-more (λ (i : ℕ). i) (spanOf l) d left (w .cs) h ∙ w .goes
+    one-more : upTo load l d left ≡ plus (upTo load l (d - 1) (left / span)) next
+    one-more = up-last load l d left h
 
-    coordinate : getD (spanCoordinates l index) (d - 1) 0 ≡ left % span
-    coordinate =
-        let m : d - 1 < length (w .cs) = omega (arith, w .few, w .long, layout-most l ok) in
-        rw (← further) (coordinates-keep (spanOf l) (d - 1) (left / span) (set (w .cs) (d - 1) (left % span)) (d - 1) (omega arith)
-        ∙ getD-set-same (w .cs) (d - 1) (left % span) 0 m)
-
-    one-more : tensorIndex load l (spanCoordinates l index) d ≡ plus (tensorIndex load l (spanCoordinates l index) (d - 1)) next
-    one-more = rw (← coordinate) (tensor-last load l (spanCoordinates l index) d h)
-
-    pub summing-more : (y : ℕ) → y ≤ partLimit → next ≡ At y → Summing load l index (d - 1) (left / span) (sum + y)
+    pub summing-more : (y : ℕ) → y ≤ partLimit → next ≡ At y → Summing load l n index (d - 1) (left / span) (sum + y)
     summing-more y m e =
         record {
           few = omega (arith, w .few);
           small = omega (arith, w .small, w .few);
-          cs = set (w .cs) (d - 1) (left % span);
-          long = length-set (w .cs) (d - 1) (left % span) ∙ w .long;
-          goes = further;
-          whole = sym (plus-sum (tensorIndex load l (spanCoordinates l index) (d - 1)) y sum) ∙ rw (← e, ← one-more) (w .whole);
+          whole = sym (plus-sum (upTo load l (d - 1) (left / span)) y sum) ∙ rw (← e, ← one-more) (w .whole);
         }
 
     pub summing-stop : (y : Clamped) → ((a : ℕ) → plus (At a) y ≡ y) → plus y (At sum) ≡ y → stopOf load (l .mode) ≡ y → next ≡ y
-        → y ≡ tensorIndex load l (spanCoordinates l index) (l .rank)
+        → y ≡ upTo load l n index
     summing-stop y after before z e =
-        let below = tensorIndex load l (spanCoordinates l index) (d - 1) in
-        let f : tensorIndex load l (spanCoordinates l index) d ≡ y =
-        one-more ∙ rw e (plus-stop (stopOf load (l .mode)) below y (tensor-one load l (spanCoordinates l index) (d - 1)) z after) in
+        let below = upTo load l (d - 1) (left / span) in
+        let f : upTo load l d left ≡ y =
+        one-more ∙ rw e (plus-stop (stopOf load (l .mode)) below y (up-one load l (d - 1) (left / span)) z after) in
         sym before ∙ (rw f at (w .whole))
 
     -- what is outside is outside alike
     pub next-stop : (y : Clamped) → next ≡ y → AtOr (stopOf load (l .mode)) y
     next-stop y e = rw e at (part-one load (l .mode) (theDimension (l .dimensions) (d - 1)) (left % span))
 
--- The loop over the dimensions after the fixed ones: those from the last d on are done; the sum has what the fixed ones add.
-pub record Tailing (load : Bool) (l : Layout) (index d left sum : ℕ) : Type 0 where
+-- The loop over n dimensions after the fixed ones: those from the last d on are done; the sum has what the fixed ones add.
+pub record Tailing (load : Bool) (l : Layout) (n index d left sum : ℕ) : Type 0 where
   pub few : d ≤ l .rank - lead l
+  pub most : n ≤ l .rank - lead l
   pub start : leadStart l (lead l) ≤ lead l * partLimit
   pub done : ℕ
   pub adds : sum ≡ leadStart l (lead l) + done
-  pub walk : Summing load l index (lead l + d) left done
+  pub walk : Summing load l (lead l + n) index (lead l + d) left done
 
-module _ (load : Bool) (l : Layout) (ok : layoutOk l ≡ true) (index : ℕ) where
-  pub tailing-start : (t : Tail) → t ≡ tailOf l → t .start ≤ lead l * partLimit → Tailing load l index (t .rank) index (t .start)
+module _ (load : Bool) (l : Layout) (ok : layoutOk l ≡ true) (n index : ℕ) where
+  pub tailing-start : (t : Tail) → t ≡ tailOf l → t .start ≤ lead l * partLimit → n ≤ t .rank → Tailing load l n index n index (t .start)
   unfolding tailOf
-  tailing-start t e m =
-      let q : lead l + (l .rank - lead l) ≡ l .rank = omega (arith, lead-most l) in
+  tailing-start t e m r =
+      let i : n ≤ l .rank - lead l = rw e at r in
       rw e
       (record {
-        few = omega arith;
+        few = i;
+        most = i;
         start = rw e at m;
         done = 0;
         adds = sym (add-zero (leadStart l (lead l)));
-        walk = rw q (summing-start load l ok index);
+        walk = summing-start load l (lead l + n) index;
       })
 
-  module _ (d left sum : ℕ) (w : Tailing load l index d left sum) (h : 0 < d) where
-    abbrev dimension : ℕ
-    dimension = lead l + d - 1
-
+  module _ (d left sum : ℕ) (w : Tailing load l n index d left sum) (h : 0 < d) where
     abbrev here : Clamped
     here = part load (l .mode) (theDimension (l .dimensions) (lead l + d - 1)) (left % spanOf l (lead l + d - 1))
 
     pub tailing-fits : (y : ℕ) → y ≤ partLimit → sum + y ≤ rankPlaces * partLimit
-    tailing-fits y m = omega (arith, w .adds, w .start, w .walk .small, w .few, layout-most l ok, lead-most l)
+    tailing-fits y m = omega (arith, w .adds, w .start, w .walk .small, w .walk .few, w .most, layout-most l ok, lead-most l)
 
-    pub tailing-more : (y : ℕ) → y ≤ partLimit → here ≡ At y → Tailing load l index (d - 1) (left / spanOf l (lead l + d - 1)) (sum + y)
+    pub tailing-more : (y : ℕ) → y ≤ partLimit → here ≡ At y → Tailing load l n index (d - 1) (left / spanOf l (lead l + d - 1)) (sum + y)
     tailing-more y m e =
         let q : lead l + d - 1 ≡ lead l + (d - 1) = omega arith in
         record {
           few = omega (arith, w .few);
+          most = w .most;
           start = w .start;
           done = w .done + y;
           adds = omega (arith, w .adds);
-          walk = rw (← q) (summing-more load l ok index (lead l + d) left (w .done) (w .walk) (omega arith) y m e);
+          walk = rw (← q) (summing-more load l (lead l + n) index (lead l + d) left (w .done) (w .walk) (omega arith) y m e);
         }
 
     pub tailing-stop : (y : Clamped) → ((a : ℕ) → plus (At a) y ≡ y) → plus y (At (w .done)) ≡ y → ((z : Clamped) → AtOr z y → z ≡ y) → here ≡ y
-        → y ≡ tensorIndex load l (spanCoordinates l index) (l .rank)
+        → y ≡ upTo load l (lead l + n) index
     tailing-stop y after before alike e =
-        summing-stop load l ok index (lead l + d) left (w .done) (w .walk) (omega arith) y after before
-        (alike (stopOf load (l .mode)) (next-stop load l ok index (lead l + d) left (w .done) (w .walk) (omega arith) y e)) e
+        summing-stop load l (lead l + n) index (lead l + d) left (w .done) (w .walk) (omega arith) y after before
+        (alike (stopOf load (l .mode)) (next-stop load l (lead l + n) index (lead l + d) left (w .done) (w .walk) (omega arith) y e)) e
 
-  pub tailing-end : (d left sum : ℕ) → Tailing load l index d left sum → d ≤ 0
-      → (At sum ≡ tensorIndex load l (spanCoordinates l index) (l .rank)) × (sum ≤ rankPlaces * partLimit)
+  pub tailing-end : (d left sum : ℕ) → Tailing load l n index d left sum → d ≤ 0
+      → (At sum ≡ upTo load l (lead l + n) index) × (sum ≤ (lead l + n) * partLimit)
   tailing-end d left sum w h =
       let q : lead l + d ≡ lead l = omega arith in
-      (rw (w .adds) (rw (q, lead-sum l ok load index (lead l) (omega arith)) at (w .walk .whole)), omega (arith, w .adds, w .start, w .walk .small, layout-most l ok, lead-most l))
+      (rw (w .adds) (rw (q, lead-sum l ok load left (lead l) (omega arith)) at (w .walk .whole)), omega (arith, w .adds, w .start, w .walk .small))

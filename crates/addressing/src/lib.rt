@@ -8,6 +8,7 @@ ghost use Rattle.addressing.specs.Rules.{elementsOf, lowBits, addressed,
 ghost use Rattle.addressing.specs.Valid.{ValidAccess, Planned};
 
 pub mod clips;
+pub mod rows;
 pub mod tensors;
 
 use clamps::Clamped;
@@ -108,7 +109,7 @@ pub fn plan_of(a: Access) -> Plan
     }
 }
 
-fn refuse(number: u8) -> Located
+pub fn refuse(number: u8) -> Located
     ensures { λ r. ⌜ r ≡ refused number ⌝ }
 {
     Located {
@@ -117,7 +118,7 @@ fn refuse(number: u8) -> Located
     }
 }
 
-fn answer(o: Outcome) -> Located
+pub fn answer(o: Outcome) -> Located
     ensures { λ r. ⌜ r ≡ answered o ⌝ }
 {
     Located {
@@ -127,7 +128,7 @@ fn answer(o: Outcome) -> Located
 }
 
 // Rule 5: the byte of a tensor index, which is below 2 to the 31st, so that nothing wraps.
-fn address(a: Access, t: u32) -> Located
+pub fn address(a: Access, t: u32) -> Located
     requires { ⌜ ValidAccess a × (t ≤ rankPlaces * partLimit) ⌝ }
     ensures { λ r. ⌜ r ≡ addressed a t ⌝ }
 {
@@ -148,7 +149,8 @@ fn reach(a: Access, numbers: &[u16; LAYOUT_NUMBERS], tail: Tail, fill: u32, inde
     if INDEX_LIMIT <= index {
         return refuse(INDEX_TOO_LARGE);
     }
-    match tensors::tensor_index(a.load, a.layout, numbers, tail, index as u32) {
+    let rank = tail.rank as usize;
+    match tensors::tensor_index(a.load, a.layout, numbers, tail, rank, index as u32) {
         Clamped::Refused => refuse(OUTSIDE_UNDEFINED),
         Clamped::Discarded => answer(Outcome::Discarded),
         Clamped::Filled => answer(Outcome::Filled(fill)),

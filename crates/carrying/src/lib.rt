@@ -42,14 +42,15 @@ pub fn carry_out(sheet: &[u8], memory: &mut [u8], elements: &mut [u32; ELEMENTS]
     ensures { λ _. ⌜ now (memory .exit) ≡ carriedMemory (now (sheet .entry)) (now (memory .entry)) ⌝ }
 {
     registers::empty_elements(elements);
-    let judged = checking::judge(sheet, memory.len());
+    let mut parts = sheet_parts::no_parts();
+    let judged = checking::judge(sheet, &mut parts, memory.len());
     let found = judged.answer;
     let refused = found.refusal;
     if 0 < refused.number {
         return carry_refused(refused);
     }
-    let model = judged.sheet;
-    let done = performing::perform(model, memory, elements);
+    let given = judged.given;
+    let done = performing::perform(sheet, &parts, given, memory, elements);
     let types = done.types;
     let counts = done.counts;
     CarryAnswer {

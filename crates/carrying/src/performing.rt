@@ -1,31 +1,33 @@
 // The performance of a sheet that its check accepts. It cannot fail.
 ghost use mathlib.Core.Path.{_≡_};
-ghost use mathlib.Core.Bool.{true};
 ghost use Prim.Native.Nat.{ℕ, _≤_, _<_, _^_};
 ghost use lib.ListN.{length};
 ghost use Rattle.sheet.specs.Sizes.{registerCount, matrixPlaces, elementPlaces, memoryLimit};
-ghost use Rattle.sheet_ranges.specs.Steps.{stepOk};
-ghost use Rattle.sheet_ranges.specs.Laws.Within.{TensorsWithin, Within};
+ghost use Rattle.sheet.specs.declared.Tensors.{Tensors};
+ghost use Rattle.sheet_reader.specs.Parts.{sheetOf, Outlined};
 ghost use Rattle.registers.specs.Registers.{emptyRegisters, copied, zeroed};
 ghost use Rattle.registers.specs.Sized.{Sized};
 ghost use Rattle.registers.specs.Past.{Past};
 ghost use Rattle.transfers.specs.Acts.{state};
 ghost use Rattle.checking.specs.Steps.{objectRegister};
+ghost use Rattle.checking.specs.Turns.{stepAccess, Turned};
 ghost use Rattle.checking.specs.Checking.{checked};
 ghost use Rattle.carrying.specs.Steps.{registersOf, machineOf, withObject, performedStep};
 ghost use Rattle.carrying.specs.Carrying.{started, performed};
 ghost use Rattle.carrying.specs.Machines.{Accepted, Formed};
 use super::Stepped;
 use super::moving;
+use addressing::Access;
+use checking::turns;
 use counts::Counts;
 use registers::MatrixType;
 use sheet::Object;
-use sheet::Sheet;
 use sheet::Step;
-use sheet::Tensors;
 use sheet::sizes::ELEMENTS;
 use sheet::sizes::PLACES;
 use sheet::sizes::REGISTERS;
+use sheet_reader::Given;
+use sheet_reader::PARTS;
 
 // A register made equal to another, type and elements. The answer is the types.
 pub fn copy_register(
@@ -78,52 +80,45 @@ fn with_object(
     }
 }
 
+// A step, and the access of its elements.
 fn perform_step(
     entries: &mut [u32; PLACES],
-    tensors: Tensors,
     types: [MatrixType; REGISTERS],
     elements: &mut [u32; ELEMENTS],
     memory: &mut [u8],
     step: Step,
+    access: Access,
     counts: Counts,
 ) -> Stepped
-    requires { ⌜ TensorsWithin tensors × (length (now memory) ≤ memoryLimit) × (counts .placed < 2 ^ 31) × (length (now entries) ≡ matrixPlaces) × Formed (machineOf types (state (now elements) (now memory) counts)) ⌝ }
-    requires { ⌜ ((edition : ℕ) × (stepOk edition (tensors .layouts) (tensors .views) step ≡ true) × Accepted edition tensors step (machineOf types (state (now elements) (now memory) counts))) ⌝ }
+    requires { ⌜ (counts .placed < 2 ^ 31) × (length (now entries) ≡ matrixPlaces) × Formed (machineOf types (state (now elements) (now memory) counts)) ⌝ }
+    requires { ⌜ ((edition : ℕ) × ((tensors : Tensors) × (Turned edition tensors types (length (now memory)) step access × Accepted edition tensors step (machineOf types (state (now elements) (now memory) counts))))) ⌝ }
     ensures { λ _. ⌜ length (now (entries .exit)) ≡ matrixPlaces ⌝ }
-    ensures { λ r. ⌜ machineOf (r .types) (state (now (elements .exit)) (now (memory .exit)) (r .counts)) ≡ performedStep tensors step (machineOf types (state (now (elements .entry)) (now (memory .entry)) counts)) ⌝ }
+    ensures { λ r. ⌜ ((tensors : Tensors) → access ≡ stepAccess tensors types (length (now (memory .entry))) step → machineOf (r .types) (state (now (elements .exit)) (now (memory .exit)) (r .counts)) ≡ performedStep tensors step (machineOf types (state (now (elements .entry)) (now (memory .entry)) counts))) ⌝ }
 {
     match step {
         Step::Nothing => Stepped { types, counts },
         Step::Load {
             register,
             object,
-            window,
+            window: _,
         } => {
             let after = with_object(types, elements, register, object);
-            let counted = moving::perform_load(
-                entries,
-                tensors,
-                after,
-                elements,
-                memory,
-                register,
-                window,
-                counts,
-            );
+            let counted = moving::perform_load(entries, elements, memory, access, register, counts);
             Stepped {
                 types: after,
                 counts: counted,
             }
         }
-        Step::Store { register, window } => {
+        Step::Store {
+            register,
+            window: _,
+        } => {
             let counted = moving::perform_store(
                 entries,
-                tensors,
-                types,
                 elements,
                 memory,
+                access,
                 register,
-                window,
                 counts,
             );
             Stepped {
@@ -142,21 +137,26 @@ fn perform_step(
 }
 
 // The steps in order, from empty registers and the lent memory.
-pub fn perform(sheet: Sheet, memory: &mut [u8], elements: &mut [u32; ELEMENTS]) -> Stepped
+pub fn perform(
+    s: &[u8],
+    parts: &[usize; PARTS],
+    given: Given,
+    memory: &mut [u8],
+    elements: &mut [u32; ELEMENTS],
+) -> Stepped
     requires { ⌜ now elements ≡ emptyRegisters .elements ⌝ }
-    requires { ⌜ Within sheet × (length (now memory) ≤ memoryLimit) × (checked sheet (length (now memory)) .refusal .number ≡ 0) ⌝ }
-    ensures { λ r. ⌜ machineOf (r .types) (state (now (elements .exit)) (now (memory .exit)) (r .counts)) ≡ performed sheet (started (now (memory .entry))) ⌝ }
+    requires { ⌜ Outlined (now s) (now parts) given × (length (now memory) ≤ memoryLimit) × (checked (sheetOf (now s)) (length (now memory)) .refusal .number ≡ 0) ⌝ }
+    ensures { λ r. ⌜ machineOf (r .types) (state (now (elements .exit)) (now (memory .exit)) (r .counts)) ≡ performed (sheetOf (now (s .entry))) (started (now (memory .entry))) ⌝ }
 {
-    let tensors = sheet.tensors;
-    let steps = sheet.steps;
     let mut entries = accesses::no_entries();
     let mut types = registers::empty_types();
     let mut counts = counts::no_counts();
     let mut k: usize = 0;
-    while k < steps {
-        let c = sheet.step[k];
-        let step = c.step;
-        let done = perform_step(&mut entries, tensors, types, elements, memory, step, counts);
+    while k < given.steps {
+        let turn = turns::turn_at(s, parts, given, types, memory.len(), k);
+        let step = turn.step;
+        let access = turn.access;
+        let done = perform_step(&mut entries, types, elements, memory, step, access, counts);
         let after = done.types;
         types = after;
         counts = done.counts;

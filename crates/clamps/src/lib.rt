@@ -110,7 +110,8 @@ fn on_store(mode: ClampMode) -> Clamped
     }
 }
 
-fn outside(load: bool, mode: ClampMode, c: Coordinate, n: u32) -> Clamped
+// What rule 4 gives outside the n places.
+pub fn outside(load: bool, mode: ClampMode, c: Coordinate, n: u32) -> Clamped
     requires { ⌜ (0 < n) × (n ≤ sizeLimit) ⌝ }
     ensures { λ r. ⌜ r ≡ outside load mode (integer c) n ⌝ }
 {

@@ -7,6 +7,7 @@ use lib.ListN.{length}
 use Rattle.numbers.specs.Choice.{pick}
 use Rattle.sheet.specs.declared.Sheet.{Sheet}
 use Rattle.sheet.specs.declared.Step.{Step}
+use Rattle.sheet.specs.declared.Step.the-variants.{Nothing}
 use Rattle.refusals.specs.Refusals.{recordOutOfRange, refusalAt, notRefused}
 use Rattle.refusals.specs.declared.Refusal.{Refusal}
 use Rattle.registers.specs.Registers.{emptyRegisters}
@@ -15,16 +16,16 @@ use Rattle.records.specs.Records.{recordLength, recordAt}
 use Rattle.records.specs.declared.Decoded.{Decoded}
 use Rattle.records.specs.declared.Decoded.the-variants.{Good, Bad}
 use Rattle.records.specs.Room.{recordsFit}
-use Rattle.judging.specs.Records.{stepNamed, stepPlace, recordOkWith, recordOk, recordTypesWith, recordTypes}
+use Rattle.judging.specs.Records.{recordStep, recordOkWith, recordOk, recordTypesWith, recordTypes}
 
 -- record k of a tape, by its six numbers
 abbrev pub tapeRecord : List ℤ → ℕ → Decoded
 tapeRecord tape k = recordAt tape (k * recordLength)
 
--- the place where the step that it names is looked up
-abbrev pub placeNamed : ℕ → Decoded → ℕ
-placeNamed steps (Good r) = stepPlace steps (stepNamed r)
-placeNamed steps Bad = 0
+-- the step of a sheet that it names, or nothing
+abbrev pub decodedStep : Sheet → Decoded → Step
+decodedStep sh (Good r) = recordStep sh r
+decodedStep sh Bad = Nothing
 
 -- six numbers that say no record are out of range
 abbrev pub decodedOkWith : ℕ → ℕ → List MatrixType → ℕ → Step → Decoded → Bool

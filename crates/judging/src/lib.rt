@@ -5,13 +5,13 @@ ghost use Prim.Native.Nat.{ℕ, _+_, _*_, _<_, _≤_, _^_};
 ghost use lib.ListN.{length};
 ghost use Rattle.sheet.specs.Sizes.{matrixPlaces, recordPlaces};
 ghost use Rattle.registers.specs.Sized.{Sized, SizedType};
-ghost use Rattle.sheet_ranges.specs.Laws.Within.{Within};
+ghost use Rattle.sheet_reader.specs.Parts.{sheetOf, Outlined};
 ghost use Rattle.records.specs.Records.{recordLength};
 ghost use Rattle.records.specs.Ranges.{Bytes, GoodInRange};
 ghost use Rattle.records.specs.declared.Decoded.the-variants.{Good};
 ghost use Rattle.records.specs.declared.Record.the-variants.{Whole};
-ghost use Rattle.judging.specs.Records.{elementsOk, byteInside, bytesInside, bytesRecordOk, fillRecordOk, wholeClear, wholeRecordOk, stepNamed, stepPlace, recordOkWith, recordTypesWith};
-ghost use Rattle.judging.specs.Judging.{tapeRecord, placeNamed, decodedOkWith, decodedTypesWith, rangeRefusal, tapeRefusal};
+ghost use Rattle.judging.specs.Records.{elementsOk, byteInside, bytesInside, bytesRecordOk, fillRecordOk, wholeClear, wholeRecordOk, stepOf, recordStep, recordOkWith, recordTypesWith};
+ghost use Rattle.judging.specs.Judging.{tapeRecord, decodedStep, decodedOkWith, decodedTypesWith, rangeRefusal, tapeRefusal};
 ghost use Rattle.judging.specs.Laws.Named.{Placed};
 use checking::checks;
 use records::Decoded;
@@ -19,9 +19,10 @@ use records::Record;
 use refusals::RECORD_OUT_OF_RANGE;
 use refusals::Refusal;
 use registers::MatrixType;
-use sheet::Sheet;
 use sheet::Step;
 use sheet::sizes::REGISTERS;
+use sheet_reader::Given;
+use sheet_reader::PARTS;
 
 fn elements_ok(t: MatrixType, first: usize, count: usize) -> bool
     requires { ⌜ SizedType t × (first < 2 ^ 31) × (count < 2 ^ 31) ⌝ }
@@ -247,14 +248,27 @@ fn decoded_types(types: [MatrixType; REGISTERS], named: Step, d: Decoded) -> [Ma
     }
 }
 
-fn step_named(r: Record) -> usize
-    ensures { λ r′. ⌜ r′ ≡ stepNamed r ⌝ }
+// Step number k of the sheet, from its bytes; nothing, where it has no such step.
+fn step_of(s: &[u8], parts: &[usize; PARTS], given: Given, k: usize) -> Step
+    requires { ⌜ Outlined (now s) (now parts) given ⌝ }
+    ensures { λ r. ⌜ r ≡ stepOf (sheetOf (now (s .entry))) k ⌝ }
+{
+    if k < given.steps {
+        return sheet_parts::step_in(s, parts, given, k);
+    }
+    Step::Nothing
+}
+
+// Only op 4 names a step.
+fn record_step(s: &[u8], parts: &[usize; PARTS], given: Given, r: Record) -> Step
+    requires { ⌜ Outlined (now s) (now parts) given ⌝ }
+    ensures { λ r′. ⌜ r′ ≡ recordStep (sheetOf (now (s .entry))) r ⌝ }
 {
     match r {
         Record::Copy {
             register: _,
             object: _,
-        } => 0,
+        } => Step::Nothing,
         Record::Take {
             register: _,
             first: _,
@@ -262,7 +276,7 @@ fn step_named(r: Record) -> usize
             byte: _,
             up: _,
             down: _,
-        } => 0,
+        } => Step::Nothing,
         Record::Put {
             register: _,
             first: _,
@@ -270,52 +284,46 @@ fn step_named(r: Record) -> usize
             byte: _,
             up: _,
             down: _,
-        } => 0,
+        } => Step::Nothing,
         Record::Fill {
             register: _,
             first: _,
             count: _,
             value: _,
-        } => 0,
-        Record::Whole { step } => step,
+        } => Step::Nothing,
+        Record::Whole { step } => step_of(s, parts, given, step),
     }
 }
 
-fn place_of(steps: usize, step: usize) -> usize
-    ensures { λ r. ⌜ r ≡ stepPlace steps step ⌝ }
-{
-    if step < steps {
-        return step;
-    }
-    0
-}
-
-// The place of the step that a record names, in a sheet of so many steps; the first where there is no such step.
-pub fn place_named(steps: usize, d: Decoded) -> usize
-    ensures { λ r. ⌜ r ≡ placeNamed steps d ⌝ }
+// The step of the sheet that a record names, or nothing.
+pub fn step_named(s: &[u8], parts: &[usize; PARTS], given: Given, d: Decoded) -> Step
+    requires { ⌜ Outlined (now s) (now parts) given ⌝ }
+    ensures { λ r. ⌜ r ≡ decodedStep (sheetOf (now (s .entry))) d ⌝ }
 {
     match d {
-        Decoded::Good(r) => place_of(steps, step_named(r)),
-        Decoded::Bad => 0,
+        Decoded::Good(r) => record_step(s, parts, given, r),
+        Decoded::Bad => Step::Nothing,
     }
 }
 
 // The first record out of range, from empty registers.
-fn range(sheet: Sheet, tape: &[i32], records: usize, len: usize) -> Refusal
-    requires { ⌜ Within sheet × (records ≤ recordPlaces) × (records * recordLength ≤ length (now tape)) ⌝ }
-    ensures { λ r. ⌜ r ≡ rangeRefusal records sheet len (tapeRecord (now (tape .entry))) ⌝ }
+fn range(
+    s: &[u8],
+    parts: &[usize; PARTS],
+    given: Given,
+    tape: &[i32],
+    records: usize,
+    len: usize,
+) -> Refusal
+    requires { ⌜ Outlined (now s) (now parts) given × (records ≤ recordPlaces) × (records * recordLength ≤ length (now tape)) ⌝ }
+    ensures { λ r. ⌜ r ≡ rangeRefusal records (sheetOf (now (s .entry))) len (tapeRecord (now (tape .entry))) ⌝ }
 {
-    let none = registers::no_type();
-    let edition = sheet.edition;
-    let steps = sheet.steps;
-    let mut types = [none; REGISTERS];
+    let mut types = registers::empty_types();
     let mut k: usize = 0;
     while k < records {
         let d = records::read_record(tape, k * records::NUMBERS);
-        let at = place_named(steps, d);
-        let c = sheet.step[at];
-        let named = c.step;
-        if !decoded_ok(edition, steps, types, len, named, d) {
+        let named = step_named(s, parts, given, d);
+        if !decoded_ok(given.edition, given.steps, types, len, named, d) {
             return refusals::refusal_at(RECORD_OUT_OF_RANGE, k, 0);
         }
         let after = decoded_types(types, named, d);
@@ -326,12 +334,19 @@ fn range(sheet: Sheet, tape: &[i32], records: usize, len: usize) -> Refusal
 }
 
 // A record count that does not fit has place 0.
-pub fn tape_refusal(sheet: Sheet, tape: &[i32], records: usize, len: usize) -> Refusal
-    requires { ⌜ Within sheet ⌝ }
-    ensures { λ r. ⌜ r ≡ tapeRefusal sheet (now (tape .entry)) records len ⌝ }
+pub fn tape_refusal(
+    s: &[u8],
+    parts: &[usize; PARTS],
+    given: Given,
+    tape: &[i32],
+    records: usize,
+    len: usize,
+) -> Refusal
+    requires { ⌜ Outlined (now s) (now parts) given ⌝ }
+    ensures { λ r. ⌜ r ≡ tapeRefusal (sheetOf (now (s .entry))) (now (tape .entry)) records len ⌝ }
 {
-    if !records::records_fit(sheet.edition, tape.len(), records) {
+    if !records::records_fit(given.edition, tape.len(), records) {
         return refusals::refusal_at(RECORD_OUT_OF_RANGE, 0, 0);
     }
-    range(sheet, tape, records, len)
+    range(s, parts, given, tape, records, len)
 }

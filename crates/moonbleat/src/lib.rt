@@ -33,14 +33,10 @@ pub extern "C" fn moonbleat_read(
     ensures { λ _. ⌜ now (counts .exit) ≡ countsRow (readSheet (now (sheet .entry)) .sheet) ⌝ }
     ensures { λ _. ⌜ now (answer .exit) ≡ answerRow (readSheet (now (sheet .entry)) .refusal) 0 ⌝ }
 {
-    let read = sheet_reader::read_sheet(sheet);
-    let model = read.sheet;
-    let tensors = model.tensors;
-    *counts = [
-        tensors.layouts as u32,
-        tensors.views as u32,
-        model.steps as u32,
-    ];
+    let mut parts = sheet_parts::no_parts();
+    let read = sheet_reader::outline_sheet(sheet, &mut parts);
+    let given = read.given;
+    *counts = [given.layouts as u32, given.views as u32, given.steps as u32];
     rows::put_answer(answer, read.refusal, 0)
 }
 
@@ -51,7 +47,7 @@ pub extern "C" fn moonbleat_rewrite(sheet: &[u8], out: &mut [u8], answer: &mut [
     ensures { λ _. ⌜ now (out .exit) ≡ rewrittenRoom (now (sheet .entry)) (now (out .entry)) ⌝ }
     ensures { λ _. ⌜ now (answer .exit) ≡ answerRow (rewritten (now (sheet .entry)) (length (now (out .entry))) .refusal) (rewritten (now (sheet .entry)) (length (now (out .entry))) .bytes) ⌝ }
 {
-    let read = sheet_reader::read_sheet(sheet);
+    let read = sheet_parts::read_sheet(sheet);
     let refusal = read.refusal;
     if 0 < refusal.number {
         return rows::put_answer(answer, refusal, 0);

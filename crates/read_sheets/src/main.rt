@@ -8,7 +8,7 @@ fn print(x: usize, after: &[u8]) {
 
 fn show(name: &[u8], s: &[u8]) {
     io::write_all(STDOUT_FILENO, name);
-    let r = sheet_reader::read_sheet(s);
+    let r = sheet_parts::read_sheet(s);
     print(r.refusal.number as usize, b" ");
     print(r.refusal.place, b" ");
     print(r.refusal.element, b": ");

@@ -4,7 +4,7 @@ ghost use mathlib.Core.Bool.{true};
 ghost use Prim.Native.Nat.{ℕ, _+_, _*_, _<_, _≤_, _^_};
 ghost use lib.ListN.{length};
 ghost use Rattle.sheet.specs.Sizes.{matrixPlaces, elementPlaces, recordPlaces};
-ghost use Rattle.sheet_ranges.specs.Laws.Within.{Within};
+ghost use Rattle.sheet_reader.specs.Parts.{sheetOf, Outlined};
 ghost use Rattle.sheet.specs.declared.Tensors.{Tensors};
 ghost use Rattle.registers.specs.Registers.{emptyRegisters};
 ghost use Rattle.registers.specs.Sized.{Sized};
@@ -26,14 +26,13 @@ use carrying::Stepped;
 use counts::Counts;
 use records::Decoded;
 use records::Record;
-use refusals::MEMORY_TOO_LARGE;
 use registers::MatrixType;
-use sheet::Sheet;
 use sheet::Step;
 use sheet::sizes::ELEMENTS;
-use sheet::sizes::MEMORY_LIMIT;
 use sheet::sizes::PLACES;
 use sheet::sizes::REGISTERS;
+use sheet_reader::Given;
+use sheet_reader::PARTS;
 
 // A whole step. The answer is the types.
 fn perform_named(
@@ -183,27 +182,26 @@ fn run_decoded(
 
 // The records in order, from empty registers and the lent memory.
 fn run_records(
-    sheet: Sheet,
+    s: &[u8],
+    parts: &[usize; PARTS],
+    given: Given,
     tape: &[i32],
     records: usize,
     memory: &mut [u8],
     elements: &mut [u32; ELEMENTS],
 ) -> Stepped
     requires { ⌜ now elements ≡ emptyRegisters .elements ⌝ }
-    requires { ⌜ Within sheet × (records ≤ recordPlaces) × (records * recordLength ≤ length (now tape)) ⌝ }
-    requires { ⌜ rangeRefusal records sheet (length (now memory)) (tapeRecord (now tape)) .number ≡ 0 ⌝ }
-    ensures { λ r. ⌜ machineOf (r .types) (state (now (elements .exit)) (now (memory .exit)) (r .counts)) ≡ ran records sheet (tapeRecord (now (tape .entry))) (started (now (memory .entry))) ⌝ }
+    requires { ⌜ Outlined (now s) (now parts) given × (records ≤ recordPlaces) × (records * recordLength ≤ length (now tape)) ⌝ }
+    requires { ⌜ rangeRefusal records (sheetOf (now s)) (length (now memory)) (tapeRecord (now tape)) .number ≡ 0 ⌝ }
+    ensures { λ r. ⌜ machineOf (r .types) (state (now (elements .exit)) (now (memory .exit)) (r .counts)) ≡ ran records (sheetOf (now (s .entry))) (tapeRecord (now (tape .entry))) (started (now (memory .entry))) ⌝ }
 {
-    let steps = sheet.steps;
     let mut block = [0u32; PLACES];
     let mut types = registers::empty_types();
     let mut counts = counts::no_counts();
     let mut k: usize = 0;
     while k < records {
         let d = records::read_record(tape, k * records::NUMBERS);
-        let at = judging::place_named(steps, d);
-        let c = sheet.step[at];
-        let named = c.step;
+        let named = judging::step_named(s, parts, given, d);
         let done = run_decoded(&mut block, types, elements, memory, named, d, counts);
         let after = done.types;
         types = after;
@@ -225,20 +223,18 @@ pub fn run_tape(
     ensures { λ _. ⌜ now (memory .exit) ≡ ranMemory (now (sheet .entry)) (now (tape .entry)) records (now (memory .entry)) ⌝ }
 {
     registers::empty_elements(elements);
-    if MEMORY_LIMIT < memory.len() {
-        return carrying::carry_refused(refusals::refusal_at(MEMORY_TOO_LARGE, 0, 0));
-    }
-    let read = sheet_reader::read_sheet(sheet);
+    let mut parts = sheet_parts::no_parts();
+    let read = checking::admit(sheet, &mut parts, memory.len());
     let unread = read.refusal;
     if 0 < unread.number {
         return carrying::carry_refused(unread);
     }
-    let model = read.sheet;
-    let refused = judging::tape_refusal(model, tape, records, memory.len());
+    let given = read.given;
+    let refused = judging::tape_refusal(sheet, &parts, given, tape, records, memory.len());
     if 0 < refused.number {
         return carrying::carry_refused(refused);
     }
-    let done = run_records(model, tape, records, memory, elements);
+    let done = run_records(sheet, &parts, given, tape, records, memory, elements);
     let types = done.types;
     let counts = done.counts;
     CarryAnswer {

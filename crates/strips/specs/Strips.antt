@@ -1,7 +1,7 @@
 -- Document 01's strips 1 to 11, one of blocks of 2, and document 02's: a network of vector steps, and a load without an object in two editions. One list:
 -- sheets as bytes, each with a memory, what is asked and what is wanted.
 use Prim.Native.Nat.{ℕ, zero, suc, _/_, _%_}
-use mathlib.Core.Path.{_≡_, refl}
+use mathlib.Core.Path.{_≡_, refl, ap₂}
 use mathlib.Core.List.{List, [], _∷_, _++_, map}
 use lib.Dec.{eqb}
 use lib.ListN.{length, replicate}
@@ -74,13 +74,6 @@ listed g k (suc n) = g k ∷ listed g (suc k) n
 abbrev pub asked : Question → List ℕ → List ℕ → List ℕ
 asked (elements register n) es memory = listed (elementOf es register) 0 n
 asked bytes es memory = memory
-
-abbrev pub found : Strip → Answer
-found s =
-    let r = carried (s .sheet) (s .memory) in
-    pick (eqb (r .refusal .number) 0)
-    (accepted (asked (s .question) (r .registers .elements) (carriedMemory (s .sheet) (s .memory))))
-    (refused (r .refusal))
 
 -- The fields of a sheet: a tag, a length, a content; numbers of two and of four bytes. Here no length is above 255.
 word : ℕ → List ℕ
@@ -205,48 +198,90 @@ network =
     ∷ 44 ∷ 1 ∷ 212 ∷ 254 ∷ 1 ∷ 0 ∷ 24 ∷ 252
     ∷ 246 ∷ 255 ∷ 255 ∷ 255 ∷ 232 ∷ 3 ∷ 0 ∷ 0 ∷ 244 ∷ 1 ∷ 0 ∷ 0 ∷ []
 
-pub strips : List Strip
-strips =
-    -- 1: Constant 9
+-- 1: Constant 9
+pub constant : Strip
+constant =
     edgeStrip (edged Constant 9 4) (accepted (9 ∷ 9 ∷ 0 ∷ 1 ∷ 2 ∷ 3 ∷ 9 ∷ 9 ∷ []))
-    -- 2: ClampToEdge
-    ∷ edgeStrip (edged ClampToEdge 0 4) (accepted (0 ∷ 0 ∷ 0 ∷ 1 ∷ 2 ∷ 3 ∷ 3 ∷ 3 ∷ []))
-    -- 3: Repeat
-    ∷ edgeStrip (edged Repeat 0 4) (accepted (2 ∷ 3 ∷ 0 ∷ 1 ∷ 2 ∷ 3 ∷ 0 ∷ 1 ∷ []))
-    -- 4: MirrorRepeat, and with n 1
-    ∷ edgeStrip (edged MirrorRepeat 0 4) (accepted (2 ∷ 1 ∷ 0 ∷ 1 ∷ 2 ∷ 3 ∷ 2 ∷ 1 ∷ []))
-    ∷ edgeStrip (edged MirrorRepeat 0 1) (accepted (0 ∷ 0 ∷ 0 ∷ 0 ∷ 0 ∷ 0 ∷ 0 ∷ 0 ∷ []))
-    -- 5: Undefined, step 1 at element 0
-    ∷ edgeStrip (edged Undefined 0 4) (refused (refusalAt outsideUndefined 1 0))
-    -- 6: ClampToEdge store of a register that was loaded with 16 to 23: its elements 2 to 5 go to bytes 0 to 3, no other byte changes
-    ∷ record {
+
+-- 2: ClampToEdge
+pub clampToEdge : Strip
+clampToEdge =
+    edgeStrip (edged ClampToEdge 0 4) (accepted (0 ∷ 0 ∷ 0 ∷ 1 ∷ 2 ∷ 3 ∷ 3 ∷ 3 ∷ []))
+
+-- 3: Repeat
+pub repeated : Strip
+repeated =
+    edgeStrip (edged Repeat 0 4) (accepted (2 ∷ 3 ∷ 0 ∷ 1 ∷ 2 ∷ 3 ∷ 0 ∷ 1 ∷ []))
+
+-- 4: MirrorRepeat, and with n 1
+pub mirrored : Strip
+mirrored =
+    edgeStrip (edged MirrorRepeat 0 4) (accepted (2 ∷ 1 ∷ 0 ∷ 1 ∷ 2 ∷ 3 ∷ 2 ∷ 1 ∷ []))
+
+pub mirroredOfOne : Strip
+mirroredOfOne =
+    edgeStrip (edged MirrorRepeat 0 1) (accepted (0 ∷ 0 ∷ 0 ∷ 0 ∷ 0 ∷ 0 ∷ 0 ∷ 0 ∷ []))
+
+-- 5: Undefined, step 1 at element 0
+pub undefined : Strip
+undefined =
+    edgeStrip (edged Undefined 0 4) (refused (refusalAt outsideUndefined 1 0))
+
+-- 6: ClampToEdge store of a register that was loaded with 16 to 23: its elements 2 to 5 go to bytes 0 to 3, no other byte changes
+pub clampedStore : Strip
+clampedStore =
+    record {
       sheet = edition ++ edged ClampToEdge 0 4 ++ plain 8 1 ++ fill 1 8 100 ++ load 1 255 16 ++ store 1;
       memory = counting;
       question = bytes;
       wanted = accepted (18 ∷ 19 ∷ 20 ∷ 21 ∷ countingFrom 4 60);
     }
-    -- 7: a layout of 2 by 3 through a permutation, as 3 by 2
-    ∷ loadStrip (layout Undefined 0 (dimension 1 2 3 0 2 ∷ dimension 1 3 1 0 3 ∷ [])) (view (1 ∷ 0 ∷ []) 0) 0 3 2 6
+
+-- 7: a layout of 2 by 3 through a permutation, as 3 by 2
+pub permuted : Strip
+permuted =
+    loadStrip (layout Undefined 0 (dimension 1 2 3 0 2 ∷ dimension 1 3 1 0 3 ∷ [])) (view (1 ∷ 0 ∷ []) 0) 0 3 2 6
     (accepted (0 ∷ 3 ∷ 1 ∷ 4 ∷ 2 ∷ 5 ∷ []))
-    -- 8: clip column offset 2: elements (0,2) (0,3) (1,2) (1,3) of 2 by 4 get bytes 0 1 4 5, the rest is kept
-    ∷ loadStrip (plain 8 1) (view (0 ∷ []) 2) 0 2 4 8 (accepted (100 ∷ 100 ∷ 0 ∷ 1 ∷ 100 ∷ 100 ∷ 4 ∷ 5 ∷ []))
-    -- 9: five spans of 4,096 and a permutation: step 1 gets 12 at element 1
-    ∷ loadStrip (layout Undefined 0 (replicate 5 (dimension 1 4096 0 0 4096))) (view (1 ∷ 2 ∷ 3 ∷ 4 ∷ 0 ∷ []) 0) 0 1 2 2
+
+-- 8: clip column offset 2: elements (0,2) (0,3) (1,2) (1,3) of 2 by 4 get bytes 0 1 4 5, the rest is kept
+pub clipped : Strip
+clipped =
+    loadStrip (plain 8 1) (view (0 ∷ []) 2) 0 2 4 8 (accepted (100 ∷ 100 ∷ 0 ∷ 1 ∷ 100 ∷ 100 ∷ 4 ∷ 5 ∷ []))
+
+-- 9: five spans of 4,096 and a permutation: step 1 gets 12 at element 1
+pub largeIndex : Strip
+largeIndex =
+    loadStrip (layout Undefined 0 (replicate 5 (dimension 1 4096 0 0 4096))) (view (1 ∷ 2 ∷ 3 ∷ 4 ∷ 0 ∷ []) 0) 0 1 2 2
     (refused (refusalAt indexTooLarge 1 1))
-    -- 10: stride 0 store: 1 by 1 is accepted, 1 by 2 gets 15 in step 1 at element 1
-    ∷ storeStrip (plain 8 0) 1 1 (accepted (100 ∷ countingFrom 1 63))
-    ∷ storeStrip (plain 8 0) 1 2 (refused (refusalAt byteTwice 1 1))
-    -- 11: 2x2 add of a loaded u8 matrix
-    ∷ record {
+
+-- 10: stride 0 store: 1 by 1 is accepted, 1 by 2 gets 15 in step 1 at element 1
+pub strideZeroSingle : Strip
+strideZeroSingle =
+    storeStrip (plain 8 0) 1 1 (accepted (100 ∷ countingFrom 1 63))
+
+pub strideZeroPair : Strip
+strideZeroPair =
+    storeStrip (plain 8 0) 1 2 (refused (refusalAt byteTwice 1 1))
+
+-- 11: 2x2 add of a loaded u8 matrix
+pub twoByTwo : Strip
+twoByTwo =
+    record {
       sheet = edition ++ plain 4 1 ++ fill 2 2 0 ++ load 0 255 0 ++ field 0x23 (2 ∷ 1 ∷ 1 ∷ 1 ∷ 4 ∷ 0 ∷ []);
       memory = 200 ∷ 100 ∷ 1 ∷ 2 ∷ [];
       question = elements 2 1;
       wanted = accepted (47 ∷ []);
     }
-    -- beside document 01's: blocks of 2, each coordinate divided and rounded down
-    ∷ loadStrip (layout Undefined 0 (dimension 2 8 1 0 8 ∷ [])) [] 255 1 8 8 (accepted (0 ∷ 0 ∷ 1 ∷ 1 ∷ 2 ∷ 2 ∷ 3 ∷ 3 ∷ []))
-    -- document 02's T-01: a network of two layers, worked by hand in strips/13-two-layer-network
-    ∷ record {
+
+-- beside document 01's: blocks of 2, each coordinate divided and rounded down
+pub blocksOfTwo : Strip
+blocksOfTwo =
+    loadStrip (layout Undefined 0 (dimension 2 8 1 0 8 ∷ [])) [] 255 1 8 8 (accepted (0 ∷ 0 ∷ 1 ∷ 1 ∷ 2 ∷ 2 ∷ 3 ∷ 3 ∷ []))
+
+-- document 02's T-01: a network of two layers, worked by hand in strips/13-two-layer-network
+pub twoLayers : Strip
+twoLayers =
+    record {
       sheet =
           editionOf 2 ++ layout Undefined 0 (dimension 1 3 1 0 3 ∷ [])
           ++ field 0x20 (0 ∷ 2 ∷ 1 ∷ 4 ∷ long 0)
@@ -257,12 +292,136 @@ strips =
       question = elements 2 3;
       wanted = accepted (500 ∷ 965 ∷ 4294964296 ∷ []);
     }
-    -- document 02's T-03: what is skipped of a load without an object is kept in edition 2, and 0 in edition 3
-    ∷ noObjectStrip 2 (accepted (100 ∷ 100 ∷ 16 ∷ 17 ∷ 100 ∷ 100 ∷ 20 ∷ 21 ∷ []))
-    ∷ noObjectStrip 3 (accepted (0 ∷ 0 ∷ 16 ∷ 17 ∷ 0 ∷ 0 ∷ 20 ∷ 21 ∷ []))
+
+-- document 02's T-03: what is skipped of a load without an object is kept in edition 2, and 0 in edition 3
+pub noObjectKept : Strip
+noObjectKept =
+    noObjectStrip 2 (accepted (100 ∷ 100 ∷ 16 ∷ 17 ∷ 100 ∷ 100 ∷ 20 ∷ 21 ∷ []))
+
+pub noObjectZeros : Strip
+noObjectZeros =
+    noObjectStrip 3 (accepted (0 ∷ 0 ∷ 16 ∷ 17 ∷ 0 ∷ 0 ∷ 20 ∷ 21 ∷ []))
+
+pub strips : List Strip
+strips =
+    constant
+    ∷ clampToEdge
+    ∷ repeated
+    ∷ mirrored
+    ∷ mirroredOfOne
+    ∷ undefined
+    ∷ clampedStore
+    ∷ permuted
+    ∷ clipped
+    ∷ largeIndex
+    ∷ strideZeroSingle
+    ∷ strideZeroPair
+    ∷ twoByTwo
+    ∷ blocksOfTwo
+    ∷ twoLayers
+    ∷ noObjectKept
+    ∷ noObjectZeros
     ∷ []
 
--- each strip gives what is wanted
+-- what carrying out gives for a strip; to unfold it is to unfold all that a strip is made of and all that carrying out rests on
+pub found : Strip → Answer
+unfolding word long field editionOf edition layout dimension view fill load store vector noObjectStrip network Undefined Constant ClampToEdge Repeat MirrorRepeat countingFrom counting loadStrip storeStrip edged edgeStrip plain pick both between all line Little.u16At Little.u32At width bytesOf fits elementAt withElement Editions.noObject Editions.tagKnown Editions.limits Editions.fillLength Sizes.offsetOk Codes.clampMode Codes.reduceMode Codes.combineOf Codes.memoryLayout Codes.objectOf Codes.viewingOf Layouts.noLayout Layouts.dimensionOk Layouts.dimensionUnused Layouts.dimensionAtOk Layouts.layoutOk Layouts.layoutUnused Views.noView Views.fresh Views.entryOk Views.viewDimensionUnused Views.viewDimensionAtOk Views.sizedRank Views.viewOk Views.clipUnused Views.viewUnused model.fillOk model.windowOk model.loadOk model.storeOk model.reduceOk model.transposeOk model.multiplyOk model.biasOk model.vectorOk interpretationOk Sheets.noTensors Sheets.emptySheet Fields.fieldAt Contents.dimensionAt Contents.dimensionsAt Contents.layoutAt Contents.layoutLengthOk Contents.layoutHeadOk Contents.permutationAt Contents.viewDimensionAt Contents.viewDimensionsAt Contents.clipAt Contents.viewOf Contents.viewAt Contents.viewLengthOk Contents.viewHeadOk stepContents.fillAt stepContents.windowAt stepContents.loadAt stepContents.storeAt stepContents.reduceAt stepContents.transposeAt stepContents.multiplyAt stepContents.vectorNumbers stepContents.vectorAt stepContents.stepAt stepContents.stepLength Reading.layoutMayCome Reading.viewMayCome Reading.stepMayCome Reading.editionRefusal Reading.layoutRefusal Reading.viewRefusal Reading.stepRefusal Reading.fieldRefusal Reading.withField Reading.refusedRead Reading.acceptedRead Reading.endRead Reading.turnField Reading.turn Reading.afterTurn Reading.readFrom Reading.readSheet emptyRegisters Combining.folded Rules.outsideClip Rules.outsideView Rules.indexed Indices.rowMajor Indices.viewSizes Indices.viewStrides Indices.coordinates Indices.viewCoordinates Indices.weighted Indices.viewIndex Spans.spanCoordinates value taken negative Clamps.turnedBack Clamps.mirrored Clamps.outside Clamps.clamped Rules.part Rules.tensorIndex Rules.addressed Rules.reached Rules.located accesses.elementOutcome accesses.otherRank accesses.blocksOne accesses.storeBlocked accesses.firstRefused clashes.meets clashes.clashFrom accesses.clashRefusal accesses.elementsRefusal accesses.accessRefusal accesses.placedCount accesses.checkedElements Grids.blank Grids.block Reducing.reduced shapes.reduceRefusal firstFrom sumZ Places.rowStep Places.columnStep Places.elementsOf Places.endOf vectors.inputAgrees vectors.memoryRefusal vectors.vectorRefusal Saturation.below Saturation.above Saturation.saturated Components.packedKind Components.componentAt Results.biasAt Results.resultAt transferred checks.accessCheck checks.checkedStep steps.withObject steps.loadDone steps.storeDone steps.performedStep checkedFrom checked checkedSheet performedFrom performed carried carriedMemory
+found s =
+    let r = carried (s .sheet) (s .memory) in
+    pick (eqb (r .refusal .number) 0)
+    (accepted (asked (s .question) (r .registers .elements) (carriedMemory (s .sheet) (s .memory))))
+    (refused (r .refusal))
+
+-- each strip gives what is wanted, by computation
+constant-right : found constant ≡ constant .wanted
+unfolding found constant
+constant-right = refl
+
+clamp-to-edge-right : found clampToEdge ≡ clampToEdge .wanted
+unfolding found clampToEdge
+clamp-to-edge-right = refl
+
+repeated-right : found repeated ≡ repeated .wanted
+unfolding found repeated
+repeated-right = refl
+
+mirrored-right : found mirrored ≡ mirrored .wanted
+unfolding found mirrored
+mirrored-right = refl
+
+mirrored-of-one-right : found mirroredOfOne ≡ mirroredOfOne .wanted
+unfolding found mirroredOfOne
+mirrored-of-one-right = refl
+
+undefined-right : found undefined ≡ undefined .wanted
+unfolding found undefined
+undefined-right = refl
+
+clamped-store-right : found clampedStore ≡ clampedStore .wanted
+unfolding found clampedStore
+clamped-store-right = refl
+
+permuted-right : found permuted ≡ permuted .wanted
+unfolding found permuted
+permuted-right = refl
+
+clipped-right : found clipped ≡ clipped .wanted
+unfolding found clipped
+clipped-right = refl
+
+large-index-right : found largeIndex ≡ largeIndex .wanted
+unfolding found largeIndex
+large-index-right = refl
+
+stride-zero-single-right : found strideZeroSingle ≡ strideZeroSingle .wanted
+unfolding found strideZeroSingle
+stride-zero-single-right = refl
+
+stride-zero-pair-right : found strideZeroPair ≡ strideZeroPair .wanted
+unfolding found strideZeroPair
+stride-zero-pair-right = refl
+
+two-by-two-right : found twoByTwo ≡ twoByTwo .wanted
+unfolding found twoByTwo
+two-by-two-right = refl
+
+blocks-of-two-right : found blocksOfTwo ≡ blocksOfTwo .wanted
+unfolding found blocksOfTwo
+blocks-of-two-right = refl
+
+two-layers-right : found twoLayers ≡ twoLayers .wanted
+unfolding found twoLayers
+two-layers-right = refl
+
+no-object-kept-right : found noObjectKept ≡ noObjectKept .wanted
+unfolding found noObjectKept
+no-object-kept-right = refl
+
+no-object-zeros-right : found noObjectZeros ≡ noObjectZeros .wanted
+unfolding found noObjectZeros
+no-object-zeros-right = refl
+
+-- so all of them do
+also : {x y : Answer} {xs ys : List Answer} → x ≡ y → xs ≡ ys → x ∷ xs ≡ y ∷ ys
+also p q = ap₂ _∷_ p q
+
 pub strips-right : map found strips ≡ map (λ (s : Strip). s .wanted) strips
-unfolding strips word long field editionOf edition layout dimension view fill load store vector noObjectStrip network Undefined Constant ClampToEdge Repeat MirrorRepeat countingFrom counting loadStrip storeStrip edged edgeStrip plain pick both between all line Little.u16At Little.u32At width bytesOf fits elementAt withElement Editions.noObject Editions.tagKnown Editions.limits Editions.fillLength Sizes.offsetOk Codes.clampMode Codes.reduceMode Codes.combineOf Codes.memoryLayout Codes.objectOf Codes.viewingOf Layouts.noLayout Layouts.dimensionOk Layouts.dimensionUnused Layouts.dimensionAtOk Layouts.layoutOk Layouts.layoutUnused Views.noView Views.fresh Views.entryOk Views.viewDimensionUnused Views.viewDimensionAtOk Views.sizedRank Views.viewOk Views.clipUnused Views.viewUnused model.fillOk model.windowOk model.loadOk model.storeOk model.reduceOk model.transposeOk model.multiplyOk model.biasOk model.vectorOk interpretationOk Sheets.noTensors Sheets.emptySheet Fields.fieldAt Contents.dimensionAt Contents.dimensionsAt Contents.layoutAt Contents.layoutLengthOk Contents.layoutHeadOk Contents.permutationAt Contents.viewDimensionAt Contents.viewDimensionsAt Contents.clipAt Contents.viewOf Contents.viewAt Contents.viewLengthOk Contents.viewHeadOk stepContents.fillAt stepContents.windowAt stepContents.loadAt stepContents.storeAt stepContents.reduceAt stepContents.transposeAt stepContents.multiplyAt stepContents.vectorNumbers stepContents.vectorAt stepContents.stepAt stepContents.stepLength Reading.layoutMayCome Reading.viewMayCome Reading.stepMayCome Reading.editionRefusal Reading.layoutRefusal Reading.viewRefusal Reading.stepRefusal Reading.fieldRefusal Reading.withField Reading.refusedRead Reading.acceptedRead Reading.endRead Reading.turnField Reading.turn Reading.afterTurn Reading.readFrom Reading.readSheet emptyRegisters Combining.folded Rules.outsideClip Rules.outsideView Rules.indexed Indices.rowMajor Indices.viewSizes Indices.viewStrides Indices.coordinates Indices.viewCoordinates Indices.weighted Indices.viewIndex Spans.spanCoordinates value taken negative Clamps.turnedBack Clamps.mirrored Clamps.outside Clamps.clamped Rules.part Rules.tensorIndex Rules.addressed Rules.reached Rules.located accesses.elementOutcome accesses.otherRank accesses.blocksOne accesses.storeBlocked accesses.firstRefused clashes.meets clashes.clashFrom accesses.clashRefusal accesses.elementsRefusal accesses.accessRefusal accesses.placedCount accesses.checkedElements Grids.blank Grids.block Reducing.reduced shapes.reduceRefusal firstFrom sumZ Places.rowStep Places.columnStep Places.elementsOf Places.endOf vectors.inputAgrees vectors.memoryRefusal vectors.vectorRefusal Saturation.below Saturation.above Saturation.saturated Components.packedKind Components.componentAt Results.biasAt Results.resultAt transferred checks.accessCheck checks.checkedStep steps.withObject steps.loadDone steps.storeDone steps.performedStep checkedFrom checked checkedSheet performedFrom performed carried carriedMemory
-strips-right = refl
+unfolding strips
+strips-right =
+    (also constant-right
+    (also clamp-to-edge-right
+    (also repeated-right
+    (also mirrored-right
+    (also mirrored-of-one-right
+    (also undefined-right
+    (also clamped-store-right
+    (also permuted-right
+    (also clipped-right
+    (also large-index-right
+    (also stride-zero-single-right
+    (also stride-zero-pair-right
+    (also two-by-two-right
+    (also blocks-of-two-right
+    (also two-layers-right
+    (also no-object-kept-right
+    (also no-object-zeros-right refl)))))))))))))))))

@@ -21,13 +21,13 @@ use Rattle.refusals.specs.Refusals.{outsideMemory, stopAt}
 use Rattle.sheet.specs.declared.VectorStep.{VectorStep}
 use Rattle.registers.specs.Registers.{elementOf}
 use Rattle.registers.specs.declared.MatrixType.{MatrixType}
-use Rattle.vectors.specs.Places.{elementsOf, endOf}
+use Rattle.vectors.specs.Places.{sizeOf, matrixByte, biasSize, biasByte, elementsOf, endOf}
 use Rattle.vectors.specs.Refusals.{outside, vectorRefusal}
 use Rattle.vectors.specs.Saturation.{lowest, highest, saturated}
 use Rattle.vectors.specs.Components.{packedByte, packedKind, componentAt}
 use Rattle.vectors.specs.Results.{biasAt, productTo, resultAt, vectorResult}
-use Rattle.vectors.specs.Laws.Refusals.{first-is}
-use Rattle.vectors.specs.Laws.Saturation.{saturated-low, saturated-high, saturated-same, value-low, value-high}
+use Rattle.vectors.specs.Laws.Refusals.{first-is, accepted-inside}
+use Rattle.vectors.specs.Laws.Saturation.{saturated-low, saturated-high, saturated-same, saturated-above, saturated-below, value-low, value-high}
 use Rattle.vectors.specs.Laws.Results.{result-same}
 
 -- 14 names the first element outside, in order
@@ -42,6 +42,14 @@ module _ (t : MatrixType) (memory : ℕ) (v : VectorStep) (e : ℕ) (h : vectorR
   pub earlier-inside : (k : ℕ) → k < e → endOf v k ≤ memory
   earlier-inside k l =
       ltb-false _ _ (first-before (outside v memory) 0 (elementsOf v) k (omega arith) (rw (first-is t memory v e h .0) l))
+
+-- A step that is not refused has every matrix element and, if there is a bias, every bias element inside: its bytes lie in memory.
+module _ (t : MatrixType) (memory : ℕ) (v : VectorStep) (ok : vectorRefusal t memory v .number ≡ 0) where
+  pub matrix-inside : (r c : ℕ) → r < v .rows → c < v .columns → matrixByte v r c + sizeOf v ≤ memory
+  matrix-inside r c l h = accepted-inside t memory v ok .row r l .at c h
+
+  pub bias-inside : v .biased ≡ true → (i : ℕ) → i < v .rows → biasByte v i + biasSize ≤ memory
+  bias-inside b i l = accepted-inside t memory v ok .bias i l b
 
 -- Components of a plain interpretation:
 module _ (es : List ℕ) (kind : ℕ) (v : VectorStep) (plain : packed (v .interpretation) ≡ false) (c : ℕ) where
@@ -63,7 +71,15 @@ module _ (es : List ℕ) (kind : ℕ) (v : VectorStep) (plain : packed (v .inter
   pub component-same : leZ (lowest (v .interpretation)) input ≡ true → leZ input (highest (v .interpretation)) ≡ true → componentAt es kind v c ≡ input
   component-same l h = converted ∙ saturated-same (v .interpretation) input l h
 
-  -- as it is where the register's kind is the interpretation
+  -- one above the interpretation's highest value gives the highest
+  pub component-above : leZ input (highest (v .interpretation)) ≡ false → componentAt es kind v c ≡ highest (v .interpretation)
+  component-above h = converted ∙ saturated-above (v .interpretation) input h
+
+  -- and one below its lowest the lowest
+  pub component-below : leZ (lowest (v .interpretation)) input ≡ false → componentAt es kind v c ≡ lowest (v .interpretation)
+  component-below l = converted ∙ saturated-below (v .interpretation) input l
+
+  -- a value stays as it is where the register's kind is the interpretation
   pub component-exact : kind ≡ v .interpretation → elementOf es (v .input) c < 2 ^ width kind → componentAt es kind v c ≡ input
   component-exact e h = component-same (rw (← e) (value-low kind (elementOf es (v .input) c) h)) (rw (← e) (value-high kind (elementOf es (v .input) c) h))
 

@@ -1,24 +1,25 @@
 use denote.Ref.{now}
-use mathlib.Core.Path.{_≡_, sym, ap}
-use Prim.Native.Nat.{_-_, _^_, _<_, _≤_}
+use mathlib.Core.Path.{_≡_, sym, ap, _∙_}
+use Prim.Native.Nat.{_+_, _-_, _≤_}
 use lib.ListN.{length, getD}
 use Rattle.runs.specs.declared.Run.{Run}
-use Rattle.runs.specs.Runs.{held as theHeld, ended, emit}
+use Rattle.runs.specs.Runs.{held as theHeld, ended, emit, runs}
 use Rattle.runs.specs.Laws.Ranges.{held-small}
 use Rattle.runs.specs.Laws.Writing.{held-none, held-more, ending-is, count-none, count-more, count-few, count-all, emit-one}
 use Rattle.accepted.specs.Accepted.{entriesOutcome}
 use Rattle.access_tapes.proofs.Laws.{entry-fits}
+use Rattle.access_tapes.proofs.Fills.{runs-count}
 use borrow.Author.Needs.{needs}
 use native.Mathlib.Omega.{arith}
 use Rattle.access_tapes.proofs.count_runs.Statement.{statement}
 use Rattle.access_tapes.proofs.count_runs.Tie as tie
 
 abbrev Inv-loop : tie.InvT-loop
-Inv-loop entries n fill held₀ records₀ k₀ held records k =
-    (k ≤ n) × (held ≡ theHeld (entriesOutcome entries fill) k) × (records ≡ length (ended (entriesOutcome entries fill) k))
+Inv-loop entries n held₀ records₀ k₀ held records k =
+    (k ≤ n) × (held ≡ theHeld (entriesOutcome entries 0) k) × (records ≡ length (ended (entriesOutcome entries 0) k))
 
 abbrev μ-loop : tie.MeasureT-loop
-μ-loop entries n fill held₀ records₀ k₀ held records k = n - k
+μ-loop entries n held₀ records₀ k₀ held records k = n - k
 
 loop-holds : tie.Need-loop-holds Inv-loop μ-loop
 loop-holds c = (omega arith, sym (held-none _), sym (count-none _))
@@ -37,9 +38,8 @@ next-run-requires c κs =
     let s = c .before .before .before .before in
     let a = s .args in
     let l = c .before .before .before .loop in
-    let small : a .fill < 2 ^ 32 = omega arith in
-    let near = entry-fits (a .fill) small in (
-      rw (l .inv .1) (held-small (entriesOutcome (now (a .entries)) (a .fill)) (l .k) (λ i h. near (getD (now (a .entries)) i 0))),
+    let near = entry-fits 0 (omega arith) in (
+      rw (l .inv .1) (held-small (entriesOutcome (now (a .entries)) 0) (l .k) (λ i h. near (getD (now (a .entries)) i 0))),
       (omega arith, rw (c .outcome-of .ensures) (near (getD (now (a .entries)) (l .k) 0))),
     )
 
@@ -50,7 +50,7 @@ add-records : tie.Need-add-records Inv-loop μ-loop
 add-records c =
     let l = c .before .before .before .before .before .loop in
     let a = c .before .before .before .before .before .before .args in
-    omega (arith, l .inv .2, count-few (entriesOutcome (now (a .entries)) (a .fill)) (l .k), c .records-of .ensures, emit-one (c .before .next-run .result .done))
+    omega (arith, l .inv .2, count-few (entriesOutcome (now (a .entries)) 0) (l .k), c .records-of .ensures, emit-one (c .before .next-run .result .done))
 
 add-k : tie.Need-add-k Inv-loop μ-loop
 add-k c = search needs
@@ -62,7 +62,7 @@ loop-again : tie.Need-loop-again Inv-loop μ-loop
 loop-again c =
     let a = c .before .before .before .before .before .before .args in
     let l = c .before .before .before .before .before .loop in
-    let f = entriesOutcome (now (a .entries)) (a .fill) in
+    let f = entriesOutcome (now (a .entries)) 0 in
     let o = c .before .before .outcome-of .ensures in
     let t = c .before .next-run .ensures in
     let d = ending-is f (l .k) (l .inv .1) o t in (
@@ -78,15 +78,16 @@ add-result : tie.Need-add-result Inv-loop μ-loop
 add-result c =
     let l = c .before .before .loop in
     let a = c .before .before .before .args in
-    omega (arith, l .inv .2, count-few (entriesOutcome (now (a .entries)) (a .fill)) (l .k), c .records-of2 .ensures, emit-one (l .held))
+    omega (arith, l .inv .2, count-few (entriesOutcome (now (a .entries)) 0) (l .k), c .records-of2 .ensures, emit-one (l .held))
 
 returns : tie.Need-returns Inv-loop μ-loop
-returns c =
+returns c = λ fill.
     let a = c .before .before .before .args in
     let l = c .before .before .loop in
     let e : l .k ≡ a .n = omega arith in
-    rw (← e)
-    (omega (arith, l .inv .2, c .records-of2 .ensures, count-all (entriesOutcome (now (a .entries)) (a .fill)) (l .k), ap (λ (r : Run). length (emit r)) (l .inv .1)))
+    let all : l .records + c .records-of2 .result ≡ length (runs (entriesOutcome (now (a .entries)) 0) (l .k)) =
+    omega (arith, l .inv .2, c .records-of2 .ensures, count-all (entriesOutcome (now (a .entries)) 0) (l .k), ap (λ (r : Run). length (emit r)) (l .inv .1)) in
+    rw (← e) (all ∙ runs-count (now (a .entries)) 0 fill (l .k))
 
 pub count-runs-spec : {M : Type 1} → statement M
 count-runs-spec =

@@ -1,4 +1,6 @@
-use Rattle.accesses.proofs.Laws.{Passed, passed-none, passed-stop, passed-more, passed-end}
+use Rattle.accesses.proofs.RowLaws.{tail-few}
+use Rattle.accesses.proofs.Laws.{passed-none, passed-stop, passed-more, passed-end}
+use Rattle.accesses.specs.Rows.{Passed}
 use Rattle.addressing.specs.Laws.Plans.{plan-count}
 use Rattle.accesses.specs.Laws.Surveys.{element-near}
 use Rattle.accesses.specs.Refusals.{elementOutcome, placedCount}
@@ -15,32 +17,43 @@ Inv-loop entries₀ p count permutation sizes strides numbers placed₀ k₀ ent
 abbrev μ-loop : tie.MeasureT-loop
 μ-loop entries₀ p count permutation sizes strides numbers placed₀ k₀ entries placed k = count - k
 
+by-rows-requires : tie.Need-by-rows-requires Inv-loop μ-loop
+by-rows-requires c κs = let s = c .before .before .before .before .before .before .before in tail-few (s .args .p) (s .pre .0)
+
+survey-rows-requires : tie.Need-survey-rows-requires Inv-loop μ-loop
+survey-rows-requires c κs = let s = c .before .before .before .before .before .before .before .before .before .before in
+    let w = c .before .before .by-rows .ensures (c .before .if1 .taken) in
+    (s .pre .0, s .pre .1, w .0, w .1)
+
+returns : tie.Need-returns Inv-loop μ-loop
+returns c = c .survey-rows .ensures
+
 loop-holds : tie.Need-loop-holds Inv-loop μ-loop
-loop-holds c = let s = c .before .before .before .before .before in passed-none _ _ _ (s .pre .0 .few) (s .pre .1)
+loop-holds c = let s = c .before .before .before .before .before .before .before .before .before in passed-none _ _ _ (s .pre .0 .few) (s .pre .1)
 
 cast-locate : tie.Need-cast-locate Inv-loop μ-loop
 cast-locate c = search needs
 
 locate-requires : tie.Need-locate-requires Inv-loop μ-loop
-locate-requires c κs = let s = c .before .before .before .before .before .before .before .before .before .before .before in
+locate-requires c κs = let s = c .before .before .before .before .before .before .before .before .before .before .before .before .before .before .before in
     ((s .pre .0, rw (← plan-count (s .args .p) (s .pre .0)) (c .before .before .before .before .loop-test .taken)), (refl, refl, refl, refl))
 
-returns : tie.Need-returns Inv-loop μ-loop
+returns-2 : tie.Need-returns-2 Inv-loop μ-loop
 unfolding elementOutcome
-returns c = let i = c .before .before .before .before .before .before .before .before .loop in
+returns-2 c = let i = c .before .before .before .before .before .before .before .before .loop in
     let e = c .before .before .locate in
-    let s = c .before .before .before .before .before .before .before .before .before .before .before .before .before .before in
+    let s = c .before .before .before .before .before .before .before .before .before .before .before .before .before .before .before .before .before .before in
     rw (← plan-count (s .args .p) (s .pre .0))
     record {
       room = i .inv .room;
-      stop = passed-stop _ (i .inv) (e .result) (c .before .before .before .before .before .before .before .loop-test .taken) (e .ensures) (c .if1 .taken);
-      placed = λ z. absurd (c .if1 .taken z);
-      each = λ z. absurd (c .if1 .taken z);
+      stop = passed-stop _ (i .inv) (e .result) (c .before .before .before .before .before .before .before .loop-test .taken) (e .ensures) (c .if2 .taken);
+      placed = λ z. absurd (c .if2 .taken z);
+      each = λ z. absurd (c .if2 .taken z);
     }
 
 entry-requires : tie.Need-entry-requires Inv-loop μ-loop
 unfolding elementOutcome
-entry-requires c κs = let s = c .before .before .before .before .before .before .before .before .before .before .before .before .before .before in
+entry-requires c κs = let s = c .before .before .before .before .before .before .before .before .before .before .before .before .before .before .before .before .before .before in
     rw (c .before .before .locate .ensures) (element-near (s .args .p .access) (s .pre .0 .valid .sized) (c .before .before .before .before .before .before .before .before .loop .k))
 
 mul-entries : tie.Need-mul-entries Inv-loop μ-loop
@@ -67,9 +80,9 @@ loop-again c = let i = c .before .before .before .before .before .before .before
     let e = c .before .before .before .before .locate in
     passed-more _ (i .inv) (e .result) (c .before .before .before .before .before .before .before .before .before .loop-test .taken) (e .ensures) (search needs) (c .before .entry .ensures) (c .placed-one .ensures .0) (c .placed-one .ensures .1)
 
-returns-2 : tie.Need-returns-2 Inv-loop μ-loop
-returns-2 c = let i = c .before .loop in
-    let s = c .before .before .before .before .before .before .before in
+returns-3 : tie.Need-returns-3 Inv-loop μ-loop
+returns-3 c = let i = c .before .loop in
+    let s = c .before .before .before .before .before .before .before .before .before .before .before in
     rw (← plan-count (s .args .p) (s .pre .0))
     record {
       room = i .inv .room;
@@ -84,10 +97,13 @@ survey-spec =
     (tie.spec
     Inv-loop
     μ-loop
+    by-rows-requires
+    survey-rows-requires
+    returns
     loop-holds
     cast-locate
     locate-requires
-    returns
+    returns-2
     entry-requires
     mul-entries
     element-write-entries
@@ -96,4 +112,4 @@ survey-spec =
     add-k
     loop-less
     loop-again
-    returns-2)
+    returns-3)

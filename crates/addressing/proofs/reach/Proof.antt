@@ -1,9 +1,10 @@
-use Rattle.dimensions.specs.Dimensions.{partLimit}
-use Rattle.addressing.proofs.Laws.{reached-far, reached-is}
+use Rattle.dimensions.specs.Dimensions.{lead, partLimit}
+use Rattle.tensor_ranges.specs.Laws.Facts.{layout-most}
+use native.Mathlib.Omega.{arith}
+use Rattle.addressing.proofs.Laws.{reached-far, reached-up, tail-whole}
 use Rattle.clamps.specs.declared.Clamped.the-variants.{Refused, Discarded, Filled, At}
-use Rattle.sheet.specs.Sizes.{rankPlaces}
 use mathlib.Core.Path.{sym, _∙_}
-use Prim.Native.Nat.{_≤_, _*_}
+use Prim.Native.Nat.{_≤_, _+_, _*_}
 use borrow.Author.Needs.{needs}
 use Rattle.addressing.proofs.reach.Statement.{statement}
 use Rattle.addressing.proofs.reach.Tie as tie
@@ -13,6 +14,9 @@ refuse-requires c κs = search needs
 
 returns : tie.Need-returns
 returns c = c .refuse .ensures ∙ reached-far _ _ (c .before .if1 .taken)
+
+cast-rank : tie.Need-cast-rank
+cast-rank c = search needs
 
 cast-tensor-index : tie.Need-cast-tensor-index
 cast-tensor-index c = search needs
@@ -42,20 +46,26 @@ enum-known-t : tie.Need-enum-known-t
 enum-known-t c = search needs
 
 address-requires : tie.Need-address-requires
-address-requires c κs = let m : c .before .t .given .0 .0 ≤ rankPlaces * partLimit = rw (c .before .t .given .1) at (c .before .before .before .tensor-index .ensures .1) in
-    (c .before .before .before .before .before .pre .0, m)
+address-requires c κs = let s = c .before .before .before .before .before .before in
+    let t = c .before .t .given in
+    let m : t .0 .0 ≤ (lead (s .args .a .layout) + s .args .tail .rank) * partLimit = rw (t .1) at (c .before .before .before .tensor-index .ensures .1) in
+    (s .pre .0, omega (arith, m, tail-whole (s .args .a .layout) (s .args .tail) (s .pre .3), layout-most (s .args .a .layout) (s .pre .0 .sized .layout)))
 
 returns-2 : tie.Need-returns-2
-returns-2 c = c .refuse2 .ensures ∙ reached-is _ _ Refused (search needs) (sym (c .before .before .before .tensor-index .ensures .0) ∙ c .before .enum-told .given .1)
+returns-2 c = let s = c .before .before .before .before .before .before in
+    c .refuse2 .ensures ∙ reached-up (s .args .a) (s .args .index) Refused (s .args .tail) (s .pre .0) (s .pre .3) (search needs) (sym (c .before .before .before .tensor-index .ensures .0) ∙ c .before .enum-told .given .1)
 
 returns-3 : tie.Need-returns-3
-returns-3 c = c .answer .ensures ∙ reached-is _ _ Discarded (search needs) (sym (c .before .before .before .tensor-index .ensures .0) ∙ c .before .enum-told2 .given .1)
+returns-3 c = let s = c .before .before .before .before .before .before in
+    c .answer .ensures ∙ reached-up (s .args .a) (s .args .index) Discarded (s .args .tail) (s .pre .0) (s .pre .3) (search needs) (sym (c .before .before .before .tensor-index .ensures .0) ∙ c .before .enum-told2 .given .1)
 
 returns-4 : tie.Need-returns-4
-returns-4 c = c .answer2 .ensures ∙ rw (c .before .before .before .before .before .pre .1) (reached-is _ _ Filled (search needs) (sym (c .before .before .before .tensor-index .ensures .0) ∙ c .before .enum-told3 .given .1))
+returns-4 c = let s = c .before .before .before .before .before .before in
+    c .answer2 .ensures ∙ rw (s .pre .1) (reached-up (s .args .a) (s .args .index) Filled (s .args .tail) (s .pre .0) (s .pre .3) (search needs) (sym (c .before .before .before .tensor-index .ensures .0) ∙ c .before .enum-told3 .given .1))
 
 returns-5 : tie.Need-returns-5
-returns-5 c = c .address .ensures ∙ reached-is _ _ (At (c .before .before .t .given .0 .0)) (search needs) (sym (c .before .before .before .before .tensor-index .ensures .0) ∙ c .before .before .t .given .1)
+returns-5 c = let s = c .before .before .before .before .before .before .before in
+    c .address .ensures ∙ reached-up (s .args .a) (s .args .index) (At (c .before .before .t .given .0 .0)) (s .args .tail) (s .pre .0) (s .pre .3) (search needs) (sym (c .before .before .before .before .tensor-index .ensures .0) ∙ c .before .before .t .given .1)
 
 pub reach-spec : {M : Type 1} → statement M
 reach-spec =
@@ -63,6 +73,7 @@ reach-spec =
     (tie.spec
     refuse-requires
     returns
+    cast-rank
     cast-tensor-index
     tensor-index-requires
     enum-told

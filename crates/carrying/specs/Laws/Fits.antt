@@ -88,7 +88,7 @@ step-fits edition tensors Nothing m edition′ layouts views ok a w f = f
 step-fits edition tensors (Load register object window) m edition′ layouts views ok a w f =
     let given = objectDone register object m in
     let t = theType (given .registers .types) register in
-    load-fits (given .registers .types) (given-sized edition tensors m register window w object) (accessOf tensors true window t (length (m .memory))) register
+    load-fits (given .registers .types) (given-sized m register w object) (accessOf tensors true window t (length (m .memory))) register
     (load-register _ _ _ _ _ _ ok) refl (le-refl _) (stateOf given) (object-fits m w f register object (load-object _ _ _ _ _ _ ok))
 step-fits edition tensors (Store register window) m edition′ layouts views ok a w f =
     let t = theType (m .registers .types) register in

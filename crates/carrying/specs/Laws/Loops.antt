@@ -1,31 +1,24 @@
 -- What the loop over a sheet's steps keeps.
 use Prim.Native.Nat.{ℕ, suc, _+_, _-_, _*_, _<_, _≤_}
 use mathlib.Core.Path.{_≡_, refl, _∙_}
-use mathlib.Core.Bool.{true, false}
 use mathlib.Core.List.{List}
 use native.Mathlib.Omega.{arith}
 use lib.ListN.{length}
 use Rattle.sheet_ranges.specs.Steps.{theStep}
-use Rattle.sheet.specs.Sizes.{registerCount, matrixPlaces}
+use Rattle.sheet.specs.Sizes.{matrixPlaces}
 use Rattle.sheet.specs.declared.Object.{Object}
-use Rattle.sheet.specs.declared.Window.{Window}
-use Rattle.sheet.specs.declared.Tensors.{Tensors}
 use Rattle.sheet.specs.declared.Sheet.{Sheet}
-use Rattle.sheet.specs.declared.Step.the-variants.{Load, Store}
 use Rattle.sheet_ranges.specs.Laws.Within.{Within}
-use Rattle.registers.specs.Types.{theType}
 use Rattle.registers.specs.Sized.{Sized}
 use Rattle.registers.specs.Laws.Sized.{sized-with}
-use Rattle.checking.specs.Steps.{objectRegister, accessOf, checkedStep}
+use Rattle.checking.specs.Steps.{objectRegister}
 use Rattle.checking.specs.Checking.{checked}
 use Rattle.checking.specs.Laws.Turns.{within-step, one-less}
-use Rattle.checking.specs.Clear.{Clear}
-use Rattle.checking.specs.Laws.Accesses.{access-clear}
 use Rattle.checking.specs.Laws.Steps.{step-placed}
 use Rattle.carrying.specs.Steps.{Machine, withObject, performedStep}
 use Rattle.carrying.specs.Carrying.{performedFrom, performed, started}
-use Rattle.carrying.specs.Machines.{Accepted, stepOn, AcceptedStep, Formed}
-use Rattle.carrying.specs.Laws.Types.{started-formed, step-formed, step-length, checkFrom, first-accepted, rest-checked, object-types, object-type}
+use Rattle.carrying.specs.Machines.{stepOn, AcceptedStep, Formed}
+use Rattle.carrying.specs.Laws.Types.{started-formed, step-formed, step-length, checkFrom, first-accepted, rest-checked, object-types}
 use Rattle.carrying.specs.Laws.Counts.{step-count}
 
 -- a machine before step k of n more: well formed, few elements counted, the rest accepted, and the rest leaves what the whole sheet leaves
@@ -67,20 +60,9 @@ pub ready-end : (sh : Sheet) (k : ℕ) (m start : Machine) → Ready 0 sh k m st
 unfolding performedFrom
 ready-end sh k m start r = r .rest
 
--- a load and a store that are accepted, by their parts
-module _ (edition : ℕ) (tensors : Tensors) (m : Machine) (register : ℕ) (window : Window) where
-  pub given-sized : Formed m → (object : Object) → Sized (withObject register object (m .registers) .types)
-  given-sized f object = rw (object-types register object m) (sized-with _ register _ (f .sized) (f .sized .each (objectRegister register object)))
-
-  pub load-clear : Formed m → register < registerCount → (object : Object) → Accepted edition tensors (Load register object window) m
-      → let t = theType (withObject register object (m .registers) .types) register in Clear t (accessOf tensors true window t (length (m .memory)))
-  unfolding checkedStep
-  load-clear f l object a = rw (object-type register object m (rw (f .registers) l)) (access-clear _ _ _ _ a)
-
-  pub store-clear : Accepted edition tensors (Store register window) m
-      → let t = theType (m .registers .types) register in Clear t (accessOf tensors false window t (length (m .memory)))
-  unfolding checkedStep
-  store-clear a = access-clear _ _ _ _ a
+-- the types that a load's object leaves keep to Sizes
+pub given-sized : (m : Machine) (register : ℕ) → Formed m → (object : Object) → Sized (withObject register object (m .registers) .types)
+given-sized m register f object = rw (object-types register object m) (sized-with _ register _ (f .sized) (f .sized .each (objectRegister register object)))
 
 -- the same with what is left counted from the whole
 module _ (sh : Sheet) (k : ℕ) (m start : Machine) (l : k < sh .steps) (r : Ready (sh .steps - k) sh k m start) where

@@ -1,23 +1,12 @@
-use Prim.Native.Nat.{ℕ, suc, _-_, _^_, _<_, _≤_}
-use mathlib.Core.Path.{_≡_, refl, ap}
+use Prim.Native.Nat.{suc, _-_}
+use mathlib.Core.Path.{ap}
 use native.Mathlib.Omega.{arith}
 use lib.IntN.{pos, negsuc}
 use borrow.Author.Tests.{lt-ltb, le-ltb}
 use borrow.Author.Needs.{needs}
-use Rattle.kinds.specs.Widths.{s16}
-use Rattle.kinds.specs.Laws.Signs.{value-lower, value-upper, width-s16}
-use Rattle.clamps.specs.Clamps.{twos}
+use Rattle.clamps.specs.Laws.Offsets.{lower, upper}
 use Rattle.clamps.proofs.shifted.Statement.{statement}
 use Rattle.clamps.proofs.shifted.Tie as tie
-
--- the two halves of 16 bits
-lower : (raw : ℕ) → raw < 32768 → twos raw ≡ pos raw
-lower raw h = value-lower s16 raw (rw width-s16 (omega arith))
-
-upper : (raw : ℕ) → raw < 65536 → 32768 ≤ raw → twos raw ≡ negsuc (65535 - raw)
-upper raw l h =
-    let e : 65535 - raw ≡ 2 ^ 16 - suc raw = omega arith in
-    rw e (rw width-s16 at (value-upper s16 raw refl (rw width-s16 (omega arith)) (rw width-s16 l)))
 
 add-t5 : tie.Need-add-t5
 add-t5 c = search needs

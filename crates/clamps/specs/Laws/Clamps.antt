@@ -6,6 +6,7 @@ use native.Mathlib.Omega.{arith}
 use lib.Dec.{leb, eqb}
 use lib.IntN.{ℤ, pos, negsuc}
 use borrow.Author.Tests.{leb-true, leb-false, eqb-false}
+use Rattle.numbers.specs.Choice.{pick}
 use Rattle.numbers.specs.Laws.Choice.{pick-case}
 use Rattle.numbers.specs.Remainders.{remainder}
 use Rattle.numbers.specs.Laws.Remainders.{remainder-lt}
@@ -56,6 +57,22 @@ onStore-under MirrorRepeat n = tt
 pub clamped-lt : (load : Bool) (mode : ClampMode) (c : ℤ) (n : ℕ) {x : ℕ} → 0 < n → clamped load mode c n ≡ At x → x < n
 clamped-lt load mode c n h e =
     rw e at (by-clamped (Under n) load mode c n (λ t. onLoad-under mode c h) (λ t. onStore-under mode n) (λ a l. l))
+
+-- outside there is a place to go to only by the mode: any other answer is the same for all coordinates outside
+abbrev pub Flat : Clamped → Type 0
+Flat Refused = Unit {0}
+Flat Discarded = Unit {0}
+Flat Filled = Unit {0}
+Flat (At x) = ⊥
+
+pub outside-flat : (load : Bool) (mode : ClampMode) (c e : ℤ) (n m : ℕ) → Flat (outside load mode c n) → outside load mode e m ≡ outside load mode c n
+unfolding outside pick
+outside-flat false mode c e n m h = refl
+outside-flat true Undefined c e n m h = refl
+outside-flat true Constant c e n m h = refl
+outside-flat true ClampToEdge c e n m h = absurd h
+outside-flat true Repeat c e n m h = absurd h
+outside-flat true MirrorRepeat c e n m h = absurd h
 
 -- what all coordinates outside have in common
 abbrev loadStop : ClampMode → Clamped

@@ -15,7 +15,7 @@ use Rattle.outcomes.specs.declared.Outside.{Outside}
 use Rattle.outcomes.specs.declared.Outside.the-variants as outside
 use Rattle.sheet.specs.declared.ClampMode.{ClampMode}
 use Rattle.clamps.specs.declared.Clamped.the-variants.{At}
-use Rattle.clamps.specs.Clamps.{clamped, sideOf}
+use Rattle.clamps.specs.Clamps.{outside, clamped, sideOf}
 use Rattle.clamps.specs.Sides.{named, outsideFrom}
 use Rattle.clamps.specs.Named.{First}
 
@@ -54,10 +54,25 @@ module _ (f : ℕ → Side) where
   from-inside d (suc m) h = rw (h d (omega arith)) (from-inside (suc d) m (λ e l. h e (omega arith)))
 
 -- rule 4 keeps a coordinate that is inside
-pub inside-stays : (load : Bool) (mode : ClampMode) (c : ℤ) (n : ℕ) → sideOf c n ≡ Inside → (a : ℕ) × (clamped load mode c n ≡ At a)
+pub inside-itself : (load : Bool) (mode : ClampMode) (c : ℤ) (n : ℕ) → sideOf c n ≡ Inside → (a : ℕ) × ((c ≡ pos a) × (clamped load mode c n ≡ At a))
 unfolding sideOf clamped pick
-inside-stays load mode (negsuc a) n e = let y : _≡_ {A = ℕ} 0 1 = cc in absurd (omega arith)
-inside-stays load mode (pos a) n e =
+inside-itself load mode (negsuc a) n e = let y : _≡_ {A = ℕ} 0 1 = cc in absurd (omega arith)
+inside-itself load mode (pos a) n e =
     by-test (leb n a)
     (λ t. let z : Above ≡ Inside = rw t at e in let y : _≡_ {A = ℕ} 0 1 = cc in absurd (omega arith))
-    (λ t. (a, rw t refl))
+    (λ t. (a, (refl, rw t refl)))
+
+pub inside-stays : (load : Bool) (mode : ClampMode) (c : ℤ) (n : ℕ) → sideOf c n ≡ Inside → (a : ℕ) × (clamped load mode c n ≡ At a)
+inside-stays load mode c n e = let r = inside-itself load mode c n e in (r .0, r .1 .1)
+
+-- and gives what the mode gives for any other
+pub outside-mode : (load : Bool) (mode : ClampMode) (c : ℤ) (n : ℕ) → (sideOf c n ≡ Inside → ⊥) → clamped load mode c n ≡ outside load mode c n
+unfolding sideOf clamped pick
+outside-mode load mode (negsuc a) n h = refl
+outside-mode load mode (pos a) n h = by-test (leb n a) (λ t. rw t refl) (λ t. absurd (h (rw t refl)))
+
+-- a mode that has no coordinate outside gives one only inside
+pub at-inside : (load : Bool) (mode : ClampMode) (c : ℤ) (n x : ℕ) → (outside load mode c n ≡ At x → ⊥) → clamped load mode c n ≡ At x → sideOf c n ≡ Inside
+unfolding sideOf clamped pick
+at-inside load mode (negsuc a) n x h e = absurd (h e)
+at-inside load mode (pos a) n x h e = by-test (leb n a) (λ t. absurd (h (rw t at e))) (λ t. rw t refl)

@@ -68,7 +68,7 @@ module _ (sh : Sheet) (k : ℕ) (t : TwoStores sh k) where
       let after : performedFrom (k + 1) sh 0 m ≡ performedStep (sh .tensors) (theStep (sh .step) k) (performedFrom k sh 0 m) =
       from-last k sh 0 m ∙ rw (zero-add k) refl in
       let on : ApartOn (sh .tensors) (theStep (sh .step) k) (theStep (sh .step) (k + 1)) (performedFrom k sh 0 m) =
-      λ b x y. apart b x (rw after y) in
+      λ b x y. apart b x (rw (← after) at y) in
       from-performs k sh (exchangedSteps k (sh .step)) swap k n 0 m (omega arith) l on
 
 -- In a sheet as bytes:

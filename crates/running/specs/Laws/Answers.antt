@@ -1,5 +1,5 @@
 -- Which answer a tape gets, by the ways that the code takes.
-use Prim.Native.Nat.{ℕ, _<_, _≤_}
+use Prim.Native.Nat.{ℕ, _<_}
 use mathlib.Core.Path.{_≡_}
 use mathlib.Core.List.{List}
 use native.Mathlib.Omega.{arith}
@@ -8,13 +8,15 @@ use lib.IntN.{ℤ}
 use lib.ListN.{length}
 use Rattle.sheet.specs.Sizes.{memoryLimit}
 use Rattle.numbers.specs.Choice.{pick}
+use Rattle.numbers.specs.Laws.Choice.{by-order}
 use Rattle.refusals.specs.declared.Refusal.{Refusal}
 use Rattle.sheet_reader.specs.Reading.{readSheet}
 use Rattle.registers.specs.Registers.{emptyRegisters}
 use Rattle.registers.specs.declared.Registers.{Registers}
-use Rattle.refusals.specs.Refusals.{memoryTooLarge, refusalAt, notRefused}
+use Rattle.refusals.specs.Refusals.{memoryTooLarge, notRefused}
 use Rattle.counts.specs.Counts.{noCounts}
 use Rattle.counts.specs.declared.Counts.{Counts}
+use Rattle.checking.specs.Checking.{admitted}
 use Rattle.carrying.specs.Steps.{machine}
 use Rattle.carrying.specs.Carrying.{started, carryAnswer}
 use Rattle.judging.specs.Judging.{tapeRecord, tapeRefusal}
@@ -22,17 +24,24 @@ use Rattle.running.specs.Running.{ran, runRefusal, runTape, ranMemory}
 
 module _ (s : List ℕ) (tape : List ℤ) (records : ℕ) where
   module _ (len : ℕ) where
-    pub run-large : memoryLimit < len → runRefusal s tape records len ≡ refusalAt memoryTooLarge 0 0
-    unfolding runRefusal pick
-    run-large h = rw (lt-leb len memoryLimit h)
+    -- a sheet that is not admitted
+    pub run-unread : 0 < admitted s len .refusal .number → runRefusal s tape records len ≡ admitted s len .refusal
+    unfolding runRefusal admitted pick
+    run-unread h =
+        by-order memoryLimit len (λ l. rw (lt-leb len memoryLimit l))
+        (λ l.
+        let n : 0 < readSheet s .refusal .number = rw (le-leb len memoryLimit l) at h in
+        rw (le-leb len memoryLimit l, ne-eqb (readSheet s .refusal .number) 0 (λ e. omega arith)))
 
-    pub run-unread : len ≤ memoryLimit → 0 < readSheet s .refusal .number → runRefusal s tape records len ≡ readSheet s .refusal
-    unfolding runRefusal pick
-    run-unread h n = rw (le-leb len memoryLimit h, ne-eqb (readSheet s .refusal .number) 0 (λ e. omega arith))
-
-    pub run-readable : len ≤ memoryLimit → readSheet s .refusal .number ≡ 0 → runRefusal s tape records len ≡ tapeRefusal (readSheet s .sheet) tape records len
-    unfolding runRefusal pick
-    run-readable h n = rw (le-leb len memoryLimit h, eq-eqb (readSheet s .refusal .number) 0 n)
+    -- one that is
+    pub run-readable : admitted s len .refusal .number ≡ 0 → runRefusal s tape records len ≡ tapeRefusal (readSheet s .sheet) tape records len
+    unfolding runRefusal admitted pick
+    run-readable h =
+        by-order memoryLimit len
+        (λ l. let z : memoryTooLarge ≡ 0 = rw (lt-leb len memoryLimit l) at h in absurd (omega arith))
+        (λ l.
+        let n : readSheet s .refusal .number ≡ 0 = rw (le-leb len memoryLimit l) at h in
+        rw (le-leb len memoryLimit l, eq-eqb (readSheet s .refusal .number) 0 n))
 
   module _ (memory : List ℕ) where
     -- refused: empty registers, memory unchanged

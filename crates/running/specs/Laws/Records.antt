@@ -4,14 +4,14 @@ use mathlib.Core.Path.{_≡_, refl, ap, _∙_}
 use mathlib.Core.Bool.{true}
 use native.Mathlib.Omega.{arith}
 use mathlib.Core.List.{List}
-use borrow.Author.Tests.{lt-ltb, leb-true, not-true}
+use borrow.Author.Tests.{leb-true, not-true}
 use lib.ListN.{length, length-set}
-use Rattle.numbers.specs.Choice.{pick}
 use Rattle.registers.specs.declared.MatrixType.{MatrixType}
 use Rattle.numbers.specs.Laws.Lists.{length-line}
 use Rattle.kinds.specs.Widths.{bytesOf}
 use Rattle.sheet_ranges.specs.Steps.{theStep}
 use Rattle.sheet.specs.declared.Sheet.{Sheet}
+use Rattle.sheet.specs.declared.Step.{Step}
 use Rattle.sheet_ranges.specs.Laws.Within.{Within}
 use Rattle.memory.specs.Laws.Elements.{length-with}
 use Rattle.registers.specs.Types.{theType}
@@ -30,9 +30,10 @@ use Rattle.records.specs.declared.Record.{Record}
 use Rattle.records.specs.declared.Record.the-variants.{Copy, Take, Put, Fill, Whole}
 use Rattle.records.specs.declared.Decoded.{Decoded}
 use Rattle.records.specs.declared.Decoded.the-variants.{Good, Bad}
-use Rattle.judging.specs.Records.{recordOk, recordTypes, elementsOk, stepPlace}
-use Rattle.judging.specs.Judging.{placeNamed, decodedOk, decodedTypes}
+use Rattle.judging.specs.Records.{recordOk, recordTypes, elementsOk}
+use Rattle.judging.specs.Judging.{decodedStep, decodedOk, decodedTypes}
 use Rattle.judging.specs.Laws.Elements.{elements-fit, bytes-elements, fill-elements}
+use Rattle.judging.specs.Laws.Named.{step-is}
 use Rattle.judging.specs.Laws.Records.{whole-named, whole-within, record-sized, record-registers}
 use Rattle.moves.specs.Elements.{taking, putting, filling}
 use Rattle.moves.specs.Laws.Elements.{order-keeps, order-counts}
@@ -148,13 +149,13 @@ module _ (sh : Sheet) (m : Machine) (len : ℕ) where
   decoded-formed w (Good r) e f = record-formed w r e f
   decoded-formed w Bad e f = f
 
--- with what stands at the place of the step that a record in range names, it does what it does with the sheet
-pub named-ran : (sh : Sheet) (ts : List MatrixType) (len : ℕ) (d : Decoded) {at : ℕ} → at ≡ placeNamed (sh .steps) d → decodedOk sh ts len d ≡ true
-    → (m : Machine) → ranDecodedWith (sh .tensors) (theStep (sh .step) at) d m ≡ ranDecoded sh d m
-unfolding ranRecordWith stepPlace pick
+-- with the step that it names a record in range does what it does with the sheet
+pub named-ran : (sh : Sheet) (ts : List MatrixType) (len : ℕ) (d : Decoded) {named : Step} → named ≡ decodedStep sh d → decodedOk sh ts len d ≡ true
+    → (m : Machine) → ranDecodedWith (sh .tensors) named d m ≡ ranDecoded sh d m
+unfolding ranRecordWith
 named-ran sh ts len (Good (Copy register object)) so e m = refl
 named-ran sh ts len (Good (Take register first count byte up down)) so e m = refl
 named-ran sh ts len (Good (Put register first count byte up down)) so e m = refl
 named-ran sh ts len (Good (Fill register first count value)) so e m = refl
-named-ran sh ts len (Good (Whole k)) so e m = rw (so, lt-ltb k (sh .steps) (whole-named sh ts len k e .given))
+named-ran sh ts len (Good (Whole k)) so e m = ap (λ (x : Step). performedStep (sh .tensors) x m) (so ∙ step-is sh k (whole-named sh ts len k e .given))
 named-ran sh ts len Bad so e m = refl

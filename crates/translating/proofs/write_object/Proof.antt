@@ -1,8 +1,7 @@
 use mathlib.Core.Path.{refl}
 use Prim.Native.Nat.{_<_}
-use native.Mathlib.Omega.{arith}
 use Rattle.sheet.specs.Sizes.{registerCount}
-use Rattle.registers.specs.Laws.Sized.{sized-some}
+use native.Mathlib.Omega.{arith}
 use borrow.Author.Needs.{needs}
 use Rattle.translating.proofs.write_object.Statement.{statement}
 use Rattle.translating.proofs.write_object.Tie as tie
@@ -13,16 +12,20 @@ enum-told c = search needs
 enum-told-2 : tie.Need-enum-told-2
 enum-told-2 c = search needs
 
-element-count-requires : tie.Need-element-count-requires
-element-count-requires c κs = search needs
+cast-count : tie.Need-cast-count
+cast-count c = search needs
+
+cast-count-2 : tie.Need-cast-count-2
+cast-count-2 c = search needs
+
+mul-count : tie.Need-mul-count
+mul-count c = search needs
 
 write-record-requires : tie.Need-write-record-requires
 write-record-requires c κs =
-    let s = c .before .before .before .before in
-    let n = c .before .element-count .ensures in
-    let some = sized-some (s .args .t) (s .pre .0 .2) (s .pre .0 .3) in (
-      (record { register = s .pre .0 .0; first = omega arith; some = omega (arith, n, some); count = omega (arith, n) }, omega arith),
-      rw (c .before .before .enum-told2 .given .1) at (s .pre .1),
+    let s = c .before .before .before .before .before in (
+      (record { register = s .pre .0 .0; first = omega arith; some = s .pre .0 .2; count = omega (arith, s .pre .0 .3) }, omega arith),
+      rw (c .before .before .before .enum-told2 .given .1) at (s .pre .1),
     )
 
 enum-known-object : tie.Need-enum-known-object
@@ -42,7 +45,7 @@ same-length : tie.Need-same-length
 same-length c = search needs
 
 returns-2 : tie.Need-returns-2
-returns-2 c = rw (c .before .before .before .before .enum-told2 .given .1) (rw (c .before .before .before .element-count .ensures .0) at (c .before .write-record .ensures))
+returns-2 c = rw (c .before .before .before .before .before .enum-told2 .given .1) (c .before .write-record .ensures)
 
 same-length-2 : tie.Need-same-length-2
 same-length-2 c = search needs
@@ -56,7 +59,9 @@ write-object-spec =
     (tie.spec
     enum-told
     enum-told-2
-    element-count-requires
+    cast-count
+    cast-count-2
+    mul-count
     write-record-requires
     enum-known-object
     write-record-requires-2

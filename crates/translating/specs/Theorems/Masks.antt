@@ -90,7 +90,7 @@ module _ (edition : ℕ) (tensors : Tensors) (ts : List MatrixType) (len k : ℕ
 
 module _ (sh : Sheet) (w : Within sh) (len : ℕ) where
   -- the types at a step keep to Sizes, so that it has at most a register's elements
-  types-sized : (k : ℕ) → k ≤ sh .steps → Sized (typesAt sh len k)
+  pub types-sized : (k : ℕ) → k ≤ sh .steps → Sized (typesAt sh len k)
   unfolding typesAt
   types-sized zero h = sized-empty
   types-sized (suc k) h =

@@ -1,10 +1,10 @@
--- Laws of saturation, once over the width: what it gives is in range, a value in range stays, and what it is modulo 2^32.
+-- Laws of saturation, once over the width: what it gives is in range, a value in range stays, one outside becomes the nearest, and what it is modulo 2^32.
 use mathlib.Core.Path.{_≡_, sym, _∙_}
 use mathlib.Core.Bool.{Bool, true, false, true≢false}
 use Prim.Native.Nat.{ℕ, _+_, _-_, _*_, _/_, _%_, _^_, _<_, _≤_, zero-le}
 use native.Mathlib.Omega.{arith}
 use lib.Dec.{leb}
-use lib.IntN.{ℤ, pos, subℕ}
+use lib.IntN.{ℤ, pos, negsuc, subℕ}
 use lib.Pow.{pow-pos, pow-mono}
 use lib.Signed.{leZ}
 use borrow.Author.Tests.{le-leb, le-ltb, leb-true, leb-false}
@@ -63,6 +63,19 @@ saturated-high kind z =
 pub saturated-same : (kind : ℕ) (z : ℤ) → leZ (lowest kind) z ≡ true → leZ z (highest kind) ≡ true → saturated kind z ≡ z
 unfolding saturated pick
 saturated-same kind z e f = rw (e, f)
+
+-- an integer above the range becomes the highest value, one below it the lowest
+pub saturated-above : (kind : ℕ) (z : ℤ) → leZ z (highest kind) ≡ false → saturated kind z ≡ highest kind
+unfolding saturated pick
+saturated-above kind (pos a) e =
+    let l : leZ (lowest kind) (pos a) ≡ true =
+    rw (as-difference a) (sub-order 0 a (below kind) 0 ∙ le-leb (0 + 0) (a + below kind) (omega arith)) in
+    rw (l, e)
+saturated-above kind (negsuc a) e = absurd (true≢false e)
+
+pub saturated-below : (kind : ℕ) (z : ℤ) → leZ (lowest kind) z ≡ false → saturated kind z ≡ lowest kind
+unfolding saturated pick
+saturated-below kind z e = rw e
 
 -- the values of a kind are in its range
 module _ (kind x : ℕ) (h : x < 2 ^ width kind) where

@@ -1,14 +1,19 @@
-use Prim.Native.Nat.{_-_, _≤_}
-use mathlib.Core.Path.{_≡_}
+use Prim.Native.Nat.{ℕ, _-_, _<_, _≤_}
+use mathlib.Core.Path.{_≡_, sym, ap, subst, _∙_}
 use native.Mathlib.Nat.{sub-zero}
 use denote.Ref.{now}
 use lib.ListN.{length}
-use Rattle.sheet.specs.Sizes.{matrixPlaces}
+use Rattle.sheet.specs.Sizes.{matrixPlaces, stepPlaces}
+use Rattle.sheet.specs.declared.Sheet.{Sheet}
+use Rattle.sheet.specs.declared.Step.{Step}
 use Rattle.sheet_ranges.specs.Laws.Within.{within-places}
+use Rattle.sheet_reader.specs.Parts.{sheetOf, Outlined}
+use Rattle.sheet_parts.specs.Laws.{outlined-within}
 use Rattle.transfers.specs.Acts.{state}
-use Rattle.checking.specs.Laws.Turns.{within-step}
-use Rattle.carrying.specs.Steps.{machineOf}
+use Rattle.checking.specs.Laws.Met.{all-steps, the-edition, met-access, met-turned}
+use Rattle.carrying.specs.Steps.{Machine, machineOf, performedStep}
 use Rattle.carrying.specs.Carrying.{started}
+use Rattle.carrying.specs.Machines.{Accepted}
 use Rattle.carrying.specs.Laws.Loops.{Ready, ready-start, turn-accepted, turn-next, turns-end}
 use borrow.Author.Needs.{needs}
 use native.Mathlib.Omega.{arith}
@@ -16,11 +21,11 @@ use Rattle.carrying.proofs.performing.perform.Statement.{statement}
 use Rattle.carrying.proofs.performing.perform.Tie as tie
 
 abbrev Inv-loop : tie.InvT-loop
-Inv-loop memory₀ elements₀ sheet tensors steps entries₀ types₀ counts₀ k₀ memory elements entries types counts k =
-    (k ≤ sheet .steps) × (length entries ≡ matrixPlaces) × Ready (sheet .steps - k) sheet k (machineOf types (state elements memory counts)) (started memory₀)
+Inv-loop s parts given memory₀ elements₀ entries₀ types₀ counts₀ k₀ memory elements entries types counts k =
+    (k ≤ given .steps) × (length entries ≡ matrixPlaces) × Ready (sheetOf s .steps - k) (sheetOf s) k (machineOf types (state elements memory counts)) (started memory₀)
 
 abbrev μ-loop : tie.MeasureT-loop
-μ-loop memory₀ elements₀ sheet tensors steps entries₀ types₀ counts₀ k₀ memory elements entries types counts k = sheet .steps - k
+μ-loop s parts given memory₀ elements₀ entries₀ types₀ counts₀ k₀ memory elements entries types counts k = given .steps - k
 
 no-entries-requires : tie.Need-no-entries-requires Inv-loop μ-loop
 no-entries-requires c κs = search needs
@@ -34,45 +39,75 @@ no-counts-requires c κs = search needs
 loop-holds : tie.Need-loop-holds Inv-loop μ-loop
 loop-holds c =
     let s = c .before .before .before .before .before in
-    (omega arith, c .before .before .no-entries .ensures, rw (c .no-counts .ensures, sub-zero, c .before .empty-types .ensures, s .pre .0) (ready-start (s .args .t1) (now (s .args .memory)) (s .pre .1 .2)))
+    (omega arith, c .before .before .no-entries .ensures, rw (c .no-counts .ensures, sub-zero, c .before .empty-types .ensures, s .pre .0) (ready-start (sheetOf (now (s .args .s))) (now (s .args .memory)) (s .pre .1 .2)))
 
-mul-c : tie.Need-mul-c Inv-loop μ-loop
-mul-c c = omega (arith, within-places (c .before .before .before .before .before .before .before .pre .1 .0), c .loop-test .taken)
+turn-at-requires : tie.Need-turn-at-requires Inv-loop μ-loop
+turn-at-requires c κs = (c .before .before .before .before .before .before .before .before .pre .1 .0, c .if1 .taken)
 
-element-copy-out-c : tie.Need-element-copy-out-c Inv-loop μ-loop
-element-copy-out-c c = omega (arith, within-places (c .before .before .before .before .before .before .before .pre .1 .0), c .loop-test .taken)
+-- the step that a turn comes to
+module _ (c : tie.After-turn-at Inv-loop μ-loop) where
+  abbrev sh : Sheet
+  sh = sheetOf (now (c .before .before .before .before .before .before .before .before .before .args .s))
+
+  abbrev k : ℕ
+  k = c .before .before .before .loop .k
+
+  abbrev before : Machine
+  before = machineOf (c .before .before .before .loop .types) (state (c .before .before .before .loop .elements) (c .before .before .before .loop .memory) (c .before .before .before .loop .counts))
+
+  here : k < sh .steps
+  here = subst (λ (n : ℕ). k < n) (all-steps (c .before .before .before .before .before .before .before .before .before .pre .1 .0)) (c .before .if1 .taken)
+
+  room : c .before .before .before .before .before .before .before .before .before .args .given .steps ≤ stepPlaces
+  room = omega (arith, all-steps (c .before .before .before .before .before .before .before .before .before .pre .1 .0), within-places (outlined-within (c .before .before .before .before .before .before .before .before .before .pre .1 .0)))
+
+  accepted : Accepted (c .before .before .before .before .before .before .before .before .before .args .given .edition) (sh .tensors) (c .turn-at .result .step) before
+  accepted =
+      subst (λ (e : ℕ). Accepted e (sh .tensors) (c .turn-at .result .step) before) (sym (the-edition (c .before .before .before .before .before .before .before .before .before .pre .1 .0)))
+      (subst (λ (x : Step). Accepted (sh .edition) (sh .tensors) x before) (sym (c .turn-at .ensures .step)) (turn-accepted sh k before _ here (c .before .before .before .loop .inv .2)))
 
 perform-step-requires : tie.Need-perform-step-requires Inv-loop μ-loop
 perform-step-requires c κs =
-    let s = c .before .before .before .before .before .before .before .before .before .before .before in
-    let i = c .before .before .before .before .before .loop in
+    let k = c .before .before .before .before in
+    let s = c .before .before .before .before .before .before .before .before .before .before .before .before .before in
+    let i = c .before .before .before .before .before .before .before .loop in
     let r = i .inv .2 in
-    let l = c .before .before .before .before .loop-test .taken in (
-      (s .pre .1 .0 .tensors, rw (r .kept) (s .pre .1 .1), omega (arith, r .few, l, within-places (s .pre .1 .0)), i .inv .1, r .formed),
-      (s .args .t1 .edition, within-step (s .args .t1) (s .pre .1 .0) (i .k) l, turn-accepted (s .args .t1) (i .k) _ _ l r),
+    let t = k .turn-at .ensures in
+    let h = c .before .before .before .before .before .if1 .taken in
+    let o = s .pre .1 .0 in (
+      (omega (arith, r .few, h, room k), i .inv .1, r .formed),
+      (_, (_, (met-turned o h t (rw (r .kept) (s .pre .1 .1)) (r .formed .sized), accepted k))),
     )
 
 add-k : tie.Need-add-k Inv-loop μ-loop
-add-k c = omega (arith, c .before .before .before .before .before .before .before .before .before .loop-test .taken, within-places (c .before .before .before .before .before .before .before .before .before .before .before .before .before .before .before .before .pre .1 .0))
+add-k c = let k = c .before .before .before .before .before .before .before .before .before in omega (arith, c .before .before .before .before .before .before .before .before .before .before .if1 .taken, room k)
 
 loop-less : tie.Need-loop-less Inv-loop μ-loop
-loop-less c = omega (arith, c .before .before .before .before .before .before .before .before .before .loop-test .taken)
+loop-less c = omega (arith, c .before .before .before .before .before .before .before .before .before .before .if1 .taken)
 
 loop-again : tie.Need-loop-again Inv-loop μ-loop
 loop-again c =
-    let s = c .before .before .before .before .before .before .before .before .before .before .before .before .before .before .before .before in
-    let i = c .before .before .before .before .before .before .before .before .before .before .loop in
-    let l = c .before .before .before .before .before .before .before .before .before .loop-test .taken in
+    let k = c .before .before .before .before .before .before .before .before .before in
+    let s = c .before .before .before .before .before .before .before .before .before .before .before .before .before .before .before .before .before .before in
+    let i = c .before .before .before .before .before .before .before .before .before .before .before .before .loop in
     let e = c .before .before .before .before .perform-step .ensures in
-    (omega (arith, l), e .0, turn-next (s .args .t1) (i .k) _ _ l (i .inv .2) (s .pre .1 .0) (e .1))
+    let t = k .turn-at .ensures in
+    let h = c .before .before .before .before .before .before .before .before .before .before .if1 .taken in
+    let o = s .pre .1 .0 in (
+      omega (arith, h),
+      e .0,
+      turn-next (sh k) (i .k) (before k) _ (here k) (i .inv .2) (outlined-within o)
+          (e .1 (sh k .tensors) (met-access o h t) ∙ ap (λ (x : Step). performedStep (sh k .tensors) x (before k)) (t .step)),
+    )
 
 same-length : tie.Need-same-length Inv-loop μ-loop
-same-length c = c .before .loop .inv .2 .kept
+same-length c = c .before .before .loop .inv .2 .kept
 
 returns : tie.Need-returns Inv-loop μ-loop
 returns c =
-    let i = c .before .loop in
-    turns-end (c .before .before .before .before .before .before .before .args .t1) (i .k) _ _ (c .loop-test .left) (i .inv .2)
+    let i = c .before .before .loop in
+    let s = c .before .before .before .before .before .before .before .before in
+    turns-end (sheetOf (now (s .args .s))) (i .k) _ _ (omega (arith, c .if1 .left, all-steps (s .pre .1 .0))) (i .inv .2)
 
 pub perform-spec : {M : Type 1} → statement M
 perform-spec =
@@ -84,8 +119,7 @@ perform-spec =
     empty-types-requires
     no-counts-requires
     loop-holds
-    mul-c
-    element-copy-out-c
+    turn-at-requires
     perform-step-requires
     add-k
     loop-less

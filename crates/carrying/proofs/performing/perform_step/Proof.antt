@@ -1,12 +1,13 @@
 use mathlib.Core.Path.{ap, _∙_}
 use denote.Ref.{now}
-use Rattle.registers.specs.declared.Registers.{Registers}
+use Rattle.addressing.specs.declared.Access.{Access}
 use Rattle.transfers.specs.Acts.{state}
 use Rattle.whole_steps.specs.Laws.Within.{whole-ok}
 use Rattle.checking.specs.Steps.{checkedStep}
-use Rattle.checking.specs.Laws.Names.{load-register, load-window, load-object, store-register, store-window}
-use Rattle.carrying.specs.Steps.{machine, machineOf, registersOf, performedStep, loadDone}
-use Rattle.carrying.specs.Laws.Loops.{given-sized, load-clear, store-clear}
+use Rattle.checking.specs.Laws.Names.{load-register, load-object, store-register}
+use Rattle.carrying.specs.Steps.{machine, machineOf, registersOf, performedStep}
+use Rattle.carrying.specs.Laws.Done.{load-clear, store-clear, load-performed, store-performed}
+use native.Mathlib.Omega.{arith}
 use borrow.Author.Needs.{needs}
 use Rattle.carrying.proofs.performing.perform_step.Statement.{statement}
 use Rattle.carrying.proofs.performing.perform_step.Tie as tie
@@ -20,22 +21,18 @@ enum-known-step c = search needs
 with-object-requires : tie.Need-with-object-requires
 with-object-requires c κs =
     let s = c .before .before .before .before .before in
-    let ok = rw (c .before .before .step .given .1) at (s .pre .1 .1) in
-    ((load-register _ _ _ _ _ _ ok, load-object _ _ _ _ _ _ ok), (s .pre .0 .4 .sized, s .pre .0 .4 .past, s .pre .0 .4 .places))
+    let f = s .pre .0 .2 in
+    let ok = rw (c .before .before .step .given .1) at (s .pre .1 .1 .1 .0 .ok) in
+    ((load-register _ _ _ _ _ _ ok, load-object _ _ _ _ _ _ ok), (f .sized, f .past, f .places))
 
 perform-load-requires : tie.Need-perform-load-requires
 perform-load-requires c κs =
     let s = c .before .before .before .before .before .before .before .before .before in
     let g = c .before .before .before .before .before .before .step .given in
     let q = s .pre .0 in
-    let ok = rw (g .1) at (s .pre .1 .1) in
-    let n = load-register _ _ _ _ _ _ ok in
+    let d = rw (g .1) at (s .pre .1 .1 .1 .0) in
     let m = machineOf (s .args .types) (state (now (s .args .elements)) (now (s .args .memory)) (s .args .counts)) in
-    let w = ap (λ (r : Registers). r .types) (c .before .before .before .with-object .ensures) in
-    rw w (
-      (q .0, given-sized (s .pre .1 .0) (s .args .tensors) m (g .0 .0) (g .0 .1 .1 .0) (q .4) (g .0 .1 .0), n, q .1, q .2),
-      (load-clear (s .pre .1 .0) (s .args .tensors) m (g .0 .0) (g .0 .1 .1 .0) (q .4) n (g .0 .1 .0) (rw (g .1) at (s .pre .1 .2)), (load-window _ _ _ _ _ _ ok, q .3)),
-    )
+    ((load-clear _ _ m _ _ _ d (rw (g .1) at (s .pre .1 .1 .1 .1)), ap (λ (x : Access). x .memory) (d .access)), (load-register _ _ _ _ _ _ (d .ok), q .0, q .1))
 
 enum-known-step-2 : tie.Need-enum-known-step-2
 enum-known-step-2 c = search needs
@@ -45,11 +42,9 @@ perform-store-requires c κs =
     let s = c .before .before .before .before .before .before .before in
     let g = c .before .before .before .before .step2 .given in
     let q = s .pre .0 in
-    let ok = rw (g .1) at (s .pre .1 .1) in
-    let m = machineOf (s .args .types) (state (now (s .args .elements)) (now (s .args .memory)) (s .args .counts)) in (
-      (q .0, q .4 .sized, store-register _ _ _ _ ok, q .1, q .2),
-      (store-clear (s .pre .1 .0) (s .args .tensors) m (g .0 .0) (g .0 .1 .0) (rw (g .1) at (s .pre .1 .2)), (store-window _ _ _ _ ok, q .3)),
-    )
+    let d = rw (g .1) at (s .pre .1 .1 .1 .0) in
+    let m = machineOf (s .args .types) (state (now (s .args .elements)) (now (s .args .memory)) (s .args .counts)) in
+    ((store-clear _ _ m _ _ d (rw (g .1) at (s .pre .1 .1 .1 .1)), ap (λ (x : Access). x .memory) (d .access)), (store-register _ _ _ _ (d .ok), q .0, q .1))
 
 enum-known-step-3 : tie.Need-enum-known-step-3
 enum-known-step-3 c = search needs
@@ -59,34 +54,35 @@ unfolding checkedStep
 perform-whole-requires c κs =
     let s = c .before .before .before .before .before .before .before in
     let e = c .before .before .before .before .step3 .given .1 in
-    ((whole-ok _ _ (rw e at (s .pre .1 .1)), s .pre .0 .4 .sized, (s .pre .1 .0, rw e at (s .pre .1 .2))), (s .pre .0 .4 .past, s .pre .0 .4 .places, s .pre .0 .3))
+    let f = s .pre .0 .2 in
+    ((whole-ok _ _ (rw e at (s .pre .1 .1 .1 .0 .ok)), f .sized, (s .pre .1 .0, rw e at (s .pre .1 .1 .1 .1))), (f .past, f .places, s .pre .0 .1))
 
 returns : tie.Need-returns
 unfolding performedStep
-returns c = (c .before .before .before .pre .0 .3, rw (c .enum-told .given .1))
+returns c = (c .before .before .before .pre .0 .1, λ tensors q. rw (c .enum-told .given .1))
 
 same-length : tie.Need-same-length
 same-length c = search needs
 
 returns-2 : tie.Need-returns-2
-unfolding performedStep
 returns-2 c =
     let s = c .before .before .before .before .before .before .before .before .before .before in
     let g = c .before .before .before .before .before .before .before .step .given in
-    let e = c .perform-load .ensures in (
-      e .0,
-      rw (g .1)
-          (e .1
-          ∙ ap (loadDone (s .args .tensors) (g .0 .0) (g .0 .1 .1 .0))
-          (ap (λ (r : Registers). machine r (now (s .args .memory)) (s .args .counts)) (c .before .before .before .before .with-object .ensures))),
-    )
+    let e = c .perform-load .ensures in
+    let m = machineOf (s .args .types) (state (now (s .args .elements)) (now (s .args .memory)) (s .args .counts)) in
+    let l = load-register _ _ _ _ _ _ (rw (g .1) at (s .pre .1 .1 .1 .0 .ok)) in
+    (e .0, λ tensors q. rw (g .1) (load-performed tensors m _ _ _ (c .before .before .before .before .with-object .ensures) (rw (s .pre .0 .2 .registers) l) (rw (g .1) at q) (e .1)))
 
 same-length-2 : tie.Need-same-length-2
 same-length-2 c = search needs
 
 returns-3 : tie.Need-returns-3
-unfolding performedStep
-returns-3 c = let e = c .before .before .perform-store .ensures in (e .0, rw (c .before .before .before .before .before .before .before .step2 .given .1) (e .1))
+returns-3 c =
+    let s = c .before .before .before .before .before .before .before .before .before .before in
+    let g = c .before .before .before .before .before .before .before .step2 .given in
+    let e = c .before .before .perform-store .ensures in
+    let m = machineOf (s .args .types) (state (now (s .args .elements)) (now (s .args .memory)) (s .args .counts)) in
+    (e .0, λ tensors q. rw (g .1) (store-performed tensors m _ _ (rw (g .1) at q) (e .1)))
 
 same-length-3 : tie.Need-same-length-3
 same-length-3 c = search needs
@@ -96,7 +92,7 @@ unfolding performedStep
 returns-4 c =
     let s = c .before .before .before .before .before .before .before .before in
     let p = c .perform-whole .ensures in
-    (p .1 .0, rw (c .before .before .before .before .before .step3 .given .1) (λ i. machine (registersOf (p .0 i) (p .1 .1 i)) (now (s .args .memory)) (s .args .counts)))
+    (p .1 .0, λ tensors q. rw (c .before .before .before .before .before .step3 .given .1) (λ i. machine (registersOf (p .0 i) (p .1 .1 i)) (now (s .args .memory)) (s .args .counts)))
 
 pub perform-step-spec : {M : Type 1} → statement M
 perform-step-spec =
