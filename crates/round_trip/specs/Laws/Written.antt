@@ -16,6 +16,7 @@ use Rattle.kinds.specs.Widths.{kindOk, width, fits}
 use Rattle.kinds.specs.Interpretations.{packed, packedSigned, packedUnsigned, interpretationOk}
 use Rattle.sheet.specs.Sizes.{registerCount, layoutPlaces, viewPlaces, sizeLimit, sizeOk}
 use Rattle.sheet.specs.Editions.{newestEdition, editionOk, limits, sideOk}
+use Rattle.sheet.specs.Laws.Editions.{limits-side}
 use Rattle.sheet.specs.Codes.{editionTag, layoutTag, viewTag, clampCode, flagCode}
 use Rattle.tensor_ranges.specs.Layouts.{theDimension, theLayout, dimensionOk, layoutOk}
 use Rattle.tensor_ranges.specs.Views.{theViewDimension, theView, sizedRank, viewOk}
@@ -138,8 +139,7 @@ register-below : (x : ℕ) → ltb x registerCount ≡ true → x < 256
 register-below x e = omega (arith, ltb-true x registerCount e)
 
 side-below : (edition x : ℕ) → sideOk edition x ≡ true → x < 256
-unfolding limits
-side-below edition x e = omega (arith, between-high 1 16 x e)
+side-below edition x e = omega (arith, between-high 1 (limits edition .side) x e, limits-side edition)
 
 edition-below : (edition : ℕ) → editionOk edition ≡ true → edition < 256
 edition-below edition e = omega (arith, between-high 1 newestEdition edition e)
