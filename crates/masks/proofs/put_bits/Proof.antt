@@ -1,10 +1,11 @@
 use denote.Ref.{now}
 use mathlib.Core.Path.{_≡_, ap, sym, _∙_}
-use Prim.Native.Nat.{_+_, _-_, _*_, _≤_}
+use Prim.Native.Nat.{_+_, _-_, _*_, _≤_, _/_}
 use native.Mathlib.Omega.{arith}
 use borrow.Author.Needs.{needs}
 use lib.ListN.{length}
 use lib.Seq.{sets, length-sets}
+use Rattle.sheet.specs.Sizes.{matrixPlaces}
 use Rattle.masks.specs.Masks.{sumOf}
 use Rattle.masks.specs.Entries.{entryBit}
 use Rattle.masks.specs.Laws.Packed.{sum-none}
@@ -77,7 +78,7 @@ same-length c =
 returns : tie.Need-returns Inv-loop μ-loop
 returns c =
     let l = c .before .loop in
-    let e : l .i ≡ 8 = omega arith in
+    let e : l .i ≡ matrixPlaces / 32 = omega arith in
     (rw e at (l .inv .1), rw e at (l .inv .2))
 
 pub put-bits-spec : {M : Type 1} → statement M

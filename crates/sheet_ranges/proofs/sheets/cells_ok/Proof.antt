@@ -4,6 +4,7 @@ use Prim.Native.Nat.{_-_, _≤_}
 use Rattle.numbers.specs.Laws.Choice.{went-not, went-past}
 use Rattle.numbers.specs.All.{all}
 use Rattle.numbers.specs.Laws.All.{all-none, all-more, all-false}
+use Rattle.sheet.specs.Sizes.{stepPlaces}
 use Rattle.sheet_ranges.specs.Sheets.{stepAtOk}
 use borrow.Author.Needs.{needs}
 use native.Mathlib.Omega.{arith}
@@ -11,10 +12,10 @@ use Rattle.sheet_ranges.proofs.sheets.cells_ok.Statement.{statement}
 use Rattle.sheet_ranges.proofs.sheets.cells_ok.Tie as tie
 
 abbrev Inv-loop : tie.InvT-loop
-Inv-loop edition layouts views count cs k₀ k = (k ≤ 32) × (all k (stepAtOk edition layouts views count cs) ≡ true)
+Inv-loop edition layouts views count cs k₀ k = (k ≤ stepPlaces) × (all k (stepAtOk edition layouts views count cs) ≡ true)
 
 abbrev μ-loop : tie.MeasureT-loop
-μ-loop edition layouts views count cs k₀ k = 32 - k
+μ-loop edition layouts views count cs k₀ k = stepPlaces - k
 
 loop-holds : tie.Need-loop-holds Inv-loop μ-loop
 loop-holds c = (search needs, all-none _)
@@ -24,7 +25,7 @@ step-at-ok-requires c κs = search needs
 
 returns : tie.Need-returns Inv-loop μ-loop
 returns c =
-    sym (all-false 32 _ (c .before .before .before .loop .k) (c .before .before .loop-test .taken) (went-not (c .before .step-at-ok .ensures) (c .if1 .taken)))
+    sym (all-false stepPlaces _ (c .before .before .before .loop .k) (c .before .before .loop-test .taken) (went-not (c .before .step-at-ok .ensures) (c .if1 .taken)))
 
 add-k : tie.Need-add-k Inv-loop μ-loop
 add-k c = search needs
@@ -39,7 +40,7 @@ loop-again c =
 returns-2 : tie.Need-returns-2 Inv-loop μ-loop
 returns-2 c =
     let i = c .before .loop in
-    let e : i .k ≡ 32 = omega arith in
+    let e : i .k ≡ stepPlaces = omega arith in
     sym (rw e at (i .inv .1))
 
 pub cells-ok-spec : {M : Type 1} → statement M
