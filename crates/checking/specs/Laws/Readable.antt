@@ -1,6 +1,6 @@
 -- What is known of a sheet that is not refused for a memory of a length.
 use Prim.Native.Nat.{ℕ, _<_, _≤_}
-use mathlib.Core.Path.{_≡_, refl, sym, ap, _∙_}
+use mathlib.Core.Path.{_≡_, refl}
 use mathlib.Core.List.{List}
 use native.Mathlib.Omega.{arith}
 use borrow.Author.Tests.{eqb-true, eqb-false, eq-eqb, ne-eqb, leb-true, le-leb, lt-leb}
@@ -8,7 +8,6 @@ use lib.Dec.{eqb, leb}
 use Rattle.numbers.specs.Choice.{pick}
 use Rattle.numbers.specs.Laws.Choice.{pick-case, by-order}
 use Rattle.refusals.specs.Refusals.{memoryTooLarge}
-use Rattle.sheet.specs.declared.Sheet.{Sheet}
 use Rattle.sheet_reader.specs.Reading.{readSheet}
 use Rattle.sheet.specs.Sizes.{memoryLimit}
 use Rattle.sheet_ranges.specs.Laws.Within.{Within}
@@ -35,13 +34,6 @@ sheet-readable s len =
   where
     P : CheckAnswer → Type 0
     P c = c .refusal .number ≡ 0 → Readable s len
-
--- then its sheet is what was read
-pub judged-read : (s : List ℕ) (len : ℕ) {c : CheckAnswer} {sh : Sheet} → c ≡ checkedSheet s len → sh ≡ admitted s len .sheet → c .refusal .number ≡ 0 → sh ≡ readSheet s .sheet
-unfolding admitted pick
-judged-read s len e is fine =
-    let r = sheet-readable s len (ap (λ (x : CheckAnswer). x .refusal .number) (sym e) ∙ fine) in
-    rw (le-leb len memoryLimit (r .few)) at is
 
 -- a sheet that is not admitted is refused so by its check
 module _ (s : List ℕ) (len : ℕ) where
