@@ -1,6 +1,6 @@
 // The loads and stores of a sheet that its check accepts: the outcomes of their elements.
 ghost use Rattle.std.specs.Prelude.{◌≡◌, ◌<◌, length};
-ghost use Rattle.sheet.specs.Sizes.{matrixPlaces};
+ghost use Rattle.sheet.specs.Sizes.{matrix_places};
 ghost use Rattle.accepted.specs.Accepted.{ClearAccess, Listed};
 
 use addressing::Access;
@@ -15,8 +15,8 @@ pub struct Outcomes {
 
 // The entries are lent room. An access without rows is that of no element.
 pub fn survey_access(entries: &mut [u32; PLACES], access: Access) -> Outcomes
-    requires { (0 < access.rows → ClearAccess access) × (length entries.old ≡ matrixPlaces) }
-    ensures entries_len { length entries.new ≡ matrixPlaces }
+    requires { (0 < access.rows → ClearAccess access) × (length entries.old ≡ matrix_places) }
+    ensures entries_len { length entries.new ≡ matrix_places }
     ensures listed { Listed access entries.new result }
 {
     if access.rows < 1 {

@@ -1,14 +1,14 @@
 // The records of one load or store, counted and written, and its mask.
 ghost use Rattle.std.specs.Prelude.{◌≡◌, ℕ, ◌<◌, ◌≤◌, length};
 ghost use Rattle.std.proofs.lemmas.List.Edits.{sets};
-ghost use Rattle.sheet.specs.Sizes.{registerCount, stepPlaces, matrixPlaces};
-ghost use Rattle.addressing.specs.Rules.{elementsOf};
+ghost use Rattle.sheet.specs.Sizes.{register_count, step_places, matrix_places};
+ghost use Rattle.addressing.specs.Rules.{elements_of};
 ghost use Rattle.accesses.specs.Entries.{Told};
-ghost use Rattle.transfers.specs.Transfers.{outcomeOf};
-ghost use Rattle.accepted.specs.Accepted.{ClearAccess, entriesOutcome};
-ghost use Rattle.runs.specs.Runs.{runs, runsRecords};
-ghost use Rattle.masks.specs.Masks.{maskArea, maskPlace, bit_of, mask_of};
-ghost use Rattle.access_tapes.specs.Accesses.{accessOutcomes, accessRecords};
+ghost use Rattle.transfers.specs.Transfers.{outcome_of};
+ghost use Rattle.accepted.specs.Accepted.{ClearAccess, entries_outcome};
+ghost use Rattle.runs.specs.Runs.{runs, runs_records};
+ghost use Rattle.masks.specs.Masks.{mask_area, mask_place, bit_of, mask_of};
+ghost use Rattle.access_tapes.specs.Accesses.{access_outcomes, access_records};
 ghost use Rattle.access_tapes.specs.Writing.{Room, Wrote};
 
 use addressing::Access;
@@ -17,8 +17,8 @@ use sheet::sizes::PLACES;
 
 // How many runs the first `n` elements of a survey make, whatever bits fill an element.
 fn count_runs(entries: &[u32; PLACES], n: usize) -> usize
-    requires { n ≤ matrixPlaces }
-    ensures { (fill : ℕ) → result ≡ length (runs (entriesOutcome entries.now fill) n) }
+    requires { n ≤ matrix_places }
+    ensures { (fill : ℕ) → result ≡ length (runs (entries_outcome entries.now fill) n) }
 {
     let mut held = Run::Idle;
     let mut records = 0;
@@ -36,8 +36,8 @@ fn count_runs(entries: &[u32; PLACES], n: usize) -> usize
 
 // How many records the runs of an access are, by the entries that its check left.
 pub fn count_access(entries: &[u32; PLACES], access: Access) -> usize
-    requires { (elementsOf access ≤ matrixPlaces) × Told access entries.now }
-    ensures { (result ≡ length (runs (outcomeOf access) (elementsOf access))) × (result ≤ matrixPlaces) }
+    requires { (elements_of access ≤ matrix_places) × Told access entries.now }
+    ensures { (result ≡ length (runs (outcome_of access) (elements_of access))) × (result ≤ matrix_places) }
 {
     count_runs(entries, (access.rows as usize) * (access.columns as usize))
 }
@@ -52,8 +52,8 @@ fn write_runs(
     load: bool,
     register: u8,
 ) -> usize
-    requires { (n ≤ matrixPlaces) × (register < registerCount) × Room tape.old start (runsRecords load register (entriesOutcome entries.now fill) n) }
-    ensures { Wrote tape.old tape.new start (runsRecords load register (entriesOutcome entries.now fill) n) result }
+    requires { (n ≤ matrix_places) × (register < register_count) × Room tape.old start (runs_records load register (entries_outcome entries.now fill) n) }
+    ensures { Wrote tape.old tape.new start (runs_records load register (entries_outcome entries.now fill) n) result }
 {
     let mut held = Run::Idle;
     let mut at = start;
@@ -80,12 +80,12 @@ pub fn write_access(
     access: Access,
     register: u8,
 ) -> usize
-    requires clear_access { (0 < access.rows → ClearAccess access) × (length entries.old ≡ matrixPlaces) }
-    requires k_lt_step_places { (k < stepPlaces) × (maskArea ≤ length masks.old) }
-    requires register_lt_register_count { (register < registerCount) × Room tape.old at (accessRecords access register) }
-    ensures entries_len { length entries.new ≡ matrixPlaces }
-    ensures wrote { Wrote tape.old tape.new at (accessRecords access register) result }
-    ensures masks_after { masks.new ≡ sets masks.old (maskPlace k) (mask_of (bit_of (accessOutcomes access))) }
+    requires clear_access { (0 < access.rows → ClearAccess access) × (length entries.old ≡ matrix_places) }
+    requires k_lt_step_places { (k < step_places) × (mask_area ≤ length masks.old) }
+    requires register_lt_register_count { (register < register_count) × Room tape.old at (access_records access register) }
+    ensures entries_len { length entries.new ≡ matrix_places }
+    ensures wrote { Wrote tape.old tape.new at (access_records access register) result }
+    ensures masks_after { masks.new ≡ sets masks.old (mask_place k) (mask_of (bit_of (access_outcomes access))) }
 {
     let o = accepted::survey_access(entries, access);
     masks::put_mask(masks, k, entries, o.count);

@@ -1,12 +1,12 @@
 // All elements of a load or a store: refusals 9 to 15, and how many elements have a byte.
 ghost use Rattle.std.specs.Prelude.{◌≡◌, true, false, ◌≤◌, ◌<◌, length};
 ghost use Rattle.refusals.specs.Refusals.{stop_at};
-ghost use Rattle.tensor_ranges.specs.Layouts.{theDimension, layoutOk};
-ghost use Rattle.addressing.specs.Rules.{elementsOf};
+ghost use Rattle.tensor_ranges.specs.Layouts.{the_dimension, layout_ok};
+ghost use Rattle.addressing.specs.Rules.{elements_of};
 ghost use Rattle.addressing.specs.Valid.{SizedAccess, Planned};
-ghost use Rattle.sheet.specs.Sizes.{rankPlaces, matrixPlaces};
-ghost use Rattle.accesses.specs.Refusals.{elementOutcome, otherRank, blocksOne, storeBlocked, elementsRefusal, placedOne, checkedBy, checkedElements, checkedAccess};
-ghost use Rattle.accesses.specs.Entries.{Near, entry_of, entryOutcome, Surveyed, Told};
+ghost use Rattle.sheet.specs.Sizes.{rank_places, matrix_places};
+ghost use Rattle.accesses.specs.Refusals.{element_outcome, other_rank, blocks_one, store_blocked, elements_refusal, placed_one, checked_by, checked_elements, checked_access};
+ghost use Rattle.accesses.specs.Entries.{Near, entry_of, entry_outcome, Surveyed, Told};
 
 pub mod rows;
 
@@ -34,7 +34,7 @@ pub struct Tally {
 
 // Room for a survey's entries.
 pub fn no_entries() -> [u32; PLACES]
-    ensures { length result ≡ matrixPlaces }
+    ensures { length result ≡ matrix_places }
 {
     [0u32; PLACES]
 }
@@ -54,7 +54,7 @@ pub fn entry(o: Outcome) -> u32
 
 // The outcome that an entry stands for, where filled elements take these bits.
 pub fn outcome_of(entry: u32, fill: u32) -> Outcome
-    ensures { result ≡ entryOutcome fill entry }
+    ensures { result ≡ entry_outcome fill entry }
 {
     if entry == 0 {
         return Outcome::Skipped;
@@ -70,7 +70,7 @@ pub fn outcome_of(entry: u32, fill: u32) -> Outcome
 }
 
 pub fn placed_one(o: Outcome) -> usize
-    ensures { (result ≡ placedOne o) × (result ≤ 1) }
+    ensures { (result ≡ placed_one o) × (result ≤ 1) }
 {
     match o {
         Outcome::Skipped => 0,
@@ -87,7 +87,7 @@ const SHORT: u16 = 3;
 
 // Whether the elements go row by row: without a view, where not all dimensions are fixed.
 fn by_rows(viewed: bool, numbers: &[u16; LAYOUT_NUMBERS], rank: u8, count: usize) -> bool
-    requires { rank ≤ rankPlaces }
+    requires { rank ≤ rank_places }
     ensures { result ≡ true → (viewed ≡ false) × (0 < rank) }
 {
     if count < FEW {
@@ -105,8 +105,8 @@ fn by_rows(viewed: bool, numbers: &[u16; LAYOUT_NUMBERS], rank: u8, count: usize
 
 // The elements in order, up to the first that is refused, and each one's entry: row by row, or each located by itself.
 pub fn survey(entries: &mut [u32; PLACES], p: Plan) -> Tally
-    requires { Planned p × (length entries.old ≡ matrixPlaces) }
-    ensures { Surveyed (elementOutcome p.access) (elementsOf p.access) result entries.new }
+    requires { Planned p × (length entries.old ≡ matrix_places) }
+    ensures { Surveyed (element_outcome p.access) (elements_of p.access) result entries.new }
 {
     let count = p.count;
     let v = p.access.view;
@@ -146,7 +146,7 @@ pub fn survey(entries: &mut [u32; PLACES], p: Plan) -> Tally
 }
 
 fn refuse(number: u8, element: usize) -> Checked
-    ensures { result ≡ checkedBy (stop_at number element) 0 }
+    ensures { result ≡ checked_by (stop_at number element) 0 }
 {
     Checked {
         stop: Stop { number, element },
@@ -155,7 +155,7 @@ fn refuse(number: u8, element: usize) -> Checked
 }
 
 fn accept(placed: usize) -> Checked
-    ensures { result ≡ checkedBy (stop_at 0 0) placed }
+    ensures { result ≡ checked_by (stop_at 0 0) placed }
 {
     Checked {
         stop: Stop {
@@ -168,9 +168,9 @@ fn accept(placed: usize) -> Checked
 
 // Refusals 12 to 15. The search of 15 is entered where a test that goes once over the elements found a byte twice.
 fn check_elements(entries: &mut [u32; PLACES], p: Plan) -> Checked
-    requires { Planned p × (length entries.old ≡ matrixPlaces) }
-    ensures entries_len { length entries.new ≡ matrixPlaces }
-    ensures value { result ≡ checkedElements (elementOutcome p.access) (elementsOf p.access) (elementsRefusal p.access.load (elementOutcome p.access) (elementsOf p.access)) }
+    requires { Planned p × (length entries.old ≡ matrix_places) }
+    ensures entries_len { length entries.new ≡ matrix_places }
+    ensures value { result ≡ checked_elements (element_outcome p.access) (elements_of p.access) (elements_refusal p.access.load (element_outcome p.access) (elements_of p.access)) }
     ensures told { result.stop.number ≡ 0 → Told p.access entries.new }
 {
     let count = p.count;
@@ -192,7 +192,7 @@ fn check_elements(entries: &mut [u32; PLACES], p: Plan) -> Checked
 
 // Refusal 10.
 fn other_rank(a: Access) -> bool
-    ensures { result ≡ otherRank a }
+    ensures { result ≡ other_rank a }
 {
     if !a.viewed {
         return false;
@@ -206,16 +206,16 @@ fn other_rank(a: Access) -> bool
 }
 
 fn block_at(l: Layout, d: usize) -> u16
-    requires { d < rankPlaces }
-    ensures { result ≡ (theDimension l.dimensions d).block }
+    requires { d < rank_places }
+    ensures { result ≡ (the_dimension l.dimensions d).block }
 {
     let x = l.dimensions[d];
     x.block
 }
 
 fn blocks_one(l: Layout) -> bool
-    requires { layoutOk l ≡ true }
-    ensures { result ≡ blocksOne l }
+    requires { layout_ok l ≡ true }
+    ensures { result ≡ blocks_one l }
 {
     let rank = l.rank as usize;
     let mut d = 0;
@@ -230,8 +230,8 @@ fn blocks_one(l: Layout) -> bool
 
 // Refusal 11.
 fn store_blocked(a: Access) -> bool
-    requires { layoutOk a.layout ≡ true }
-    ensures { result ≡ storeBlocked a }
+    requires { layout_ok a.layout ≡ true }
+    ensures { result ≡ store_blocked a }
 {
     if a.load {
         return false;
@@ -243,9 +243,9 @@ fn store_blocked(a: Access) -> bool
 // Refusals 9 to 15 of a load or a store, in order, and how many of its elements have a byte. The entries are lent room: where it is
 // accepted, they stand for the outcomes of its elements.
 pub fn check_access(entries: &mut [u32; PLACES], a: Access) -> Checked
-    requires { SizedAccess a × (length entries.old ≡ matrixPlaces) }
-    ensures entries_len { length entries.new ≡ matrixPlaces }
-    ensures value { result ≡ checkedAccess a }
+    requires { SizedAccess a × (length entries.old ≡ matrix_places) }
+    ensures entries_len { length entries.new ≡ matrix_places }
+    ensures value { result ≡ checked_access a }
     ensures told { result.stop.number ≡ 0 → Told a entries.new }
 {
     if a.base % 16 != 0 {

@@ -1,16 +1,16 @@
 // The elements of a load or a store without a view, row by row of the layout's last dimension.
 ghost use Rattle.std.specs.Prelude.{◌≡◌, true, false, ℕ, ◌+◌, ◌-◌, ◌*◌, ◌≤◌, ◌<◌, negsuc, length};
 ghost use Rattle.numbers.specs.Lists.{line};
-ghost use Rattle.sheet.specs.Sizes.{matrixPlaces, rankPlaces, sizeLimit};
-ghost use Rattle.dimensions.specs.Dimensions.{partLimit};
+ghost use Rattle.sheet.specs.Sizes.{matrix_places, rank_places, size_limit};
+ghost use Rattle.dimensions.specs.Dimensions.{part_limit};
 ghost use Rattle.clamps.specs.Clamps.{outside};
 ghost use Rattle.clamps.specs.declared.Clamped.TheVariants.{At};
-ghost use Rattle.addressing.specs.Rules.{elementsOf, low_bits};
+ghost use Rattle.addressing.specs.Rules.{elements_of, low_bits};
 ghost use Rattle.addressing.specs.Rows.{last_of, Out, Inside};
 ghost use Rattle.addressing.specs.Valid.{ValidAccess, Planned, AtMost};
-ghost use Rattle.accesses.specs.Refusals.{elementOutcome};
+ghost use Rattle.accesses.specs.Refusals.{element_outcome};
 ghost use Rattle.accesses.specs.Entries.{Surveyed};
-ghost use Rattle.accesses.specs.Rows.{Passed, Went, Row, Shared, Even, sameEntryOf, farOf};
+ghost use Rattle.accesses.specs.Rows.{Passed, Went, Row, Shared, Even, same_entry_of, far_of};
 
 use crate::Tally;
 use addressing::rows::Inner;
@@ -30,7 +30,7 @@ fn smaller(a: usize, b: usize) -> usize
 
 // Entries of n elements from place `at` on that have the same outcome.
 fn put_same(entries: &mut [u32; PLACES], value: u32, at: usize, n: usize)
-    requires { (length entries.old ≡ matrixPlaces) × (at + n ≤ matrixPlaces) }
+    requires { (length entries.old ≡ matrix_places) × (at + n ≤ matrix_places) }
     ensures { entries.new ≡ line entries.old at (λ _. value) n }
 {
     let mut i: usize = 0;
@@ -42,7 +42,7 @@ fn put_same(entries: &mut [u32; PLACES], value: u32, at: usize, n: usize)
 
 // Entries of n elements from place `at` on whose bytes rise by a step.
 fn put_even(entries: &mut [u32; PLACES], byte: u32, step: u32, at: usize, n: u32)
-    requires { (length entries.old ≡ matrixPlaces) × (at + n ≤ matrixPlaces) × (byte + n * step < 4294967295) }
+    requires { (length entries.old ≡ matrix_places) × (at + n ≤ matrix_places) × (byte + n * step < 4294967295) }
     ensures { entries.new ≡ line entries.old at (λ i. byte + i * step + 1) n }
 {
     let mut i: u32 = 0;
@@ -73,9 +73,9 @@ fn survey_cells(
     to: usize,
     before: usize,
 ) -> Tally
-    requires shared { Shared a x fill × (t ≤ (rankPlaces - 1) * partLimit) × Row a (At t) k to × (from ≤ to) }
-    requires passed { Passed (elementOutcome a) (elementsOf a) (k + from) before entries.old }
-    ensures { Went (elementOutcome a) (elementsOf a) (k + to) result entries.new }
+    requires shared { Shared a x fill × (t ≤ (rank_places - 1) * part_limit) × Row a (At t) k to × (from ≤ to) }
+    requires passed { Passed (element_outcome a) (elements_of a) (k + from) before entries.old }
+    ensures { Went (element_outcome a) (elements_of a) (k + to) result entries.new }
 {
     let mut placed = before;
     let mut s = from;
@@ -94,7 +94,7 @@ fn survey_cells(
 
 // Whether n elements from a byte on, one step after the other, have all their bytes in memory, and blocks of 1 have them so.
 fn is_even(block: u16, size: usize, memory: usize, byte: usize, step: usize, n: usize) -> bool
-    requires { (size ≤ 4) × (n ≤ matrixPlaces) × (byte < 17179869184) × (step ≤ 262144) }
+    requires { (size ≤ 4) × (n ≤ matrix_places) × (byte < 17179869184) × (step ≤ 262144) }
     ensures { result ≡ true → Even block size memory byte step n }
 {
     if block != 1 {
@@ -119,9 +119,9 @@ fn survey_inside(
     to: usize,
     placed: usize,
 ) -> Tally
-    requires shared { Shared a x fill × (t ≤ (rankPlaces - 1) * partLimit) × Row a (At t) k to × Inside x inner × (from ≤ to) × (to ≤ inner.to) × (from < to → from ≡ inner.from) }
-    requires passed { Passed (elementOutcome a) (elementsOf a) (k + from) placed entries.old }
-    ensures { Went (elementOutcome a) (elementsOf a) (k + to) result entries.new }
+    requires shared { Shared a x fill × (t ≤ (rank_places - 1) * part_limit) × Row a (At t) k to × Inside x inner × (from ≤ to) × (to ≤ inner.to) × (from < to → from ≡ inner.from) }
+    requires passed { Passed (element_outcome a) (elements_of a) (k + from) placed entries.old }
+    ensures { Went (element_outcome a) (elements_of a) (k + to) result entries.new }
 {
     if to <= from {
         return stopped(0, 0, placed);
@@ -140,7 +140,7 @@ fn survey_inside(
 
 // The entry of every element outside the last dimension, or 0 where each has to be looked at.
 fn far_entry(load: bool, mode: ClampMode) -> u32
-    ensures { result ≡ sameEntryOf (outside load mode (negsuc 0) 1) }
+    ensures { result ≡ same_entry_of (outside load mode (negsuc 0) 1) }
 {
     match clamps::outside(load, mode, Coordinate::Below(0), 1) {
         Clamped::Refused => 0,
@@ -163,9 +163,9 @@ fn survey_outside(
     to: usize,
     placed: usize,
 ) -> Tally
-    requires shared { Shared a x fill × (t ≤ (rankPlaces - 1) * partLimit) × Row a (At t) k to × (from ≤ to) × (far ≡ farOf a) × ((s : ℕ) → from ≤ s → s < to → Out x s) }
-    requires passed { Passed (elementOutcome a) (elementsOf a) (k + from) placed entries.old }
-    ensures { Went (elementOutcome a) (elementsOf a) (k + to) result entries.new }
+    requires shared { Shared a x fill × (t ≤ (rank_places - 1) * part_limit) × Row a (At t) k to × (from ≤ to) × (far ≡ far_of a) × ((s : ℕ) → from ≤ s → s < to → Out x s) }
+    requires passed { Passed (element_outcome a) (elements_of a) (k + from) placed entries.old }
+    ensures { Went (element_outcome a) (elements_of a) (k + to) result entries.new }
 {
     if 0 < far {
         put_same(entries, far, k + from, to - from);
@@ -187,9 +187,9 @@ fn survey_at(
     n: usize,
     placed: usize,
 ) -> Tally
-    requires shared { Shared a x fill × (t ≤ (rankPlaces - 1) * partLimit) × Row a (At t) k n × Inside x inner × (far ≡ farOf a) }
-    requires passed { Passed (elementOutcome a) (elementsOf a) k placed entries.old }
-    ensures { Went (elementOutcome a) (elementsOf a) (k + n) result entries.new }
+    requires shared { Shared a x fill × (t ≤ (rank_places - 1) * part_limit) × Row a (At t) k n × Inside x inner × (far ≡ far_of a) }
+    requires passed { Passed (element_outcome a) (elements_of a) k placed entries.old }
+    ensures { Went (element_outcome a) (elements_of a) (k + n) result entries.new }
 {
     let from = smaller(inner.from as usize, n);
     let to = smaller(inner.to as usize, n);
@@ -219,9 +219,9 @@ fn survey_row(
     n: usize,
     placed: usize,
 ) -> Tally
-    requires shared { Shared a x fill × AtMost ((rankPlaces - 1) * partLimit) before × Row a before k n × Inside x inner × (0 < n) × (far ≡ farOf a) }
-    requires passed { Passed (elementOutcome a) (elementsOf a) k placed entries.old }
-    ensures { Went (elementOutcome a) (elementsOf a) (k + n) result entries.new }
+    requires shared { Shared a x fill × AtMost ((rank_places - 1) * part_limit) before × Row a before k n × Inside x inner × (0 < n) × (far ≡ far_of a) }
+    requires passed { Passed (element_outcome a) (elements_of a) k placed entries.old }
+    ensures { Went (element_outcome a) (elements_of a) (k + n) result entries.new }
 {
     match before {
         Clamped::Refused => stopped(OUTSIDE_UNDEFINED, k, placed),
@@ -252,8 +252,8 @@ fn is_far(far: u32, from: u32, to: u32, span: u32) -> bool
 
 // The elements in order, up to the first that is refused, and each one's entry.
 pub fn survey_rows(entries: &mut [u32; PLACES], p: Plan) -> Tally
-    requires { Planned p × (length entries.old ≡ matrixPlaces) × (p.access.viewed ≡ false) × (0 < p.tail.rank) }
-    ensures { Surveyed (elementOutcome p.access) (elementsOf p.access) result entries.new }
+    requires { Planned p × (length entries.old ≡ matrix_places) × (p.access.viewed ≡ false) × (0 < p.tail.rank) }
+    ensures { Surveyed (element_outcome p.access) (elements_of p.access) result entries.new }
 {
     let count = p.count;
     let a = p.access;

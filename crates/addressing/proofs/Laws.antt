@@ -9,15 +9,15 @@ use lib.IntN.{ℤ, pos, negsuc, ◌+ℤ◌}
 use lib.ListN.{get_or}
 use mathlib.Core.List.{List}
 use borrow.Author.Tests.{lt-ltb, le-ltb, le-leb, lt-leb, ltb-false}
-use Rattle.refusals.specs.Refusals.{indexTooLarge}
+use Rattle.refusals.specs.Refusals.{index_too_large}
 use Rattle.numbers.specs.Choice.{pick}
-use Rattle.numbers.specs.Laws.Choice.{pick-case, by_order}
-use Rattle.tensor_ranges.specs.Laws.Facts.{InSize, layout-some, layout-block, layout-size, layout-span, view-most, view-size}
-use Rattle.tensor_ranges.specs.Layouts.{layoutOk}
-use Rattle.tensor_ranges.specs.Views.{theViewDimension}
+use Rattle.numbers.specs.Laws.Choice.{pick_case, by_order}
+use Rattle.tensor_ranges.specs.Laws.Facts.{InSize, layout_some, layout_block, layout_size, layout_span, view_most, view_size}
+use Rattle.tensor_ranges.specs.Layouts.{layout_ok}
+use Rattle.tensor_ranges.specs.Views.{the_view_dimension}
 use Rattle.addressing.specs.Valid.{ValidAccess, Planned, AtMost}
 use Rattle.addressing.specs.Rows.{up_to, last_of, cell_of, Out, Inside}
-use Rattle.addressing.specs.Laws.Rows.{tensor-is-up}
+use Rattle.addressing.specs.Laws.Rows.{tensor_is_up}
 use Rattle.addressing.specs.declared.Plan.{Plan}
 use Rattle.sheet.specs.declared.ClampMode.{ClampMode}
 use Rattle.sheet.specs.declared.Clip.{Clip}
@@ -27,101 +27,101 @@ use Rattle.sheet.specs.declared.View.{View}
 use Rattle.addressing.specs.declared.Access.{Access}
 use Rattle.clamps.specs.declared.Clamped.{Clamped}
 use Rattle.clamps.specs.declared.Clamped.TheVariants.{Refused, Discarded, Filled, At}
-use Rattle.sheet.specs.Sizes.{rankPlaces, matrixPlaces, sizeLimit}
-use Rattle.view_indices.specs.Plans.{sizesOf, stridesOf}
-use Rattle.view_indices.specs.Laws.Indices.{five-at}
+use Rattle.sheet.specs.Sizes.{rank_places, matrix_places, size_limit}
+use Rattle.view_indices.specs.Plans.{sizes_of, strides_of}
+use Rattle.view_indices.specs.Laws.Indices.{five_at}
 use Rattle.dimensions.specs.declared.Tail.{Tail}
-use Rattle.dimensions.specs.Dimensions.{lead, tailOf, tailNumbers}
-use Rattle.dimensions.specs.Laws.Tails.{lead-most}
+use Rattle.dimensions.specs.Dimensions.{lead, tail_of, tail_numbers}
+use Rattle.dimensions.specs.Laws.Tails.{lead_most}
 use Rattle.addressing.specs.Plans.{planned}
-use Rattle.view_indices.specs.Indices.{viewSizes, viewStrides, span_of}
-use Rattle.spans.specs.Spans.{spanCoordinates}
-use Rattle.clamps.specs.Clamps.{twos, coordinateOf, clamped, sided}
+use Rattle.view_indices.specs.Indices.{view_sizes, view_strides, span_of}
+use Rattle.spans.specs.Spans.{span_coordinates}
+use Rattle.clamps.specs.Clamps.{twos, coordinate_of, clamped, sided}
 use Rattle.clamps.specs.declared.Sided.{Sided}
 use Rattle.clamps.specs.Laws.Offsets.{lower, upper}
-use Rattle.addressing.specs.Rules.{outsideClip, outsideView, elementsOf, clipWidth, low_bits, scaled, part, plus, tensorIndex, refused, settled, reached}
+use Rattle.addressing.specs.Rules.{outside_clip, outside_view, elements_of, clip_width, low_bits, scaled, part, plus, tensor_index, refused, settled, reached}
 
 -- Rule 1: inside the clip the offset can be subtracted
-pub clip-low : (c : Clip) (x : ℕ) → outsideClip c x ≡ false → c.offset ≤ x
-unfolding outsideClip
-clip-low c x e =
-    pick-case (λ (b : Bool). b ≡ false → c.offset ≤ x) (ltb x c.offset) true (leb (c.offset + c.span) x)
+pub clip_low : (c : Clip) (x : ℕ) → outside_clip c x ≡ false → c.offset ≤ x
+unfolding outside_clip
+clip_low c x e =
+    pick_case (λ (b : Bool). b ≡ false → c.offset ≤ x) (ltb x c.offset) true (leb (c.offset + c.span) x)
     (λ t q. absurd (true≢false q)) (λ t q. ltb-false _ _ t) e
 
 -- a position inside the clip of a view is so in both directions
-module _ (v : View) (row col : ℕ) (e : outsideView v row col ≡ false) where
-  pub inside-rows : outsideClip v.rows row ≡ false
-  unfolding outsideView
-  inside-rows =
-      pick-case (λ (b : Bool). b ≡ false → outsideClip v.rows row ≡ false) (outsideClip v.rows row) true (outsideClip v.columns col)
+module _ (v : View) (row col : ℕ) (e : outside_view v row col ≡ false) where
+  pub inside_rows : outside_clip v.rows row ≡ false
+  unfolding outside_view
+  inside_rows =
+      pick_case (λ (b : Bool). b ≡ false → outside_clip v.rows row ≡ false) (outside_clip v.rows row) true (outside_clip v.columns col)
       (λ t q. absurd (true≢false q)) (λ t q. t) e
 
-  pub inside-columns : outsideClip v.columns col ≡ false
-  unfolding outsideView
-  inside-columns =
-      pick-case (λ (b : Bool). b ≡ false → outsideClip v.columns col ≡ false) (outsideClip v.rows row) true (outsideClip v.columns col)
+  pub inside_columns : outside_clip v.columns col ≡ false
+  unfolding outside_view
+  inside_columns =
+      pick_case (λ (b : Bool). b ≡ false → outside_clip v.columns col ≡ false) (outside_clip v.rows row) true (outside_clip v.columns col)
       (λ t q. absurd (true≢false q)) (λ t q. q) e
 
 -- the product of a row and a width
-pub sides : (a b : ℕ) → a < matrixPlaces → b ≤ matrixPlaces → a * b ≤ matrixPlaces * matrixPlaces
-sides a b g h = mul-le-mul {n₁ = a} {m₁ = b} {n₂ = matrixPlaces} {m₂ = matrixPlaces} (omega arith) h
+pub sides : (a b : ℕ) → a < matrix_places → b ≤ matrix_places → a * b ≤ matrix_places * matrix_places
+sides a b g h = mul-le-mul {n₁ = a} {m₁ = b} {n₂ = matrix_places} {m₂ = matrix_places} (omega arith) h
 
 -- an element's row, its column and the columns are no more than the elements
-pub column-few : (k n : ℕ) → k % n ≤ k
-column-few k n = omega (arith, div-add-mod' k n)
+pub column_few : (k n : ℕ) → k % n ≤ k
+column_few k n = omega (arith, div-add-mod' k n)
 
-pub columns-few : (rows n k : ℕ) → k < rows * n → n ≤ rows * n
-columns-few zero n k h = absurd (not-suc-le-zero (rw zero-mul at h))
-columns-few (suc rows) n k h = rw (suc-mul rows n) (omega arith)
+pub columns_few : (rows n k : ℕ) → k < rows * n → n ≤ rows * n
+columns_few zero n k h = absurd (not-suc-le-zero (rw zero-mul at h))
+columns_few (suc rows) n k h = rw (suc-mul rows n) (omega arith)
 
 -- Rules 4 and 5 for one dimension
-pub part-is : (load : Bool) (mode : ClampMode) (d : Dimension) (s : ℕ) {x : Clamped}
-    → clamped load mode (coordinateOf d s) d.size ≡ x → scaled d x ≡ part load mode d s
+pub part_is : (load : Bool) (mode : ClampMode) (d : Dimension) (s : ℕ) {x : Clamped}
+    → clamped load mode (coordinate_of d s) d.size ≡ x → scaled d x ≡ part load mode d s
 unfolding part
-part-is load mode d s e = rw e
+part_is load mode d s e = rw e
 
 -- the same by what its calls give: the offset and the dimension as wider numbers, the sum, and the sum clamped
-pub part-told : (load : Bool) (mode : ClampMode) (d : Dimension) (s : ℕ) {offset n : ℕ} {c : ℤ} {r : Sided} {x : Clamped}
+pub part_told : (load : Bool) (mode : ClampMode) (d : Dimension) (s : ℕ) {offset n : ℕ} {c : ℤ} {r : Sided} {x : Clamped}
     → offset ≡ d.offset → c ≡ pos s +ℤ twos offset → n ≡ d.size → r ≡ sided load mode c n → r.clamped ≡ x → scaled d x ≡ part load mode d s
-part-told load mode d s {x = x} e f g h i = part-is load mode d s {x = x} (rw (← e, ← f, ← g) (sym (ap (λ (y : Sided). y.clamped) h) ∙ i))
+part_told load mode d s {x = x} e f g h i = part_is load mode d s {x = x} (rw (← e, ← f, ← g) (sym (ap (λ (y : Sided). y.clamped) h) ∙ i))
 
 -- the fixed dimensions and those after them are all
-pub tail-whole : (l : Layout) (t : Tail) → t ≡ tailOf l → lead l + t.rank ≡ l.rank
-unfolding tailOf
-tail-whole l t e = rw e (omega (arith, lead-most l))
+pub tail_whole : (l : Layout) (t : Tail) → t ≡ tail_of l → lead l + t.rank ≡ l.rank
+unfolding tail_of
+tail_whole l t e = rw e (omega (arith, lead_most l))
 
 -- a bound may be wider
-pub at-most-more : {m n : ℕ} (x : Clamped) → m ≤ n → AtMost m x → AtMost n x
-at-most-more Refused h b = b
-at-most-more Discarded h b = b
-at-most-more Filled h b = b
-at-most-more (At x) h b = omega arith
+pub at_most_more : {m n : ℕ} (x : Clamped) → m ≤ n → AtMost m x → AtMost n x
+at_most_more Refused h b = b
+at_most_more Discarded h b = b
+at_most_more Filled h b = b
+at_most_more (At x) h b = omega arith
 
 -- the last dimension
-module _ (l : Layout) (ok : layoutOk l ≡ true) where
-  last-inside : l.rank - 1 < l.rank
-  last-inside = omega (arith, layout-some l ok)
+module _ (l : Layout) (ok : layout_ok l ≡ true) where
+  last_inside_lem : l.rank - 1 < l.rank
+  last_inside_lem = omega (arith, layout_some l ok)
 
-  pub last-size : InSize (last_of l).size
-  last-size = layout-size l ok (l.rank - 1) last-inside
+  pub last_size : InSize (last_of l).size
+  last_size = layout_size l ok (l.rank - 1) last_inside_lem
 
   pub last_block : InSize (last_of l).block
-  last_block = layout-block l ok (l.rank - 1) last-inside
+  last_block = layout_block l ok (l.rank - 1) last_inside_lem
 
-  pub last-span : InSize (last_of l).span
-  last-span = layout-span l ok (l.rank - 1) last-inside
+  pub last_span : InSize (last_of l).span
+  last_span = layout_span l ok (l.rank - 1) last_inside_lem
 
 -- an element of a row, by what its last dimension gives
-pub cell-is : (a : Access) (t s : ℕ) {x : Dimension} (y : Clamped) → x ≡ last_of a.layout → part a.load a.layout.mode x s ≡ y
+pub cell_is : (a : Access) (t s : ℕ) {x : Dimension} (y : Clamped) → x ≡ last_of a.layout → part a.load a.layout.mode x s ≡ y
     → settled a (plus (At t) y) ≡ cell_of a (At t) s
-cell-is a t s y e f =
+cell_is a t s y e f =
     ap (λ (z : Clamped). settled a (plus (At t) z)) (sym f ∙ ap (λ (d : Dimension). part a.load a.layout.mode d s) e)
 
 -- a coordinate that is inside
-part-inside : (load : Bool) (mode : ClampMode) (d : Dimension) (s c : ℕ) → coordinateOf d s ≡ pos c → c < d.size
+part_inside : (load : Bool) (mode : ClampMode) (d : Dimension) (s c : ℕ) → coordinate_of d s ≡ pos c → c < d.size
     → part load mode d s ≡ At (c / d.block * d.stride)
 unfolding part clamped pick
-part-inside load mode d s c e h = rw (e, lt-leb d.size c h)
+part_inside load mode d s c e h = rw (e, lt-leb d.size c h)
 
 past : (s b c : ℕ) → s ≡ b + 1 + c → pos s +ℤ negsuc b ≡ pos c
 past s b c e = simp (le-ltb s (suc b) (omega arith)) (ap pos (omega arith))
@@ -130,102 +130,102 @@ before : (s b : ℕ) → s ≤ b → pos s +ℤ negsuc b ≡ negsuc (b - s)
 before s b h = simp (lt-ltb s (suc b) (omega arith)) (ap negsuc (omega arith))
 
 -- the same by the low 16 bits of the sum: an offset is 16 bits, and below 0 they are past every size
-pub part-near : (load : Bool) (mode : ClampMode) (d : Dimension) (s : ℕ) {raw c : ℕ} → InSize d.size → s < sizeLimit → raw ≡ d.offset → raw < 65536
+pub part_near : (load : Bool) (mode : ClampMode) (d : Dimension) (s : ℕ) {raw c : ℕ} → InSize d.size → s < size_limit → raw ≡ d.offset → raw < 65536
     → c ≡ (s + raw) % 65536 → c < d.size → part load mode d s ≡ At (c / d.block * d.stride)
-part-near load mode d s {raw} {c} ok h e m f g =
-    part-inside load mode d s c
+part_near load mode d s {raw} {c} ok h e m f g =
+    part_inside load mode d s c
     (by_order raw 32768
     (λ l. let z : twos d.offset ≡ pos raw = rw (← e) (lower raw l) in rw z (ap pos (omega arith)))
     (λ l. let z : twos d.offset ≡ negsuc (65535 - raw) = rw (← e) (upper raw m l) in rw z (past s (65535 - raw) c (omega (arith, ok.most)))))
     g
 
 -- coordinates outside
-out_below : (d : Dimension) (s b : ℕ) → coordinateOf d s ≡ negsuc b → Out d s
+out_below : (d : Dimension) (s b : ℕ) → coordinate_of d s ≡ negsuc b → Out d s
 unfolding clamped
 out_below d s b e load mode = rw e refl
 
-out-above : (d : Dimension) (s c : ℕ) → coordinateOf d s ≡ pos c → d.size ≤ c → Out d s
+out_above : (d : Dimension) (s c : ℕ) → coordinate_of d s ≡ pos c → d.size ≤ c → Out d s
 unfolding clamped pick
-out-above d s c e h load mode = rw (e, le-leb d.size c h) refl
+out_above d s c e h load mode = rw (e, le-leb d.size c h) refl
 
 module _ (d : Dimension) (ok : InSize d.size) {raw size : ℕ} (e : raw ≡ d.offset) (f : size ≡ d.size) where
-  pub inside-lower : {to : ℕ} → raw < 32768 → to ≡ size - raw → Inside d (record { from = 0; to = to; first = raw })
-  inside-lower h t =
+  pub inside_lower : {to : ℕ} → raw < 32768 → to ≡ size - raw → Inside d (record { from = 0; to = to; first = raw })
+  inside_lower h t =
       let z : twos d.offset ≡ pos raw = rw (← e) (lower raw h) in
       record {
         starts = omega arith;
         most = λ l. omega (arith, ok.most);
-        each = λ load mode i l. part-inside load mode d (0 + i) (raw + i) (rw z (ap pos (omega arith))) (omega arith);
+        each = λ load mode i l. part_inside load mode d (0 + i) (raw + i) (rw z (ap pos (omega arith))) (omega arith);
         below = λ s l. absurd (not-suc-le-zero l);
-        above = λ s l. out-above d s (s + raw) (rw z refl) (omega arith);
+        above = λ s l. out_above d s (s + raw) (rw z refl) (omega arith);
       }
 
-  pub inside-upper : raw < 65536 → 32768 ≤ raw → Inside d (record { from = 65536 - raw; to = 65536 - raw + size; first = 0 })
-  inside-upper l h =
+  pub inside_upper : raw < 65536 → 32768 ≤ raw → Inside d (record { from = 65536 - raw; to = 65536 - raw + size; first = 0 })
+  inside_upper l h =
       let z : twos d.offset ≡ negsuc (65535 - raw) = rw (← e) (upper raw l h) in
       record {
         starts = omega arith;
         most = λ m. omega (arith, ok.most);
-        each = λ load mode i m. part-inside load mode d (65536 - raw + i) (0 + i) (rw z (past (65536 - raw + i) (65535 - raw) (0 + i) (omega arith))) (omega arith);
+        each = λ load mode i m. part_inside load mode d (65536 - raw + i) (0 + i) (rw z (past (65536 - raw + i) (65535 - raw) (0 + i) (omega arith))) (omega arith);
         below = λ s m. out_below d s (65535 - raw - s) (rw z (before s (65535 - raw) (omega arith)));
-        above = λ s m. out-above d s (s - (65536 - raw)) (rw z (past s (65535 - raw) (s - (65536 - raw)) (omega arith))) (omega arith);
+        above = λ s m. out_above d s (s - (65536 - raw)) (rw z (past s (65535 - raw) (s - (65536 - raw)) (omega arith))) (omega arith);
       }
 
 module _ (a : Access) where
-  pub reached-far : (index : ℕ) → 2 ^ 32 ≤ index → refused indexTooLarge ≡ reached a index
+  pub reached_far : (index : ℕ) → 2 ^ 32 ≤ index → refused index_too_large ≡ reached a index
   unfolding reached pick
-  reached-far index h = rw (le-leb _ _ h)
+  reached_far index h = rw (le-leb _ _ h)
 
-  pub reached-is : (index : ℕ) (x : Clamped) → index < 2 ^ 32
-      → tensorIndex a.load a.layout (spanCoordinates a.layout index) a.layout.rank ≡ x → settled a x ≡ reached a index
+  pub reached_is : (index : ℕ) (x : Clamped) → index < 2 ^ 32
+      → tensor_index a.load a.layout (span_coordinates a.layout index) a.layout.rank ≡ x → settled a x ≡ reached a index
   unfolding reached pick
-  reached-is index x h e = rw (lt-leb _ _ h, e)
+  reached_is index x h e = rw (lt-leb _ _ h, e)
 
   -- the same by what the loop over the dimensions after the fixed ones gives
-  pub reached-up : (index : ℕ) (x : Clamped) (t : Tail) → ValidAccess a → t ≡ tailOf a.layout → index < 2 ^ 32
+  pub reached_up : (index : ℕ) (x : Clamped) (t : Tail) → ValidAccess a → t ≡ tail_of a.layout → index < 2 ^ 32
       → up_to a.load a.layout (lead a.layout + t.rank) index ≡ x → settled a x ≡ reached a index
-  reached-up index x t ok e h f =
-      reached-is index x h (tensor-is-up a.load a.layout ok.sized.layout index ∙ (rw (tail-whole a.layout t e) at f))
+  reached_up index x t ok e h f =
+      reached_is index x h (tensor_is_up a.load a.layout ok.sized.layout index ∙ (rw (tail_whole a.layout t e) at f))
 
 -- Rule 2: the sizes of a view's dimensions
-pub view-sizes-in : (a : Access) → ValidAccess a → a.viewed ≡ true → (i : ℕ) → i < a.view.rank
-    → InSize (get_or (viewSizes a.layout a.view) i 0)
-unfolding viewSizes
-view-sizes-in a ok e i h =
-    let m : i < rankPlaces = omega (arith, view-most a.view (ok.sized.view e)) in
-    pick-case (λ (l : List ℕ). InSize (get_or l i 0)) a.view.sized _ _
-    (λ t. rw (five-at (λ (k : ℕ). (theViewDimension a.view.dimensions k).size) i m) (view-size a.view (ok.sized.view e) i h t))
-    (λ t. rw (five-at (span_of a.layout) i m) (layout-span a.layout ok.sized.layout i (omega (arith, ok.ranks e t))))
+pub view_sizes_in : (a : Access) → ValidAccess a → a.viewed ≡ true → (i : ℕ) → i < a.view.rank
+    → InSize (get_or (view_sizes a.layout a.view) i 0)
+unfolding view_sizes
+view_sizes_in a ok e i h =
+    let m : i < rank_places = omega (arith, view_most a.view (ok.sized.view e)) in
+    pick_case (λ (l : List ℕ). InSize (get_or l i 0)) a.view.sized _ _
+    (λ t. rw (five_at (λ (k : ℕ). (the_view_dimension a.view.dimensions k).size) i m) (view_size a.view (ok.sized.view e) i h t))
+    (λ t. rw (five_at (span_of a.layout) i m) (layout_span a.layout ok.sized.layout i (omega (arith, ok.ranks e t))))
 
 -- a plan is put together of its parts
-pub plan-is : (a : Access) {width fill : ℕ} {sizes strides numbers : List ℕ} {tail : Tail}
-    → width ≡ clipWidth a.view a.columns → fill ≡ low_bits a → sizes ≡ sizesOf a.viewed a.layout a.view → strides ≡ stridesOf a.viewed a.layout a.view
-    → tail ≡ tailOf a.layout → numbers ≡ tailNumbers a.layout
-    → record { access = a; count = elementsOf a; width = width; fill = fill; sizes = sizes; strides = strides; tail = tail; numbers = numbers } ≡ planned a
+pub plan_is : (a : Access) {width fill : ℕ} {sizes strides numbers : List ℕ} {tail : Tail}
+    → width ≡ clip_width a.view a.columns → fill ≡ low_bits a → sizes ≡ sizes_of a.viewed a.layout a.view → strides ≡ strides_of a.viewed a.layout a.view
+    → tail ≡ tail_of a.layout → numbers ≡ tail_numbers a.layout
+    → record { access = a; count = elements_of a; width = width; fill = fill; sizes = sizes; strides = strides; tail = tail; numbers = numbers } ≡ planned a
 unfolding planned
-plan-is a e f g h i j = rw (e, f, g, h, i, j) refl
+plan_is a e f g h i j = rw (e, f, g, h, i, j) refl
 
 -- the parts of a plan
 module _ (p : Plan) (ok : Planned p) where
-  pub plan-width : p.width ≡ clipWidth p.access.view p.access.columns
+  pub plan_width : p.width ≡ clip_width p.access.view p.access.columns
   unfolding planned
-  plan-width = ap (λ (q : Plan). q.width) ok.same
+  plan_width = ap (λ (q : Plan). q.width) ok.same
 
-  pub plan-sizes : p.access.viewed ≡ true → p.sizes ≡ viewSizes p.access.layout p.access.view
-  unfolding planned sizesOf pick
-  plan-sizes e = rw e at (ap (λ (q : Plan). q.sizes) ok.same)
+  pub plan_sizes : p.access.viewed ≡ true → p.sizes ≡ view_sizes p.access.layout p.access.view
+  unfolding planned sizes_of pick
+  plan_sizes e = rw e at (ap (λ (q : Plan). q.sizes) ok.same)
 
-  pub plan-strides : p.access.viewed ≡ true → p.strides ≡ viewStrides p.access.layout p.access.view
-  unfolding planned stridesOf pick
-  plan-strides e = rw e at (ap (λ (q : Plan). q.strides) ok.same)
+  pub plan_strides : p.access.viewed ≡ true → p.strides ≡ view_strides p.access.layout p.access.view
+  unfolding planned strides_of pick
+  plan_strides e = rw e at (ap (λ (q : Plan). q.strides) ok.same)
 
-  pub plan-numbers : p.numbers ≡ tailNumbers p.access.layout
+  pub plan_numbers : p.numbers ≡ tail_numbers p.access.layout
   unfolding planned
-  plan-numbers = ap (λ (q : Plan). q.numbers) ok.same
+  plan_numbers = ap (λ (q : Plan). q.numbers) ok.same
 
-  pub plan-tail : p.tail ≡ tailOf p.access.layout
+  pub plan_tail : p.tail ≡ tail_of p.access.layout
   unfolding planned
-  plan-tail = ap (λ (q : Plan). q.tail) ok.same
+  plan_tail = ap (λ (q : Plan). q.tail) ok.same
 
 -- a fact, and what follows from it
 pub and_so : {P Q : Type 0} → P → (P → Q) → P × Q

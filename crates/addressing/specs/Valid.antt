@@ -1,26 +1,26 @@
 -- What an access must keep to for its elements to be looked at.
 use Rattle.std.specs.Prelude.{ℕ, ◌*◌, ◌^◌, ◌<◌, ◌≤◌, ◌≡◌, true, false, get_or}
-use Rattle.tensor_ranges.specs.Layouts.{layoutOk}
-use Rattle.tensor_ranges.specs.Views.{viewOk}
+use Rattle.tensor_ranges.specs.Layouts.{layout_ok}
+use Rattle.tensor_ranges.specs.Views.{view_ok}
 use Rattle.addressing.specs.declared.Access.{Access}
 use Rattle.addressing.specs.declared.Plan.{Plan}
 use Rattle.clamps.specs.declared.Clamped.{Clamped}
 use Rattle.clamps.specs.declared.Clamped.TheVariants.{Refused, Discarded, Filled, At}
-use Rattle.sheet.specs.Sizes.{matrixPlaces, memoryLimit, sizeLimit}
-use Rattle.addressing.specs.Rules.{elementsOf}
-use Rattle.dimensions.specs.Dimensions.{lead, partLimit}
+use Rattle.sheet.specs.Sizes.{matrix_places, memory_limit, size_limit}
+use Rattle.addressing.specs.Rules.{elements_of}
+use Rattle.dimensions.specs.Dimensions.{lead, part_limit}
 use Rattle.addressing.specs.Plans.{planned}
 
 -- the layout, the view and the memory keep to Sizes, an element is 1, 2 or 4 bytes, and the matrix has columns and at most a register's elements
 pub record SizedAccess (a : Access) : Type 0 where
-  pub layout : layoutOk a.layout ≡ true
-  pub view : a.viewed ≡ true → viewOk a.view ≡ true
+  pub layout : layout_ok a.layout ≡ true
+  pub view : a.viewed ≡ true → view_ok a.view ≡ true
   pub some : 0 < a.size
   pub most : a.size ≤ 4
   pub odd : a.size ≡ 3 → ⊥
-  pub memory : a.memory ≤ memoryLimit
+  pub memory : a.memory ≤ memory_limit
   pub wide : 0 < a.columns
-  pub area : elementsOf a ≤ matrixPlaces
+  pub area : elements_of a ≤ matrix_places
 
 -- besides, a view without dimensions has the layout's dimension count (no refusal 10)
 pub record ValidAccess (a : Access) : Type 0 where
@@ -31,9 +31,9 @@ pub record ValidAccess (a : Access) : Type 0 where
 pub record Planned (p : Plan) : Type 0 where
   pub valid : ValidAccess p.access
   pub same : p ≡ planned p.access
-  pub few : p.count ≤ matrixPlaces
-  pub strides : (i : ℕ) → get_or p.strides i 0 ≤ sizeLimit ^ 4
-  pub start : p.tail.start ≤ lead p.access.layout * partLimit
+  pub few : p.count ≤ matrix_places
+  pub strides : (i : ℕ) → get_or p.strides i 0 ≤ size_limit ^ 4
+  pub start : p.tail.start ≤ lead p.access.layout * part_limit
 
 -- what rule 5 gives is at most n, where it gives an index
 abbrev pub AtMost : ℕ → Clamped → Type 0

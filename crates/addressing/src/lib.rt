@@ -1,9 +1,9 @@
 // Where one element of a load or a store goes (document 01, "Where an element goes").
 ghost use Rattle.std.specs.Prelude.{◌≡◌, ◌*◌, ◌/◌, ◌^◌, ◌%◌, ◌≤◌, ◌<◌, min};
-ghost use Rattle.sheet.specs.Sizes.{rankPlaces};
-ghost use Rattle.dimensions.specs.Dimensions.{lead, tailOf, tailNumbers, partLimit};
+ghost use Rattle.sheet.specs.Sizes.{rank_places};
+ghost use Rattle.dimensions.specs.Dimensions.{lead, tail_of, tail_numbers, part_limit};
 ghost use Rattle.addressing.specs.Plans.{planned};
-ghost use Rattle.addressing.specs.Rules.{elementsOf, low_bits, addressed, reached, indexed, located, refused, answered};
+ghost use Rattle.addressing.specs.Rules.{elements_of, low_bits, addressed, reached, indexed, located, refused, answered};
 ghost use Rattle.addressing.specs.Valid.{ValidAccess, Planned};
 
 pub mod clips;
@@ -128,7 +128,7 @@ pub fn answer(o: Outcome) -> Located
 
 // Rule 5: the byte of a tensor index, which is below 2 to the 31st, so that nothing wraps.
 pub fn address(a: Access, t: u32) -> Located
-    requires { ValidAccess a × (t ≤ rankPlaces * partLimit) }
+    requires { ValidAccess a × (t ≤ rank_places * part_limit) }
     ensures { result ≡ addressed a t }
 {
     let size = a.size;
@@ -142,7 +142,7 @@ pub fn address(a: Access, t: u32) -> Located
 
 // Refusal 12, then rules 3 to 5.
 fn reach(a: Access, numbers: &[u16; LAYOUT_NUMBERS], tail: Tail, fill: u32, index: u64) -> Located
-    requires { ValidAccess a × (fill ≡ low_bits a) × (numbers.now ≡ tailNumbers a.layout) × (tail ≡ tailOf a.layout) × (tail.start ≤ lead a.layout * partLimit) }
+    requires { ValidAccess a × (fill ≡ low_bits a) × (numbers.now ≡ tail_numbers a.layout) × (tail ≡ tail_of a.layout) × (tail.start ≤ lead a.layout * part_limit) }
     ensures { result ≡ reached a index }
 {
     if INDEX_LIMIT <= index {
@@ -165,7 +165,7 @@ pub fn index_of(
     strides: &[u64; RANK],
     k: u32,
 ) -> Indexed
-    requires planned { Planned p × (k < elementsOf p.access) }
+    requires planned { Planned p × (k < elements_of p.access) }
     requires permutation_value { (permutation.now ≡ p.access.view.permutation) × (sizes.now ≡ p.sizes) × (strides.now ≡ p.strides) }
     ensures { result ≡ indexed p.access (k / p.access.columns) (k % p.access.columns) }
 {
@@ -191,7 +191,7 @@ pub fn locate(
     numbers: &[u16; LAYOUT_NUMBERS],
     k: u32,
 ) -> Located
-    requires planned { Planned p × (k < elementsOf p.access) }
+    requires planned { Planned p × (k < elements_of p.access) }
     requires permutation_value { (permutation.now ≡ p.access.view.permutation) × (sizes.now ≡ p.sizes) × (strides.now ≡ p.strides) × (numbers.now ≡ p.numbers) }
     ensures { result ≡ located p.access (k / p.access.columns) (k % p.access.columns) }
 {

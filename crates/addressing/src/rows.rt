@@ -1,8 +1,8 @@
 // Elements without a view, row by row: their numbers have the same quotient by the last span, so that all dimensions but the last add the same.
 ghost use Rattle.std.specs.Prelude.{◌≡◌, ◌-◌, ◌*◌, ◌≤◌, ◌<◌};
 ghost use Rattle.tensor_ranges.specs.Laws.Facts.{InSize};
-ghost use Rattle.sheet.specs.Sizes.{rankPlaces, sizeLimit};
-ghost use Rattle.dimensions.specs.Dimensions.{partLimit};
+ghost use Rattle.sheet.specs.Sizes.{rank_places, size_limit};
+ghost use Rattle.dimensions.specs.Dimensions.{part_limit};
 ghost use Rattle.clamps.specs.declared.Clamped.TheVariants.{At};
 ghost use Rattle.addressing.specs.Rules.{low_bits};
 ghost use Rattle.addressing.specs.Rows.{up_to, last_of, cell_of, Inside};
@@ -19,7 +19,7 @@ use view_indices::wide;
 // What all dimensions but the last add for the elements of a row.
 pub fn row_start(p: Plan, numbers: &[u16; LAYOUT_NUMBERS], row: u32) -> Clamped
     requires { Planned p × (numbers.now ≡ p.numbers) × (0 < p.tail.rank) }
-    ensures { (result ≡ up_to p.access.load p.access.layout (p.access.layout.rank - 1) row) × AtMost ((rankPlaces - 1) * partLimit) result }
+    ensures { (result ≡ up_to p.access.load p.access.layout (p.access.layout.rank - 1) row) × AtMost ((rank_places - 1) * part_limit) result }
 {
     let tail = p.tail;
     let rank = tail.rank as usize - 1;
@@ -36,7 +36,7 @@ pub fn last_dimension(p: Plan, numbers: &[u16; LAYOUT_NUMBERS]) -> Dimension
 
 // Rules 4 and 5 for the element at span coordinate s of a row, to which the dimensions before the last add t.
 pub fn cell(a: Access, x: Dimension, fill: u32, t: u32, s: u32) -> Located
-    requires { ValidAccess a × (x ≡ last_of a.layout) × (fill ≡ low_bits a) × (s < sizeLimit) × (t ≤ (rankPlaces - 1) * partLimit) }
+    requires { ValidAccess a × (x ≡ last_of a.layout) × (fill ≡ low_bits a) × (s < size_limit) × (t ≤ (rank_places - 1) * part_limit) }
     ensures { result ≡ cell_of a (At t) s }
 {
     let l = a.layout;

@@ -1,9 +1,9 @@
 // Rules 3 to 5.
 ghost use Rattle.std.specs.Prelude.{◌≡◌, true, ◌+◌, ◌*◌, ◌≤◌, ◌<◌};
-ghost use Rattle.tensor_ranges.specs.Layouts.{layoutOk};
+ghost use Rattle.tensor_ranges.specs.Layouts.{layout_ok};
 ghost use Rattle.tensor_ranges.specs.Laws.Facts.{InSize};
-ghost use Rattle.sheet.specs.Sizes.{sizeLimit};
-ghost use Rattle.dimensions.specs.Dimensions.{lead, tailOf, tailNumbers, partLimit};
+ghost use Rattle.sheet.specs.Sizes.{size_limit};
+ghost use Rattle.dimensions.specs.Dimensions.{lead, tail_of, tail_numbers, part_limit};
 ghost use Rattle.addressing.specs.Rules.{part};
 ghost use Rattle.addressing.specs.Rows.{up_to};
 ghost use Rattle.addressing.specs.Valid.{AtMost};
@@ -16,8 +16,8 @@ use view_indices::wide;
 
 // Rules 4 and 5 for a dimension at span coordinate s: at most 4,096 times 65,536, 2 to the 28th.
 pub fn part(load: bool, mode: ClampMode, d: Dimension, s: u32) -> Clamped
-    requires { InSize d.size × InSize d.block × (s < sizeLimit) }
-    ensures { (result ≡ part load mode d s) × AtMost partLimit result }
+    requires { InSize d.size × InSize d.block × (s < size_limit) }
+    ensures { (result ≡ part load mode d s) × AtMost part_limit result }
 {
     let c = clamps::shifted(s, wide(d.offset));
     let r = clamps::clamp(load, mode, c, wide(d.size));
@@ -40,8 +40,8 @@ pub fn tensor_index(
     rank: usize,
     index: u32,
 ) -> Clamped
-    requires { (layoutOk l ≡ true) × (numbers.now ≡ tailNumbers l) × (tail ≡ tailOf l) × (tail.start ≤ lead l * partLimit) × (rank ≤ tail.rank) }
-    ensures { (result ≡ up_to load l (lead l + rank) index) × AtMost ((lead l + rank) * partLimit) result }
+    requires { (layout_ok l ≡ true) × (numbers.now ≡ tail_numbers l) × (tail ≡ tail_of l) × (tail.start ≤ lead l * part_limit) × (rank ≤ tail.rank) }
+    ensures { (result ≡ up_to load l (lead l + rank) index) × AtMost ((lead l + rank) * part_limit) result }
 {
     let mut sum = tail.start;
     let mut left = index;
@@ -77,8 +77,8 @@ pub fn row_index(
     rank: usize,
     index: u32,
 ) -> Clamped
-    requires { (layoutOk l ≡ true) × (numbers.now ≡ tailNumbers l) × (tail ≡ tailOf l) × (tail.start ≤ lead l * partLimit) × (rank ≤ tail.rank) }
-    ensures { (result ≡ up_to load l (lead l + rank) index) × AtMost ((lead l + rank) * partLimit) result }
+    requires { (layout_ok l ≡ true) × (numbers.now ≡ tail_numbers l) × (tail ≡ tail_of l) × (tail.start ≤ lead l * part_limit) × (rank ≤ tail.rank) }
+    ensures { (result ≡ up_to load l (lead l + rank) index) × AtMost ((lead l + rank) * part_limit) result }
 {
     let mut sum = tail.start;
     let mut left = index;

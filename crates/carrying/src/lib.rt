@@ -3,7 +3,7 @@ pub mod moving;
 pub mod performing;
 
 ghost use Rattle.std.specs.Prelude.{◌≡◌};
-ghost use Rattle.carrying.specs.Carrying.{answerWith, refusedAnswer, carried, carriedMemory};
+ghost use Rattle.carrying.specs.Carrying.{answer_with, refused_answer, carried, carried_memory};
 
 use counts::Counts;
 use refusals::Refusal;
@@ -27,7 +27,7 @@ pub struct Stepped {
 }
 
 pub fn carry_refused(refusal: Refusal) -> CarryAnswer
-    ensures { result ≡ refusedAnswer refusal }
+    ensures { result ≡ refused_answer refusal }
 {
     let types = registers::empty_types();
     CarryAnswer {
@@ -40,8 +40,8 @@ pub fn carry_refused(refusal: Refusal) -> CarryAnswer
 // Carries out a sheet on the lent memory, with the registers' elements in the lent array. Refused: memory is unchanged and the
 // registers are empty.
 pub fn carry_out(sheet: &[u8], memory: &mut [u8], elements: &mut [u32; ELEMENTS]) -> CarryAnswer
-    ensures elements_after { answerWith result elements.new ≡ carried sheet.now memory.old }
-    ensures memory_after { memory.new ≡ carriedMemory sheet.now memory.old }
+    ensures elements_after { answer_with result elements.new ≡ carried sheet.now memory.old }
+    ensures memory_after { memory.new ≡ carried_memory sheet.now memory.old }
 {
     registers::empty_elements(elements);
     let mut parts = sheet_parts::no_parts();

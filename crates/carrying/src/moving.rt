@@ -1,8 +1,8 @@
 // Loads and stores of a sheet: their performance.
 ghost use Rattle.std.specs.Prelude.{◌≡◌, ◌<◌, ◌^◌, length};
-ghost use Rattle.sheet.specs.Sizes.{registerCount, matrixPlaces};
+ghost use Rattle.sheet.specs.Sizes.{register_count, matrix_places};
 ghost use Rattle.transfers.specs.Acts.{state};
-ghost use Rattle.transfers.specs.Transfers.{loadedElements, storedElements};
+ghost use Rattle.transfers.specs.Transfers.{loaded_elements, stored_elements};
 ghost use Rattle.accepted.specs.Accepted.{ClearAccess};
 
 use addressing::Access;
@@ -19,9 +19,9 @@ pub fn perform_load(
     counted: Counts,
 ) -> Counts
     requires clear_access { ClearAccess access × (access.memory ≡ length memory.now) }
-    requires register_lt_register_count { (register < registerCount) × (counted.placed < 2 ^ 31) × (length entries.old ≡ matrixPlaces) }
-    ensures entries_len { length entries.new ≡ matrixPlaces }
-    ensures result_after { state elements.new memory.now result ≡ loadedElements access register (state elements.old memory.now counted) }
+    requires register_lt_register_count { (register < register_count) × (counted.placed < 2 ^ 31) × (length entries.old ≡ matrix_places) }
+    ensures entries_len { length entries.new ≡ matrix_places }
+    ensures result_after { state elements.new memory.now result ≡ loaded_elements access register (state elements.old memory.now counted) }
 {
     let p = addressing::plan_of(access);
     transfers::load_elements(elements, memory, entries, p, register, counted)
@@ -37,9 +37,9 @@ pub fn perform_store(
     counted: Counts,
 ) -> Counts
     requires clear_access { ClearAccess access × (access.memory ≡ length memory.old) }
-    requires register_lt_register_count { (register < registerCount) × (counted.placed < 2 ^ 31) × (length entries.old ≡ matrixPlaces) }
-    ensures entries_len { length entries.new ≡ matrixPlaces }
-    ensures result_after { state elements.now memory.new result ≡ storedElements access register (state elements.now memory.old counted) }
+    requires register_lt_register_count { (register < register_count) × (counted.placed < 2 ^ 31) × (length entries.old ≡ matrix_places) }
+    ensures entries_len { length entries.new ≡ matrix_places }
+    ensures result_after { state elements.now memory.new result ≡ stored_elements access register (state elements.now memory.old counted) }
 {
     let p = addressing::plan_of(access);
     transfers::store_elements(elements, memory, entries, p, register, counted)

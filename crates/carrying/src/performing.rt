@@ -1,16 +1,16 @@
 // The performance of a sheet that its check accepts. It cannot fail.
 ghost use Rattle.std.specs.Prelude.{◌≡◌, ℕ, ◌≤◌, ◌<◌, ◌^◌, length};
-ghost use Rattle.sheet.specs.Sizes.{registerCount, matrixPlaces, elementPlaces, memoryLimit};
+ghost use Rattle.sheet.specs.Sizes.{register_count, matrix_places, element_places, memory_limit};
 ghost use Rattle.sheet.specs.declared.Tensors.{Tensors};
-ghost use Rattle.sheet_reader.specs.Parts.{sheetOf, Outlined};
-ghost use Rattle.registers.specs.Registers.{emptyRegisters, copied, zeroed};
+ghost use Rattle.sheet_reader.specs.Parts.{sheet_of, Outlined};
+ghost use Rattle.registers.specs.Registers.{empty_registers, copied, zeroed};
 ghost use Rattle.registers.specs.Sized.{Sized};
 ghost use Rattle.registers.specs.Past.{Past};
 ghost use Rattle.transfers.specs.Acts.{state};
-ghost use Rattle.checking.specs.Steps.{objectRegister};
-ghost use Rattle.checking.specs.Turns.{stepAccess, Turned};
+ghost use Rattle.checking.specs.Steps.{object_register};
+ghost use Rattle.checking.specs.Turns.{step_access, Turned};
 ghost use Rattle.checking.specs.Checking.{checked};
-ghost use Rattle.carrying.specs.Steps.{registersOf, machine_of, withObject, performedStep};
+ghost use Rattle.carrying.specs.Steps.{registers_of, machine_of, with_object, performed_step};
 ghost use Rattle.carrying.specs.Carrying.{started, performed};
 ghost use Rattle.carrying.specs.Machines.{Accepted, Formed};
 
@@ -30,9 +30,9 @@ pub fn copy_register(
     register: u8,
     object: u8,
 ) -> [MatrixType; REGISTERS]
-    requires register_lt_register_count { (register < registerCount) × (object < registerCount) }
-    requires sized { Sized types × Past types elements.old × (length elements.old ≡ elementPlaces) }
-    ensures { registersOf result elements.new ≡ copied (registersOf types elements.old) register object }
+    requires register_lt_register_count { (register < register_count) × (object < register_count) }
+    requires sized { Sized types × Past types elements.old × (length elements.old ≡ element_places) }
+    ensures { registers_of result elements.new ≡ copied (registers_of types elements.old) register object }
 {
     let old = registers::element_count(registers::the_type(types, register));
     let t = registers::the_type(types, object);
@@ -47,8 +47,8 @@ fn zero_register(
     elements: &mut [u32; ELEMENTS],
     register: u8,
 ) -> [MatrixType; REGISTERS]
-    requires { (register < registerCount) × Sized types }
-    ensures { registersOf result elements.new ≡ zeroed (registersOf types elements.old) register }
+    requires { (register < register_count) × Sized types }
+    ensures { registers_of result elements.new ≡ zeroed (registers_of types elements.old) register }
 {
     let t = registers::the_type(types, register);
     let count = registers::element_count(t);
@@ -63,9 +63,9 @@ fn with_object(
     register: u8,
     object: Object,
 ) -> [MatrixType; REGISTERS]
-    requires register_lt_register_count { (register < registerCount) × (objectRegister register object < registerCount) }
-    requires sized { Sized types × Past types elements.old × (length elements.old ≡ elementPlaces) }
-    ensures { registersOf result elements.new ≡ withObject register object (registersOf types elements.old) }
+    requires register_lt_register_count { (register < register_count) × (object_register register object < register_count) }
+    requires sized { Sized types × Past types elements.old × (length elements.old ≡ element_places) }
+    ensures { registers_of result elements.new ≡ with_object register object (registers_of types elements.old) }
 {
     match object {
         Object::Kept => types,
@@ -84,10 +84,10 @@ fn perform_step(
     access: Access,
     counts: Counts,
 ) -> Stepped
-    requires placed_bound { (counts.placed < 2 ^ 31) × (length entries.old ≡ matrixPlaces) × Formed (machine_of types (state elements.old memory.old counts)) }
+    requires placed_bound { (counts.placed < 2 ^ 31) × (length entries.old ≡ matrix_places) × Formed (machine_of types (state elements.old memory.old counts)) }
     requires by_index { (edition : ℕ) × ((tensors : Tensors) × (Turned edition tensors types (length memory.old) step access × Accepted edition tensors step (machine_of types (state elements.old memory.old counts)))) }
-    ensures entries_len { length entries.new ≡ matrixPlaces }
-    ensures counts_after { (tensors : Tensors) → access ≡ stepAccess tensors types (length memory.old) step → machine_of result.types (state elements.new memory.new result.counts) ≡ performedStep tensors step (machine_of types (state elements.old memory.old counts)) }
+    ensures entries_len { length entries.new ≡ matrix_places }
+    ensures counts_after { (tensors : Tensors) → access ≡ step_access tensors types (length memory.old) step → machine_of result.types (state elements.new memory.new result.counts) ≡ performed_step tensors step (machine_of types (state elements.old memory.old counts)) }
 {
     match step {
         Step::Nothing => Stepped { types, counts },
@@ -133,9 +133,9 @@ pub fn perform(
     memory: &mut [u8],
     elements: &mut [u32; ELEMENTS],
 ) -> Stepped
-    requires elements_value { elements.old ≡ emptyRegisters.elements }
-    requires outlined { Outlined s.now parts.now given × (length memory.old ≤ memoryLimit) × ((checked (sheetOf s.now) (length memory.old)).refusal.number ≡ 0) }
-    ensures { machine_of result.types (state elements.new memory.new result.counts) ≡ performed (sheetOf s.now) (started memory.old) }
+    requires elements_value { elements.old ≡ empty_registers.elements }
+    requires outlined { Outlined s.now parts.now given × (length memory.old ≤ memory_limit) × ((checked (sheet_of s.now) (length memory.old)).refusal.number ≡ 0) }
+    ensures { machine_of result.types (state elements.new memory.new result.counts) ≡ performed (sheet_of s.now) (started memory.old) }
 {
     let mut entries = accesses::no_entries();
     let mut types = registers::empty_types();

@@ -1,15 +1,15 @@
 // The check of a sheet's steps, over the registers' types and the memory's length: refusals 7 to 15.
 ghost use Rattle.std.specs.Prelude.{◌≡◌, true, ℕ, ◌≤◌, ◌<◌, length};
-ghost use Rattle.sheet.specs.Sizes.{matrixPlaces, memoryLimit};
+ghost use Rattle.sheet.specs.Sizes.{matrix_places, memory_limit};
 ghost use Rattle.sheet.specs.declared.Tensors.{Tensors};
-ghost use Rattle.sheet_ranges.specs.Steps.{stepOk};
-ghost use Rattle.sheet_reader.specs.Parts.{sheetOf, Outlined};
+ghost use Rattle.sheet_ranges.specs.Steps.{step_ok};
+ghost use Rattle.sheet_reader.specs.Parts.{sheet_of, Outlined};
 ghost use Rattle.addressing.specs.Valid.{SizedAccess};
 ghost use Rattle.whole_steps.specs.Within.{WholeOk};
 ghost use Rattle.accesses.specs.Entries.{Told};
-ghost use Rattle.checking.specs.Steps.{stepCheck, accessCheck, wholeCheck, stepTypes, checkedStep};
-ghost use Rattle.checking.specs.Turns.{stepAccess, Turned};
-ghost use Rattle.checking.specs.Checking.{checkRefused, checked};
+ghost use Rattle.checking.specs.Steps.{step_check, access_check, whole_check, step_types, checked_step};
+ghost use Rattle.checking.specs.Turns.{step_access, Turned};
+ghost use Rattle.checking.specs.Checking.{check_refused, checked};
 
 use super::{CheckAnswer, StepCheck, turns};
 use addressing::Access;
@@ -20,14 +20,14 @@ use sheet::{Step, WholeStep};
 use sheet_reader::{Given, PARTS};
 
 pub fn check_refused(refusal: Refusal) -> CheckAnswer
-    ensures { result ≡ checkRefused refusal }
+    ensures { result ≡ check_refused refusal }
 {
     CheckAnswer { refusal, count: 0 }
 }
 
 // Neither elements with a byte nor an element that is refused.
 fn plain_check(number: u8, types: [MatrixType; REGISTERS]) -> StepCheck
-    ensures { result ≡ stepCheck number types 0 }
+    ensures { result ≡ step_check number types 0 }
 {
     StepCheck {
         stop: refusals::stop_at(number, 0),
@@ -43,9 +43,9 @@ fn check_moves(
     after: [MatrixType; REGISTERS],
     access: Access,
 ) -> StepCheck
-    requires { (0 < access.rows → SizedAccess access) × (length entries.old ≡ matrixPlaces) }
-    ensures entries_len { length entries.new ≡ matrixPlaces }
-    ensures value { (t : MatrixType) → access.rows ≡ t.rows → result ≡ accessCheck before after t access }
+    requires { (0 < access.rows → SizedAccess access) × (length entries.old ≡ matrix_places) }
+    ensures entries_len { length entries.new ≡ matrix_places }
+    ensures value { (t : MatrixType) → access.rows ≡ t.rows → result ≡ access_check before after t access }
     ensures told { result.stop.number ≡ 0 → Told access entries.new }
 {
     if access.rows < 1 {
@@ -67,7 +67,7 @@ fn check_whole(
     step: WholeStep,
 ) -> StepCheck
     requires { WholeOk step }
-    ensures { result ≡ wholeCheck edition types memory step }
+    ensures { result ≡ whole_check edition types memory step }
 {
     let stop = whole_steps::stops::whole_refusal(edition, types, memory, step);
     let after = whole_steps::types::whole_types(types, step);
@@ -87,9 +87,9 @@ pub fn check_step(
     step: Step,
     access: Access,
 ) -> StepCheck
-    requires { ((tensors : Tensors) × Turned edition tensors types memory step access) × (length entries.old ≡ matrixPlaces) }
-    ensures entries_len { length entries.new ≡ matrixPlaces }
-    ensures value { (tensors : Tensors) → access ≡ stepAccess tensors types memory step → result ≡ checkedStep edition tensors types memory step }
+    requires { ((tensors : Tensors) × Turned edition tensors types memory step access) × (length entries.old ≡ matrix_places) }
+    ensures entries_len { length entries.new ≡ matrix_places }
+    ensures value { (tensors : Tensors) → access ≡ step_access tensors types memory step → result ≡ checked_step edition tensors types memory step }
     ensures told { result.stop.number ≡ 0 → Told access entries.new }
 {
     match step {
@@ -113,8 +113,8 @@ pub fn check_step(
 
 // The types that a step leaves where it is not refused.
 pub fn step_types(types: [MatrixType; REGISTERS], step: Step) -> [MatrixType; REGISTERS]
-    requires { (edition layouts views : ℕ) × (stepOk edition layouts views step ≡ true) }
-    ensures { result ≡ stepTypes types step }
+    requires { (edition layouts views : ℕ) × (step_ok edition layouts views step ≡ true) }
+    ensures { result ≡ step_types types step }
 {
     match step {
         Step::Nothing => types,
@@ -136,8 +136,8 @@ pub fn step_types(types: [MatrixType; REGISTERS], step: Step) -> [MatrixType; RE
 
 // Step by step, from empty registers.
 pub fn check(s: &[u8], parts: &[usize; PARTS], given: Given, memory: usize) -> CheckAnswer
-    requires { Outlined s.now parts.now given × (memory ≤ memoryLimit) }
-    ensures { result ≡ checked (sheetOf s.now) memory }
+    requires { Outlined s.now parts.now given × (memory ≤ memory_limit) }
+    ensures { result ≡ checked (sheet_of s.now) memory }
 {
     let mut entries = accesses::no_entries();
     let mut types = registers::empty_types();

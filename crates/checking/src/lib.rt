@@ -3,8 +3,8 @@ pub mod checks;
 pub mod turns;
 
 ghost use Rattle.std.specs.Prelude.{◌≡◌, length};
-ghost use Rattle.sheet_reader.specs.Parts.{partPlaces, Outlined};
-ghost use Rattle.checking.specs.Checking.{admitted, checkedSheet};
+ghost use Rattle.sheet_reader.specs.Parts.{part_places, Outlined};
+ghost use Rattle.checking.specs.Checking.{admitted, checked_sheet};
 
 use refusals::{MEMORY_TOO_LARGE, Refusal, Stop};
 use registers::MatrixType;
@@ -35,7 +35,7 @@ pub struct Judged {
 
 // 18, then the sheet's reading: what every job on a sheet for a memory begins with. The lent places are told where the sheet's parts stand.
 pub fn admit(sheet: &[u8], parts: &mut [usize; PARTS], memory_len: usize) -> Outline
-    requires { length parts.old ≡ partPlaces }
+    requires { length parts.old ≡ part_places }
     ensures refusal_value { result.refusal ≡ (admitted sheet.now memory_len).refusal }
     ensures outlined { result.refusal.number ≡ 0 → Outlined sheet.now parts.new result.given }
 {
@@ -50,8 +50,8 @@ pub fn admit(sheet: &[u8], parts: &mut [usize; PARTS], memory_len: usize) -> Out
 
 // The sheet admitted and checked: what carrying out and translating begin with.
 pub fn judge(sheet: &[u8], parts: &mut [usize; PARTS], memory_len: usize) -> Judged
-    requires { length parts.old ≡ partPlaces }
-    ensures answer_value { result.answer ≡ checkedSheet sheet.now memory_len }
+    requires { length parts.old ≡ part_places }
+    ensures answer_value { result.answer ≡ checked_sheet sheet.now memory_len }
     ensures outlined { result.answer.refusal.number ≡ 0 → Outlined sheet.now parts.new result.given }
 {
     let read = admit(sheet, parts, memory_len);
@@ -69,7 +69,7 @@ pub fn judge(sheet: &[u8], parts: &mut [usize; PARTS], memory_len: usize) -> Jud
 
 // Whether a sheet would be refused for a memory of a length, and how many elements of its loads and stores have a byte.
 pub fn check_sheet(sheet: &[u8], memory_len: usize) -> CheckAnswer
-    ensures { result ≡ checkedSheet sheet.now memory_len }
+    ensures { result ≡ checked_sheet sheet.now memory_len }
 {
     let mut parts = sheet_parts::no_parts();
     let judged = judge(sheet, &mut parts, memory_len);

@@ -1,10 +1,10 @@
 // The turns of a pass over a sheet's steps: each step as it stands in the sheet's bytes, with the access of its elements, found here for every pass.
 ghost use Rattle.std.specs.Prelude.{◌≡◌, true, ℕ, ◌<◌};
-ghost use Rattle.sheet_ranges.specs.Steps.{viewingOk, windowOk, stepOk};
-ghost use Rattle.sheet_reader.specs.Parts.{sheetOf, Outlined};
+ghost use Rattle.sheet_ranges.specs.Steps.{viewing_ok, window_ok, step_ok};
+ghost use Rattle.sheet_reader.specs.Parts.{sheet_of, Outlined};
 ghost use Rattle.sheet_reader.specs.declared.Given.{Given};
-ghost use Rattle.checking.specs.Steps.{isViewed, viewNamed, accessOf, objectRegister};
-ghost use Rattle.checking.specs.Turns.{noAccess, stepAccess, Met};
+ghost use Rattle.checking.specs.Steps.{is_viewed, view_named, access_of, object_register};
+ghost use Rattle.checking.specs.Turns.{no_access, step_access, Met};
 
 use addressing::Access;
 use registers::MatrixType;
@@ -21,7 +21,7 @@ pub struct Turn {
 }
 
 fn is_viewed(view: Viewing) -> bool
-    ensures { result ≡ isViewed view }
+    ensures { result ≡ is_viewed view }
 {
     match view {
         Viewing::Plain => false,
@@ -31,8 +31,8 @@ fn is_viewed(view: Viewing) -> bool
 
 // The view that a window goes through, or the unused one.
 fn view_named(s: &[u8], parts: &[usize; PARTS], view: Viewing) -> View
-    requires { ((g : Given) × Outlined s.now parts.now g) × (viewingOk (sheetOf s.now).tensors.views view ≡ true) }
-    ensures { result ≡ viewNamed (sheetOf s.now).tensors view }
+    requires { ((g : Given) × Outlined s.now parts.now g) × (viewing_ok (sheet_of s.now).tensors.views view ≡ true) }
+    ensures { result ≡ view_named (sheet_of s.now).tensors view }
 {
     match view {
         Viewing::Plain => views::no_view(),
@@ -49,8 +49,8 @@ fn access_of(
     t: MatrixType,
     memory: usize,
 ) -> Access
-    requires { ((g : Given) × Outlined s.now parts.now g) × (windowOk (sheetOf s.now).tensors.layouts (sheetOf s.now).tensors.views window ≡ true) }
-    ensures { result ≡ accessOf (sheetOf s.now).tensors load window t memory }
+    requires { ((g : Given) × Outlined s.now parts.now g) × (window_ok (sheet_of s.now).tensors.layouts (sheet_of s.now).tensors.views window ≡ true) }
+    ensures { result ≡ access_of (sheet_of s.now).tensors load window t memory }
 {
     let through = window.view;
     let layout = sheet_parts::layout_in(s, parts, window.layout as usize);
@@ -70,7 +70,7 @@ fn access_of(
 
 // Written out, so that it is put in its place and not copied there.
 fn no_access() -> Access
-    ensures { result ≡ noAccess }
+    ensures { result ≡ no_access }
 {
     let d = layouts::no_dimension();
     let v = views::no_view_dimension();
@@ -101,7 +101,7 @@ fn no_access() -> Access
 
 // The register that a load's object is in, or whose type it has.
 pub fn object_register(register: u8, object: Object) -> u8
-    ensures { result ≡ objectRegister register object }
+    ensures { result ≡ object_register register object }
 {
     match object {
         Object::Kept => register,
@@ -118,8 +118,8 @@ pub fn step_access(
     memory: usize,
     step: Step,
 ) -> Access
-    requires { ((g : Given) × Outlined s.now parts.now g) × ((edition : ℕ) × (stepOk edition (sheetOf s.now).tensors.layouts (sheetOf s.now).tensors.views step ≡ true)) }
-    ensures { result ≡ stepAccess (sheetOf s.now).tensors types memory step }
+    requires { ((g : Given) × Outlined s.now parts.now g) × ((edition : ℕ) × (step_ok edition (sheet_of s.now).tensors.layouts (sheet_of s.now).tensors.views step ≡ true)) }
+    ensures { result ≡ step_access (sheet_of s.now).tensors types memory step }
 {
     match step {
         Step::Nothing => no_access(),

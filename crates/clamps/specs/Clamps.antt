@@ -18,8 +18,8 @@ abbrev pub twos : ℕ → ℤ
 twos x = value s16 x
 
 -- Rule 4: c = span coordinate + offset
-abbrev pub coordinateOf : Dimension → ℕ → ℤ
-coordinateOf d s = pos s +ℤ twos d.offset
+abbrev pub coordinate_of : Dimension → ℕ → ℤ
+coordinate_of d s = pos s +ℤ twos d.offset
 
 -- Rule 4, ClampToEdge of a coordinate outside: 0 or n-1
 abbrev pub edge : ℤ → ℕ → ℕ
@@ -27,31 +27,31 @@ edge (pos a) n = n - 1
 edge (negsuc a) n = 0
 
 -- Rule 4: c, and m-c if that is at or above n
-unfoldable pub turnedBack : ℕ → ℕ → ℕ → ℕ
-turnedBack n m c = pick (leb n c) (m - c) c
+unfoldable pub turned_back : ℕ → ℕ → ℕ → ℕ
+turned_back n m c = pick (leb n c) (m - c) c
 
 -- Rule 4, MirrorRepeat: m = 2n-2, c mod m, and m-c if that is at or above n; for n = 1 it gives 0
 unfoldable pub mirrored : ℤ → ℕ → ℕ
-mirrored c n = pick (eqb n 1) 0 (turnedBack n (2 * n - 2) (remainder c (2 * n - 2)))
+mirrored c n = pick (eqb n 1) 0 (turned_back n (2 * n - 2) (remainder c (2 * n - 2)))
 
 -- Rule 4 outside on a load
-abbrev pub onLoad : ClampMode → ℤ → ℕ → Clamped
-onLoad Undefined c n = Refused
-onLoad Constant c n = Filled
-onLoad ClampToEdge c n = At (edge c n)
-onLoad Repeat c n = At (remainder c n)
-onLoad MirrorRepeat c n = At (mirrored c n)
+abbrev pub on_load : ClampMode → ℤ → ℕ → Clamped
+on_load Undefined c n = Refused
+on_load Constant c n = Filled
+on_load ClampToEdge c n = At (edge c n)
+on_load Repeat c n = At (remainder c n)
+on_load MirrorRepeat c n = At (mirrored c n)
 
 -- Rule 4 outside on a store: every other mode discards
-abbrev pub onStore : ClampMode → Clamped
-onStore Undefined = Refused
-onStore Constant = Discarded
-onStore ClampToEdge = Discarded
-onStore Repeat = Discarded
-onStore MirrorRepeat = Discarded
+abbrev pub on_store : ClampMode → Clamped
+on_store Undefined = Refused
+on_store Constant = Discarded
+on_store ClampToEdge = Discarded
+on_store Repeat = Discarded
+on_store MirrorRepeat = Discarded
 
 unfoldable pub outside : Bool → ClampMode → ℤ → ℕ → Clamped
-outside load mode c n = pick load (onLoad mode c n) (onStore mode)
+outside load mode c n = pick load (on_load mode c n) (on_store mode)
 
 -- Rule 4: a coordinate below 0 or at or above n is outside, any other stays
 unfoldable pub clamped : Bool → ClampMode → ℤ → ℕ → Clamped

@@ -1,16 +1,16 @@
 -- Request T-06: the first dimension, from 0 upward, in which an element is not inside.
 use Rattle.std.specs.Prelude.{ℕ, zero, suc, List, get_or}
-use Rattle.tensor_ranges.specs.Layouts.{theDimension}
+use Rattle.tensor_ranges.specs.Layouts.{the_dimension}
 use Rattle.outcomes.specs.declared.Side.{Side}
 use Rattle.outcomes.specs.declared.Side.TheVariants as side
 use Rattle.outcomes.specs.declared.Outside.{Outside}
 use Rattle.outcomes.specs.declared.Outside.TheVariants.{Nowhere, Below, Above}
 use Rattle.sheet.specs.declared.Layout.{Layout}
-use Rattle.clamps.specs.Clamps.{coordinateOf, side_of}
+use Rattle.clamps.specs.Clamps.{coordinate_of, side_of}
 
 -- the side of dimension d, of an element with these span coordinates
-abbrev pub sideAt : Layout → List ℕ → ℕ → Side
-sideAt l cs d = let x = theDimension l.dimensions d in side_of (coordinateOf x (get_or cs d 0)) x.size
+abbrev pub side_at : Layout → List ℕ → ℕ → Side
+side_at l cs d = let x = the_dimension l.dimensions d in side_of (coordinate_of x (get_or cs d 0)) x.size
 
 -- a dimension that is not inside is named with its side; else what comes after it is
 abbrev pub named : ℕ → Side → Outside → Outside
@@ -19,10 +19,10 @@ named d side.Below later = Below d
 named d side.Above later = Above d
 
 -- the first of the m dimensions from d on, or none
-unfoldable pub outsideFrom : (ℕ → Side) → ℕ → ℕ → Outside
-outsideFrom f d zero = Nowhere
-outsideFrom f d (suc m) = named d (f d) (outsideFrom f (suc d) m)
+unfoldable pub outside_from : (ℕ → Side) → ℕ → ℕ → Outside
+outside_from f d zero = Nowhere
+outside_from f d (suc m) = named d (f d) (outside_from f (suc d) m)
 
 -- the first of all dimensions of a layout
-unfoldable pub firstOutside : Layout → List ℕ → Outside
-firstOutside l cs = outsideFrom (sideAt l cs) 0 l.rank
+unfoldable pub first_outside : Layout → List ℕ → Outside
+first_outside l cs = outside_from (side_at l cs) 0 l.rank

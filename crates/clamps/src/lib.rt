@@ -1,11 +1,11 @@
 // Rule 4: a coordinate over the places of its dimension (document 01, "Where an element goes"), and the first dimension outside (document 02, T-06).
 ghost use Rattle.std.specs.Prelude.{◌≡◌, ℕ, ◌≤◌, ◌<◌, true, pos, ◌+ℤ◌, get_or};
 ghost use Rattle.numbers.specs.Remainders.{remainder};
-ghost use Rattle.sheet.specs.Sizes.{sizeLimit};
-ghost use Rattle.tensor_ranges.specs.Layouts.{layoutOk};
+ghost use Rattle.sheet.specs.Sizes.{size_limit};
+ghost use Rattle.tensor_ranges.specs.Layouts.{layout_ok};
 ghost use Rattle.clamps.specs.Coordinates.{integer};
-ghost use Rattle.clamps.specs.Clamps.{twos, edge, mirrored, onLoad, onStore, outside, sided};
-ghost use Rattle.clamps.specs.Sides.{firstOutside};
+ghost use Rattle.clamps.specs.Clamps.{twos, edge, mirrored, on_load, on_store, outside, sided};
+ghost use Rattle.clamps.specs.Sides.{first_outside};
 
 use outcomes::{Outside, Side};
 use sheet::sizes::RANK;
@@ -37,7 +37,7 @@ pub struct Sided {
 
 // A span coordinate plus a signed offset.
 pub fn shifted(s: u32, raw: u32) -> Coordinate
-    requires { (s < sizeLimit) × (raw < 65536) }
+    requires { (s < size_limit) × (raw < 65536) }
     ensures { integer result ≡ pos s +ℤ twos raw }
 {
     if raw < 32768 {
@@ -72,7 +72,7 @@ fn to_edge(c: Coordinate, n: u32) -> u32
 }
 
 fn mirror(c: Coordinate, n: u32) -> u32
-    requires { (0 < n) × (n ≤ sizeLimit) }
+    requires { (0 < n) × (n ≤ size_limit) }
     ensures { result ≡ mirrored (integer c) n }
 {
     if n == 1 {
@@ -84,8 +84,8 @@ fn mirror(c: Coordinate, n: u32) -> u32
 }
 
 fn on_load(mode: ClampMode, c: Coordinate, n: u32) -> Clamped
-    requires { (0 < n) × (n ≤ sizeLimit) }
-    ensures { result ≡ onLoad mode (integer c) n }
+    requires { (0 < n) × (n ≤ size_limit) }
+    ensures { result ≡ on_load mode (integer c) n }
 {
     match mode {
         ClampMode::Undefined => Clamped::Refused,
@@ -97,7 +97,7 @@ fn on_load(mode: ClampMode, c: Coordinate, n: u32) -> Clamped
 }
 
 fn on_store(mode: ClampMode) -> Clamped
-    ensures { result ≡ onStore mode }
+    ensures { result ≡ on_store mode }
 {
     match mode {
         ClampMode::Undefined => Clamped::Refused,
@@ -110,7 +110,7 @@ fn on_store(mode: ClampMode) -> Clamped
 
 // What rule 4 gives outside the n places.
 pub fn outside(load: bool, mode: ClampMode, c: Coordinate, n: u32) -> Clamped
-    requires { (0 < n) × (n ≤ sizeLimit) }
+    requires { (0 < n) × (n ≤ size_limit) }
     ensures { result ≡ outside load mode (integer c) n }
 {
     if load {
@@ -122,7 +122,7 @@ pub fn outside(load: bool, mode: ClampMode, c: Coordinate, n: u32) -> Clamped
 
 // A coordinate over the n places of its dimension.
 pub fn clamp(load: bool, mode: ClampMode, c: Coordinate, n: u32) -> Sided
-    requires { (0 < n) × (n ≤ sizeLimit) }
+    requires { (0 < n) × (n ≤ size_limit) }
     ensures { result ≡ sided load mode (integer c) n }
 {
     match c {
@@ -148,8 +148,8 @@ pub fn clamp(load: bool, mode: ClampMode, c: Coordinate, n: u32) -> Sided
 
 // The first dimension outside by the span coordinates of an element: asked for one element at a time, and no part of a job, which needs no dimension's name.
 pub fn first_outside(load: bool, l: Layout, coordinates: [u32; RANK]) -> Outside
-    requires { (layoutOk l ≡ true) × ((d : ℕ) → d < l.rank → get_or coordinates d 0 < sizeLimit) }
-    ensures { result ≡ firstOutside l coordinates }
+    requires { (layout_ok l ≡ true) × ((d : ℕ) → d < l.rank → get_or coordinates d 0 < size_limit) }
+    ensures { result ≡ first_outside l coordinates }
 {
     let rank = l.rank as usize;
     let mode = l.mode;

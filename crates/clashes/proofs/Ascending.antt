@@ -8,37 +8,37 @@ use native.Mathlib.Omega.{arith}
 use lib.ListN.{get_or}
 use borrow.Author.Tests.{ne_eqb}
 use Rattle.numbers.specs.Choice.{pick, both}
-use Rattle.numbers.specs.Laws.Choice.{by-test}
+use Rattle.numbers.specs.Laws.Choice.{by_test}
 use Rattle.clashes.specs.Clashes.{apart}
-use Rattle.clashes.specs.Entries.{hasByte, hits, sameEntry}
-use Rattle.clashes.proofs.Laws.{seen, seen-meets, apart-start, apart_more}
+use Rattle.clashes.specs.Entries.{has_byte, hits, same_entry}
+use Rattle.clashes.proofs.Laws.{seen, seen_meets, apart_start, apart_more}
 
 -- The bytes of the first k of m elements ascend: each was new, and none is past that of the entry `last`.
 pub record Ascending (entries : List ℕ) (m k last : ℕ) : Type 0 where
   pub inside : k ≤ m
-  pub unseen : (x : ℕ) → (hasByte x ≡ true → last < x) → seen entries x k ≡ false
-  pub far : apart (sameEntry entries) k ≡ true
+  pub unseen : (x : ℕ) → (has_byte x ≡ true → last < x) → seen entries x k ≡ false
+  pub far : apart (same_entry entries) k ≡ true
 
 -- an entry is not the byte of one that has none, or a later one
-misses : (y x : ℕ) → (hasByte x ≡ true → hasByte y ≡ true → y < x) → hits y x ≡ false
+misses : (y x : ℕ) → (has_byte x ≡ true → has_byte y ≡ true → y < x) → hits y x ≡ false
 unfolding hits both pick
 misses y x h =
-    by-test (hasByte x) (λ t. rw (t, ne_eqb y x (λ e. let l : y < x = h t (rw e t) in omega arith)))
+    by_test (has_byte x) (λ t. rw (t, ne_eqb y x (λ e. let l : y < x = h t (rw e t) in omega arith)))
     (λ t. rw t)
 
 module _ (entries : List ℕ) (m : ℕ) where
-  pub ascending-start : Ascending entries m 0 0
+  pub ascending_start : Ascending entries m 0 0
   unfolding seen
-  ascending-start = record { inside = zero-le; unseen = λ x h. refl; far = apart-start _ }
+  ascending_start = record { inside = zero-le; unseen = λ x h. refl; far = apart_start _ }
 
   -- a turn at k, after which the last entry with a byte is `next`
-  pub ascending-more : {k last : ℕ} (next : ℕ) → Ascending entries m k last → k < m → last ≤ next
-      → (hasByte (get_or entries k 0) ≡ true → (last < get_or entries k 0) × (get_or entries k 0 ≤ next))
+  pub ascending_more : {k last : ℕ} (next : ℕ) → Ascending entries m k last → k < m → last ≤ next
+      → (has_byte (get_or entries k 0) ≡ true → (last < get_or entries k 0) × (get_or entries k 0 ≤ next))
       → Ascending entries m (k + 1) next
   unfolding seen pick
-  ascending-more {k} next v h g b =
+  ascending_more {k} next v h g b =
       record {
         inside = omega arith;
         unseen = λ x f. rw (add-one, misses (get_or entries k 0) x (λ t u. omega (arith, (b u).1, f t))) (v.unseen x (λ t. omega (arith, f t)));
-        far = apart_more _ k v.far (seen-meets entries k k ∙ v.unseen (get_or entries k 0) (λ t. (b t).0));
+        far = apart_more _ k v.far (seen_meets entries k k ∙ v.unseen (get_or entries k 0) (λ t. (b t).0));
       }

@@ -9,9 +9,9 @@ meets same i zero = false
 meets same i (suc j) = pick (same j i) true (meets same i j)
 
 -- the first element from i on, of m, that has an earlier one's byte; i + m where none has
-unfoldable pub clashFrom : (ℕ → ℕ → Bool) → ℕ → ℕ → ℕ
-clashFrom same i zero = i
-clashFrom same i (suc m) = pick (meets same i i) i (clashFrom same (suc i) m)
+unfoldable pub clash_from : (ℕ → ℕ → Bool) → ℕ → ℕ → ℕ
+clash_from same i zero = i
+clash_from same i (suc m) = pick (meets same i i) i (clash_from same (suc i) m)
 
 -- none of m elements has an earlier one's byte
 unfoldable pub apart : (ℕ → ℕ → Bool) → ℕ → Bool

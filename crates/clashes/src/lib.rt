@@ -1,9 +1,9 @@
 // Refusal 15: a store where a later element has an earlier one's byte.
 ghost use Rattle.std.specs.Prelude.{◌≡◌, true, ◌≤◌};
-ghost use Rattle.sheet.specs.Sizes.{matrixPlaces};
-ghost use Rattle.clashes.specs.Clashes.{clashFrom, apart};
-ghost use Rattle.clashes.specs.Entries.{hasByte, hits, sameEntry};
-ghost use Rattle.clashes.specs.Marks.{noMarks, unmarked, withMark};
+ghost use Rattle.sheet.specs.Sizes.{matrix_places};
+ghost use Rattle.clashes.specs.Clashes.{clash_from, apart};
+ghost use Rattle.clashes.specs.Entries.{has_byte, hits, same_entry};
+ghost use Rattle.clashes.specs.Marks.{no_marks, unmarked, with_mark};
 
 use sheet::sizes::{MEMORY_LIMIT, PLACES};
 
@@ -18,14 +18,14 @@ const WORD: u32 = 32;
 const MARKS: usize = 2048;
 
 fn no_marks() -> [u32; MARKS]
-    ensures { result ≡ noMarks }
+    ensures { result ≡ no_marks }
 {
     [0u32; MARKS]
 }
 
 // An entry is that of an element with a byte.
 fn has_byte(x: u32) -> bool
-    ensures { result ≡ hasByte x }
+    ensures { result ≡ has_byte x }
 {
     if x == 0 {
         return false;
@@ -35,7 +35,7 @@ fn has_byte(x: u32) -> bool
 
 // Marks the byte of an entry. The answer: it had no mark.
 fn mark(marks: &mut [u32; MARKS], x: u32) -> bool
-    ensures { (result ≡ unmarked marks.old x) × (marks.new ≡ withMark marks.old x) }
+    ensures { (result ≡ unmarked marks.old x) × (marks.new ≡ with_mark marks.old x) }
 {
     if !has_byte(x) {
         return true;
@@ -50,8 +50,8 @@ fn mark(marks: &mut [u32; MARKS], x: u32) -> bool
 
 // Marks the bytes of `count` elements, up to the first that has a mark. The answer: none had.
 fn mark_all(marks: &mut [u32; MARKS], entries: &[u32; PLACES], count: usize) -> bool
-    requires { (marks.old ≡ noMarks) × (count ≤ matrixPlaces) }
-    ensures { result ≡ apart (sameEntry entries.now) count }
+    requires { (marks.old ≡ no_marks) × (count ≤ matrix_places) }
+    ensures { result ≡ apart (same_entry entries.now) count }
 {
     let mut k = 0;
     while k < count {
@@ -65,8 +65,8 @@ fn mark_all(marks: &mut [u32; MARKS], entries: &[u32; PLACES], count: usize) -> 
 
 // The bytes of the elements that have one ascend, so that none comes twice.
 fn bytes_ascend(entries: &[u32; PLACES], count: usize) -> bool
-    requires { count ≤ matrixPlaces }
-    ensures { result ≡ true → apart (sameEntry entries.now) count ≡ true }
+    requires { count ≤ matrix_places }
+    ensures { result ≡ true → apart (same_entry entries.now) count ≡ true }
 {
     let mut last = 0;
     let mut k = 0;
@@ -85,8 +85,8 @@ fn bytes_ascend(entries: &[u32; PLACES], count: usize) -> bool
 
 // No element has an earlier one's byte. Marks are made only where the bytes do not ascend.
 pub fn bytes_apart(entries: &[u32; PLACES], count: usize) -> bool
-    requires { count ≤ matrixPlaces }
-    ensures { result ≡ apart (sameEntry entries.now) count }
+    requires { count ≤ matrix_places }
+    ensures { result ≡ apart (same_entry entries.now) count }
 {
     if bytes_ascend(entries, count) {
         return true;
@@ -106,8 +106,8 @@ fn same_byte(y: u32, x: u32) -> bool
 
 // The first of `count` elements that has an earlier one's byte, or the count.
 pub fn first_clash(entries: &[u32; PLACES], count: usize) -> usize
-    requires { count ≤ matrixPlaces }
-    ensures { result ≡ clashFrom (sameEntry entries.now) 0 count }
+    requires { count ≤ matrix_places }
+    ensures { result ≡ clash_from (same_entry entries.now) 0 count }
 {
     let mut i = 0;
     'search: while i < count {

@@ -3,7 +3,7 @@ ghost use Rattle.std.specs.Prelude.{◌≡◌, ℕ, ◌+◌, ◌*◌, ◌^◌, �
 ghost use Rattle.std.specs.Int.Signed.{le_z};
 ghost use Rattle.numbers.specs.Choice.{pick};
 ghost use Rattle.kinds.specs.Values.{value};
-ghost use Rattle.sheet.specs.Sizes.{sidePlaces, matrixPlaces};
+ghost use Rattle.sheet.specs.Sizes.{side_places, matrix_places};
 ghost use Rattle.combines.specs.Combining.{combined, folded};
 
 use sheet::Combine;
@@ -49,7 +49,7 @@ pub fn fold(
     step: usize,
     later: usize,
 ) -> u32
-    requires { (first < 2 ^ 16) × (step ≤ sidePlaces) × (later ≤ matrixPlaces) }
+    requires { (first < 2 ^ 16) × (step ≤ side_places) × (later ≤ matrix_places) }
     ensures { result ≡ folded kind combine (λ (t : ℕ). get_or elements.now (first + t * step) 0) later }
 {
     let mut all = numbers::at(elements, first);

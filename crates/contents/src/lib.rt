@@ -1,7 +1,7 @@
 // What the content of a layout's and of a view's field says.
 ghost use Rattle.std.specs.Prelude.{◌≡◌, true, ◌+◌, ◌*◌, ◌≤◌, ◌<◌, length};
-ghost use Rattle.sheet.specs.Sizes.{rankPlaces};
-ghost use Rattle.contents.specs.Contents.{dimensionAt, dimensionsAt, layoutAt, layoutLengthOk, layoutHeadOk, permutationAt, viewDimensionAt, viewDimensionsAt, clipAt, view_of, viewAt, viewLength, viewLengthOk, viewHeadOk};
+ghost use Rattle.sheet.specs.Sizes.{rank_places};
+ghost use Rattle.contents.specs.Contents.{dimension_at, dimensions_at, layout_at, layout_length_ok, layout_head_ok, permutation_at, view_dimension_at, view_dimensions_at, clip_at, view_of, view_at, view_length, view_length_ok, view_head_ok};
 
 use numbers::{u16_at, u32_at, wide};
 use sheet::sizes::RANK;
@@ -10,7 +10,7 @@ use tensor_ranges::{layouts, views};
 
 fn dimension_at(s: &[u8], p: usize) -> Dimension
     requires { p + 10 ≤ length s.now }
-    ensures { result ≡ dimensionAt s.now p }
+    ensures { result ≡ dimension_at s.now p }
 {
     Dimension {
         block: u16_at(s, p),
@@ -22,8 +22,8 @@ fn dimension_at(s: &[u8], p: usize) -> Dimension
 }
 
 fn dimensions_at(s: &[u8], p: usize, rank: usize) -> [Dimension; RANK]
-    requires { (rank ≤ rankPlaces) × (p + rank * 10 ≤ length s.now) }
-    ensures { result ≡ dimensionsAt s.now p rank }
+    requires { (rank ≤ rank_places) × (p + rank * 10 ≤ length s.now) }
+    ensures { result ≡ dimensions_at s.now p rank }
 {
     let none = layouts::no_dimension();
     let mut ds = [none; RANK];
@@ -37,8 +37,8 @@ fn dimensions_at(s: &[u8], p: usize, rank: usize) -> [Dimension; RANK]
 
 // The layout whose content starts at p. Its head was found right.
 pub fn layout_at(s: &[u8], p: usize, len: usize) -> Layout
-    requires { (2 ≤ len) × (p + len ≤ length s.now) × (layoutHeadOk s.now p len ≡ true) }
-    ensures { result ≡ layoutAt s.now p }
+    requires { (2 ≤ len) × (p + len ≤ length s.now) × (layout_head_ok s.now p len ≡ true) }
+    ensures { result ≡ layout_at s.now p }
 {
     let rank = s[p];
     let mode = codes::clamp_mode(s[p + 1]);
@@ -54,7 +54,7 @@ pub fn layout_at(s: &[u8], p: usize, len: usize) -> Layout
 
 // Lengths 16, 26, 36, 46, 56.
 pub fn layout_length_ok(len: usize) -> bool
-    ensures { result ≡ layoutLengthOk len }
+    ensures { result ≡ layout_length_ok len }
 {
     if !numbers::between(16, 56, len) {
         return false;
@@ -65,7 +65,7 @@ pub fn layout_length_ok(len: usize) -> bool
 // The dimension count gives the length, and the clamp mode is in the table.
 pub fn layout_head_ok(s: &[u8], p: usize, len: usize) -> bool
     requires { (2 ≤ len) × (p + len ≤ length s.now) }
-    ensures { result ≡ layoutHeadOk s.now p len }
+    ensures { result ≡ layout_head_ok s.now p len }
 {
     let rank = s[p];
     if !sizes::rank_ok(rank) {
@@ -78,8 +78,8 @@ pub fn layout_head_ok(s: &[u8], p: usize, len: usize) -> bool
 }
 
 fn permutation_at(s: &[u8], p: usize, rank: usize) -> [u8; RANK]
-    requires { (rank ≤ rankPlaces) × (p + rank ≤ length s.now) }
-    ensures { result ≡ permutationAt s.now p rank }
+    requires { (rank ≤ rank_places) × (p + rank ≤ length s.now) }
+    ensures { result ≡ permutation_at s.now p rank }
 {
     let mut entries = [0u8; RANK];
     let mut k = 0;
@@ -92,7 +92,7 @@ fn permutation_at(s: &[u8], p: usize, rank: usize) -> [u8; RANK]
 
 fn view_dimension_at(s: &[u8], p: usize) -> ViewDimension
     requires { p + 4 ≤ length s.now }
-    ensures { result ≡ viewDimensionAt s.now p }
+    ensures { result ≡ view_dimension_at s.now p }
 {
     ViewDimension {
         size: u16_at(s, p),
@@ -101,8 +101,8 @@ fn view_dimension_at(s: &[u8], p: usize) -> ViewDimension
 }
 
 fn view_dimensions_at(s: &[u8], p: usize, count: usize) -> [ViewDimension; RANK]
-    requires { (count ≤ rankPlaces) × (p + count * 4 ≤ length s.now) }
-    ensures { result ≡ viewDimensionsAt s.now p count }
+    requires { (count ≤ rank_places) × (p + count * 4 ≤ length s.now) }
+    ensures { result ≡ view_dimensions_at s.now p count }
 {
     let none = views::no_view_dimension();
     let mut ds = [none; RANK];
@@ -116,7 +116,7 @@ fn view_dimensions_at(s: &[u8], p: usize, count: usize) -> [ViewDimension; RANK]
 
 fn clip_at(s: &[u8], p: usize) -> Clip
     requires { p + 4 ≤ length s.now }
-    ensures { result ≡ clipAt s.now p }
+    ensures { result ≡ clip_at s.now p }
 {
     Clip {
         offset: u16_at(s, p),
@@ -125,7 +125,7 @@ fn clip_at(s: &[u8], p: usize) -> Clip
 }
 
 fn view_of(s: &[u8], p: usize, rank: u8, sized: bool, count: u8) -> View
-    requires { (rank ≤ rankPlaces) × (count ≤ rankPlaces) × (p + viewLength rank count ≤ length s.now) }
+    requires { (rank ≤ rank_places) × (count ≤ rank_places) × (p + view_length rank count ≤ length s.now) }
     ensures { result ≡ view_of s.now p rank sized count }
 {
     let n = rank as usize;
@@ -146,8 +146,8 @@ fn view_of(s: &[u8], p: usize, rank: u8, sized: bool, count: u8) -> View
 
 // The view whose content starts at p. Its head was found right.
 pub fn view_at(s: &[u8], p: usize, len: usize) -> View
-    requires { (2 ≤ len) × (p + len ≤ length s.now) × (viewHeadOk s.now p len ≡ true) }
-    ensures { result ≡ viewAt s.now p }
+    requires { (2 ≤ len) × (p + len ≤ length s.now) × (view_head_ok s.now p len ≡ true) }
+    ensures { result ≡ view_at s.now p }
 {
     let rank = s[p];
     let sized = s[p + 1] == 1;
@@ -156,7 +156,7 @@ pub fn view_at(s: &[u8], p: usize, len: usize) -> View
 
 // Lengths 11 to 15, 20, 25, 30, 35.
 pub fn view_length_ok(len: usize) -> bool
-    ensures { result ≡ viewLengthOk len }
+    ensures { result ≡ view_length_ok len }
 {
     if numbers::between(11, 15, len) {
         return true;
@@ -170,7 +170,7 @@ pub fn view_length_ok(len: usize) -> bool
 // The dimension count and has-dimensions give the length.
 pub fn view_head_ok(s: &[u8], p: usize, len: usize) -> bool
     requires { (2 ≤ len) × (p + len ≤ length s.now) }
-    ensures { result ≡ viewHeadOk s.now p len }
+    ensures { result ≡ view_head_ok s.now p len }
 {
     let rank = s[p];
     let has = s[p + 1];

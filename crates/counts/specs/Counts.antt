@@ -3,13 +3,13 @@ use Rattle.std.specs.Prelude.{ℕ, ◌+◌}
 use Rattle.counts.specs.declared.Counts.{Counts}
 
 -- nothing is counted yet
-abbrev pub noCounts : Counts
-noCounts = record { placed = 0 }
+abbrev pub no_counts : Counts
+no_counts = record { placed = 0 }
 
 -- n more elements had a byte
-abbrev pub morePlaced : Counts → ℕ → Counts
-morePlaced c n = record { placed = c.placed + n }
+abbrev pub more_placed : Counts → ℕ → Counts
+more_placed c n = record { placed = c.placed + n }
 
 -- one more element had a byte
-abbrev pub onePlaced : Counts → Counts
-onePlaced c = morePlaced c 1
+abbrev pub one_placed : Counts → Counts
+one_placed c = more_placed c 1

@@ -1,6 +1,6 @@
 // What a job counts.
 ghost use Rattle.std.specs.Prelude.{◌≡◌, ◌<◌, ◌^◌};
-ghost use Rattle.counts.specs.Counts.{noCounts, morePlaced};
+ghost use Rattle.counts.specs.Counts.{no_counts, more_placed};
 
 #[derive(Drop)]
 pub struct Counts {
@@ -9,7 +9,7 @@ pub struct Counts {
 }
 
 pub fn no_counts() -> Counts
-    ensures { result ≡ noCounts }
+    ensures { result ≡ no_counts }
 {
     Counts { placed: 0 }
 }
@@ -17,7 +17,7 @@ pub fn no_counts() -> Counts
 // With n more elements that had a byte.
 pub fn more_placed(c: Counts, n: usize) -> Counts
     requires { (c.placed < 2 ^ 32) × (n < 2 ^ 32) }
-    ensures { result ≡ morePlaced c n }
+    ensures { result ≡ more_placed c n }
 {
     Counts {
         placed: c.placed + n,

@@ -1,10 +1,10 @@
 // A layout's dimensions as numbers, which can be lent, without the leading ones that are fixed.
 ghost use Rattle.std.specs.Prelude.{◌≡◌, true, ◌+◌, ◌*◌, ◌/◌, ◌≤◌, ◌<◌, get_or};
 ghost use Rattle.numbers.specs.Lists.{line};
-ghost use Rattle.tensor_ranges.specs.Layouts.{layoutOk};
+ghost use Rattle.tensor_ranges.specs.Layouts.{layout_ok};
 ghost use Rattle.tensor_ranges.specs.Laws.Facts.{InSize};
-ghost use Rattle.sheet.specs.Sizes.{rankPlaces, sizeLimit};
-ghost use Rattle.dimensions.specs.Dimensions.{dimensionNumbers, dimensionPut, layoutNumbers, dimensionIn, fixed, fixedPart, lead, leadStart, tailOf, tailNumbers, partLimit};
+ghost use Rattle.sheet.specs.Sizes.{rank_places, size_limit};
+ghost use Rattle.dimensions.specs.Dimensions.{dimension_numbers, dimension_put, layout_numbers, dimension_in, fixed, fixed_part, lead, lead_start, tail_of, tail_numbers, part_limit};
 
 use sheet::sizes::RANK;
 use sheet::{Dimension, Layout};
@@ -25,8 +25,8 @@ pub struct Tail {
 
 // The numbers of a dimension, one after the other.
 fn put_dimension(numbers: &mut [u16; LAYOUT_NUMBERS], l: Layout, d: usize)
-    requires { d < rankPlaces }
-    ensures { numbers.new ≡ dimensionPut l numbers.old d }
+    requires { d < rank_places }
+    ensures { numbers.new ≡ dimension_put l numbers.old d }
 {
     let x = l.dimensions[d];
     let at = DIMENSION_NUMBERS * d;
@@ -39,7 +39,7 @@ fn put_dimension(numbers: &mut [u16; LAYOUT_NUMBERS], l: Layout, d: usize)
 
 // A layout's dimensions as numbers, which can be lent.
 pub fn layout_numbers(l: Layout) -> [u16; LAYOUT_NUMBERS]
-    ensures { result ≡ layoutNumbers l }
+    ensures { result ≡ layout_numbers l }
 {
     let mut numbers = [0u16; LAYOUT_NUMBERS];
     put_dimension(&mut numbers, l, 0);
@@ -51,8 +51,8 @@ pub fn layout_numbers(l: Layout) -> [u16; LAYOUT_NUMBERS]
 }
 
 pub fn dimension_at(numbers: &[u16; LAYOUT_NUMBERS], d: usize) -> Dimension
-    requires { d < rankPlaces }
-    ensures { result ≡ dimensionIn numbers.now (dimensionNumbers * d) }
+    requires { d < rank_places }
+    ensures { result ≡ dimension_in numbers.now (dimension_numbers * d) }
 {
     let at = DIMENSION_NUMBERS * d;
     Dimension {
@@ -83,8 +83,8 @@ fn is_fixed(x: Dimension) -> bool
 }
 
 fn fixed_part(x: Dimension) -> u32
-    requires { InSize x.block × (x.offset < sizeLimit) }
-    ensures { (result ≡ fixedPart x) × (result ≤ partLimit) }
+    requires { InSize x.block × (x.offset < size_limit) }
+    ensures { (result ≡ fixed_part x) × (result ≤ part_limit) }
 {
     block_of(wide(x.offset), wide(x.block)) * wide(x.stride)
 }
@@ -97,8 +97,8 @@ struct Lead {
 }
 
 fn lead_of(numbers: &[u16; LAYOUT_NUMBERS], l: Layout) -> Lead
-    requires { (layoutOk l ≡ true) × (numbers.now ≡ layoutNumbers l) }
-    ensures { (result.count ≡ lead l) × (result.start ≡ leadStart l (lead l)) × (result.start ≤ lead l * partLimit) }
+    requires { (layout_ok l ≡ true) × (numbers.now ≡ layout_numbers l) }
+    ensures { (result.count ≡ lead l) × (result.start ≡ lead_start l (lead l)) × (result.start ≤ lead l * part_limit) }
 {
     let mut start: u32 = 0;
     let mut d: u8 = 0;
@@ -115,7 +115,7 @@ fn lead_of(numbers: &[u16; LAYOUT_NUMBERS], l: Layout) -> Lead
 
 // The numbers from place `from` on, moved to the start.
 fn move_up(numbers: &mut [u16; LAYOUT_NUMBERS], from: usize, count: usize)
-    requires { from + count ≤ rankPlaces * dimensionNumbers }
+    requires { from + count ≤ rank_places * dimension_numbers }
     ensures { numbers.new ≡ line numbers.old 0 (λ k. get_or numbers.old (from + k) 0) count }
 {
     let mut k: usize = 0;
@@ -127,9 +127,9 @@ fn move_up(numbers: &mut [u16; LAYOUT_NUMBERS], from: usize, count: usize)
 
 // What is left of a layout's numbers without the fixed ones: it is found out once for all elements of an access.
 pub fn tail_of(numbers: &mut [u16; LAYOUT_NUMBERS], l: Layout) -> Tail
-    requires { (layoutOk l ≡ true) × (numbers.old ≡ layoutNumbers l) }
-    ensures value { (result ≡ tailOf l) × (result.start ≤ lead l * partLimit) }
-    ensures numbers_after { numbers.new ≡ tailNumbers l }
+    requires { (layout_ok l ≡ true) × (numbers.old ≡ layout_numbers l) }
+    ensures value { (result ≡ tail_of l) × (result.start ≤ lead l * part_limit) }
+    ensures numbers_after { numbers.new ≡ tail_numbers l }
 {
     let fixed = lead_of(numbers, l);
     let rank = l.rank - fixed.count;

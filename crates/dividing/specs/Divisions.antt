@@ -11,29 +11,29 @@ use Rattle.addressing.specs.Rules.{indexed}
 use Rattle.addressing.specs.declared.Access.{Access}
 use Rattle.addressing.specs.declared.Indexed.{Indexed}
 use Rattle.addressing.specs.declared.Indexed.TheVariants.{Skipped, Index}
-use Rattle.accepted.specs.Elements.{ofAccess, ofStep, ofTurn, ofSheet}
+use Rattle.accepted.specs.Elements.{of_access, of_step, of_turn, of_sheet}
 
 -- for what rules 1 and 2 give: none for a skipped element, and none for an index that gets 12 before rule 3
-unfoldable pub indexDivisions : Layout → Indexed → ℕ
-indexDivisions l Skipped = 0
-indexDivisions l (Index i) = pick (leb (2 ^ 32) i) 0 (divided l i).divisions
+unfoldable pub index_divisions : Layout → Indexed → ℕ
+index_divisions l Skipped = 0
+index_divisions l (Index i) = pick (leb (2 ^ 32) i) 0 (divided l i).divisions
 
 -- element e of a load or a store
-abbrev pub elementDivisions : Access → ℕ → ℕ
-elementDivisions a e = indexDivisions a.layout (indexed a (e / a.columns) (e % a.columns))
+abbrev pub element_divisions : Access → ℕ → ℕ
+element_divisions a e = index_divisions a.layout (indexed a (e / a.columns) (e % a.columns))
 
 -- those of the elements of a load or a store in order, of a step, whatever its number, and of a sheet's steps in order
-abbrev pub accessDivisions : Access → List ℕ
-accessDivisions a = ofAccess elementDivisions a
+abbrev pub access_divisions : Access → List ℕ
+access_divisions a = of_access element_divisions a
 
-abbrev pub stepDivisions : Tensors → List MatrixType → ℕ → ℕ → Step → List ℕ
-stepDivisions tensors ts len k step = ofStep (λ (n : ℕ). elementDivisions) tensors ts len k step
+abbrev pub step_divisions : Tensors → List MatrixType → ℕ → ℕ → Step → List ℕ
+step_divisions tensors ts len k step = of_step (λ (n : ℕ). element_divisions) tensors ts len k step
 
-abbrev pub divisionsAt : Sheet → ℕ → List MatrixType → ℕ → Step → List ℕ
-divisionsAt sh len ts k step = ofTurn (λ (n : ℕ). elementDivisions) sh len ts k step
+abbrev pub divisions_at : Sheet → ℕ → List MatrixType → ℕ → Step → List ℕ
+divisions_at sh len ts k step = of_turn (λ (n : ℕ). element_divisions) sh len ts k step
 
 unfoldable pub divisions : Sheet → ℕ → List ℕ
-divisions sh len = ofSheet (λ (n : ℕ). elementDivisions) sh len
+divisions sh len = of_sheet (λ (n : ℕ). element_divisions) sh len
 
 unfoldable pub total : List ℕ → ℕ
 total [] = 0

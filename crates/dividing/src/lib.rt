@@ -1,12 +1,12 @@
 // Counts the divisions that rule 3 takes over a sheet's loads and stores, for those who time layouts: no other job asks.
 ghost use Rattle.std.specs.Prelude.{◌≡◌, ◌*◌, ◌≤◌, ◌<◌};
-ghost use Rattle.sheet.specs.Sizes.{rankPlaces, stepPlaces, matrixPlaces, memoryLimit};
-ghost use Rattle.sheet_reader.specs.Parts.{sheetOf, Outlined};
-ghost use Rattle.addressing.specs.Rules.{elementsOf};
+ghost use Rattle.sheet.specs.Sizes.{rank_places, step_places, matrix_places, memory_limit};
+ghost use Rattle.sheet_reader.specs.Parts.{sheet_of, Outlined};
+ghost use Rattle.addressing.specs.Rules.{elements_of};
 ghost use Rattle.addressing.specs.Valid.{Planned};
 ghost use Rattle.checking.specs.Checking.{checked};
 ghost use Rattle.accepted.specs.Accepted.{ClearAccess};
-ghost use Rattle.dividing.specs.Divisions.{elementDivisions, accessDivisions, divisions, total};
+ghost use Rattle.dividing.specs.Divisions.{element_divisions, access_divisions, divisions, total};
 ghost use Rattle.dividing.specs.Dividing.{counted};
 
 use addressing::{Access, INDEX_LIMIT, Indexed, Plan};
@@ -30,9 +30,9 @@ fn element_divisions(
     strides: &[u64; RANK],
     k: u32,
 ) -> u32
-    requires planned { Planned p × (k < elementsOf p.access) }
+    requires planned { Planned p × (k < elements_of p.access) }
     requires permutation_value { (permutation.now ≡ p.access.view.permutation) × (sizes.now ≡ p.sizes) × (strides.now ≡ p.strides) }
-    ensures { (result ≡ elementDivisions p.access k) × (result ≤ rankPlaces) }
+    ensures { (result ≡ element_divisions p.access k) × (result ≤ rank_places) }
 {
     match addressing::index_of(p, permutation, sizes, strides, k) {
         Indexed::Skipped => 0,
@@ -48,7 +48,7 @@ fn element_divisions(
 
 fn plan_divisions(p: Plan) -> usize
     requires { Planned p }
-    ensures { (result ≡ total (accessDivisions p.access)) × (result ≤ matrixPlaces * rankPlaces) }
+    ensures { (result ≡ total (access_divisions p.access)) × (result ≤ matrix_places * rank_places) }
 {
     let v = p.access.view;
     let permutation = v.permutation;
@@ -66,7 +66,7 @@ fn plan_divisions(p: Plan) -> usize
 // An access without rows is that of no element.
 fn access_divisions(access: Access) -> usize
     requires { 0 < access.rows → ClearAccess access }
-    ensures { (result ≡ total (accessDivisions access)) × (result ≤ matrixPlaces * rankPlaces) }
+    ensures { (result ≡ total (access_divisions access)) × (result ≤ matrix_places * rank_places) }
 {
     if access.rows < 1 {
         return 0;
@@ -76,8 +76,8 @@ fn access_divisions(access: Access) -> usize
 
 // The steps in order, from empty registers.
 fn sheet_divisions(s: &[u8], parts: &[usize; PARTS], given: Given, memory: usize) -> usize
-    requires { Outlined s.now parts.now given × (memory ≤ memoryLimit) × ((checked (sheetOf s.now) memory).refusal.number ≡ 0) }
-    ensures { (result ≡ total (divisions (sheetOf s.now) memory)) × (result ≤ stepPlaces * (matrixPlaces * rankPlaces)) }
+    requires { Outlined s.now parts.now given × (memory ≤ memory_limit) × ((checked (sheet_of s.now) memory).refusal.number ≡ 0) }
+    ensures { (result ≡ total (divisions (sheet_of s.now) memory)) × (result ≤ step_places * (matrix_places * rank_places)) }
 {
     let mut types = registers::empty_types();
     let mut sum: usize = 0;

@@ -1,10 +1,10 @@
 // The trace that a sheet makes: an event for each element of its loads and stores.
 ghost use Rattle.std.specs.Prelude.{◌≡◌, ℕ, ◌≤◌, ◌<◌, length};
-ghost use Rattle.sheet.specs.Sizes.{stepPlaces, matrixPlaces};
-ghost use Rattle.addressing.specs.Rules.{elementsOf};
+ghost use Rattle.sheet.specs.Sizes.{step_places, matrix_places};
+ghost use Rattle.addressing.specs.Rules.{elements_of};
 ghost use Rattle.accesses.specs.Entries.{Near};
-ghost use Rattle.expected.specs.Expected.{sortOf, byteOf, eventOf, accessEvents};
-ghost use Rattle.expected.specs.Listed.{listedEvent};
+ghost use Rattle.expected.specs.Expected.{sort_of, byte_of, event_of, access_events};
+ghost use Rattle.expected.specs.Listed.{listed_event};
 
 use addressing::Access;
 use outcomes::Outcome;
@@ -12,7 +12,7 @@ use sheet::sizes::PLACES;
 use traces::{BYTE, DISCARDED, Event, FILLED, SKIPPED};
 
 pub fn sort_of(o: Outcome) -> u8
-    ensures { result ≡ sortOf o }
+    ensures { result ≡ sort_of o }
 {
     match o {
         Outcome::Skipped => SKIPPED,
@@ -24,7 +24,7 @@ pub fn sort_of(o: Outcome) -> u8
 
 fn byte_of(o: Outcome) -> u32
     requires { Near o }
-    ensures { result ≡ byteOf o }
+    ensures { result ≡ byte_of o }
 {
     match o {
         Outcome::Skipped => 0,
@@ -35,8 +35,8 @@ fn byte_of(o: Outcome) -> u32
 }
 
 fn event_of(step: usize, element: usize, o: Outcome) -> Event
-    requires { (step < stepPlaces) × (element < matrixPlaces) × Near o }
-    ensures { result ≡ eventOf step element o }
+    requires { (step < step_places) × (element < matrix_places) × Near o }
+    ensures { result ≡ event_of step element o }
 {
     Event {
         step: step as u16,
@@ -48,16 +48,16 @@ fn event_of(step: usize, element: usize, o: Outcome) -> Event
 
 // The event of an element by its entry of a survey. The bits of a filled element do not show in its event, so any will do.
 pub fn listed_event(entries: &[u32; PLACES], step: usize, element: usize) -> Event
-    requires { (step < stepPlaces) × (element < matrixPlaces) }
-    ensures { result ≡ listedEvent step entries.now element }
+    requires { (step < step_places) × (element < matrix_places) }
+    ensures { result ≡ listed_event step entries.now element }
 {
     event_of(step, element, accesses::outcome_of(entries[element], 0))
 }
 
 // How many events the elements of an access have.
 pub fn count_events(access: Access) -> usize
-    requires { elementsOf access ≤ matrixPlaces }
-    ensures { (k : ℕ) → result ≡ length (accessEvents k access) }
+    requires { elements_of access ≤ matrix_places }
+    ensures { (k : ℕ) → result ≡ length (access_events k access) }
 {
     (access.rows * access.columns) as usize
 }

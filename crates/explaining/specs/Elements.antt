@@ -8,32 +8,32 @@ use Rattle.sheet.specs.declared.Tensors.{Tensors}
 use Rattle.sheet.specs.declared.Sheet.{Sheet}
 use Rattle.sheet.specs.declared.Step.{Step}
 use Rattle.registers.specs.declared.MatrixType.{MatrixType}
-use Rattle.spans.specs.Spans.{spanCoordinates}
-use Rattle.clamps.specs.Sides.{firstOutside}
+use Rattle.spans.specs.Spans.{span_coordinates}
+use Rattle.clamps.specs.Sides.{first_outside}
 use Rattle.addressing.specs.Rules.{indexed}
 use Rattle.addressing.specs.declared.Access.{Access}
 use Rattle.addressing.specs.declared.Indexed.{Indexed}
 use Rattle.addressing.specs.declared.Indexed.TheVariants.{Skipped, Index}
-use Rattle.transfers.specs.Transfers.{outcomeOf}
-use Rattle.accepted.specs.Elements.{ofStep, atStep}
+use Rattle.transfers.specs.Transfers.{outcome_of}
+use Rattle.accepted.specs.Elements.{of_step, at_step}
 
 -- for what rules 1 and 2 give: a skipped element has none
-abbrev pub outsideAt : Layout → Indexed → Outside
-outsideAt l Skipped = Nowhere
-outsideAt l (Index i) = firstOutside l (spanCoordinates l i)
+abbrev pub outside_at : Layout → Indexed → Outside
+outside_at l Skipped = Nowhere
+outside_at l (Index i) = first_outside l (span_coordinates l i)
 
 -- element e of a load or a store
-unfoldable pub outsideOf : Access → ℕ → Outside
-outsideOf a e = outsideAt a.layout (indexed a (e / a.columns) (e % a.columns))
+unfoldable pub outside_of : Access → ℕ → Outside
+outside_of a e = outside_at a.layout (indexed a (e / a.columns) (e % a.columns))
 
 -- it stands beside the outcome
 abbrev pub explained : Access → ℕ → Explained
-explained a e = record { outcome = outcomeOf a e; outside = outsideOf a e }
+explained a e = record { outcome = outcome_of a e; outside = outside_of a e }
 
 -- the elements of a step, at the types that the steps before left
-abbrev pub stepExplained : Tensors → List MatrixType → ℕ → ℕ → Step → List Explained
-stepExplained tensors ts len k step = ofStep (λ (n : ℕ). explained) tensors ts len k step
+abbrev pub step_explained : Tensors → List MatrixType → ℕ → ℕ → Step → List Explained
+step_explained tensors ts len k step = of_step (λ (n : ℕ). explained) tensors ts len k step
 
 -- those of step k of a sheet; a step past the last has none
-abbrev pub sheetExplained : Sheet → ℕ → ℕ → List Explained
-sheetExplained sh len k = atStep (λ (n : ℕ). explained) sh len k
+abbrev pub sheet_explained : Sheet → ℕ → ℕ → List Explained
+sheet_explained sh len k = at_step (λ (n : ℕ). explained) sh len k

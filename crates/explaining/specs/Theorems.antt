@@ -11,82 +11,82 @@ use Rattle.sheet.specs.declared.Tensors.{Tensors}
 use Rattle.sheet.specs.declared.Sheet.{Sheet}
 use Rattle.sheet.specs.declared.Step.{Step}
 use Rattle.sheet.specs.declared.Step.TheVariants.{Nothing, Load, Store, Whole}
-use Rattle.sheet_ranges.specs.Steps.{theStep}
+use Rattle.sheet_ranges.specs.Steps.{the_step}
 use Rattle.registers.specs.declared.MatrixType.{MatrixType}
 use Rattle.accepted.specs.Passes.{types_at}
-use Rattle.accepted.specs.Elements.{ofAccess, ofStep, atStep}
-use Rattle.accepted.specs.Laws.Elements.{access-count, access-at, at-step, at-past}
-use Rattle.sheet_reader.specs.Reading.{readSheet}
-use Rattle.spans.specs.Spans.{spanCoordinates}
-use Rattle.clamps.specs.Sides.{sideAt}
+use Rattle.accepted.specs.Elements.{of_access, of_step, at_step}
+use Rattle.accepted.specs.Laws.Elements.{access_count, access_at, at_step_lem, at_past}
+use Rattle.sheet_reader.specs.Reading.{read_sheet}
+use Rattle.spans.specs.Spans.{span_coordinates}
+use Rattle.clamps.specs.Sides.{side_at}
 use Rattle.clamps.specs.Named.{First}
-use Rattle.clamps.specs.Theorems.{first-named}
-use Rattle.addressing.specs.Rules.{elementsOf, indexed, located}
+use Rattle.clamps.specs.Theorems.{first_named}
+use Rattle.addressing.specs.Rules.{elements_of, indexed, located}
 use Rattle.addressing.specs.declared.Access.{Access}
 use Rattle.addressing.specs.declared.Indexed.TheVariants.{Index}
-use Rattle.accesses.specs.Refusals.{elementOutcome}
-use Rattle.transfers.specs.Transfers.{outcomeOf}
-use Rattle.checking.specs.Checking.{checkedSheet}
-use Rattle.explaining.specs.Elements.{outsideOf, explained, sheetExplained}
-use Rattle.explaining.specs.Explaining.{explainAnswer, nothingExplained, asked, answeredBy, explainedSheet}
+use Rattle.accesses.specs.Refusals.{element_outcome}
+use Rattle.transfers.specs.Transfers.{outcome_of}
+use Rattle.checking.specs.Checking.{checked_sheet}
+use Rattle.explaining.specs.Elements.{outside_of, explained, sheet_explained}
+use Rattle.explaining.specs.Explaining.{explain_answer, nothing_explained, asked, answered_by, explained_sheet}
 use Rattle.explaining.specs.Beside.{Beside}
 use Rattle.explaining.specs.declared.ExplainAnswer.{ExplainAnswer}
-use Rattle.explaining.specs.Laws.Sides.{landed-beside}
+use Rattle.explaining.specs.Laws.Sides.{landed_beside}
 
 module _ (a : Access) (e : ℕ) where
   -- A skipped element has no dimension named, a filled one and a discarded one have one.
-  pub outcome-beside : Beside (elementOutcome a e).refusal (elementOutcome a e).outcome (explained a e).outside
-  unfolding elementOutcome located outsideOf
-  outcome-beside = landed-beside a (indexed a (e / a.columns) (e % a.columns))
+  pub outcome_beside : Beside (element_outcome a e).refusal (element_outcome a e).outcome (explained a e).outside
+  unfolding element_outcome located outside_of
+  outcome_beside = landed_beside a (indexed a (e / a.columns) (e % a.columns))
 
   -- Of an element with an index the named dimension is the first that is not inside by its span coordinates; none is named exactly where every one is inside.
-  pub index-named : (i : ℕ) → indexed a (e / a.columns) (e % a.columns) ≡ Index i
-      → First (sideAt a.layout (spanCoordinates a.layout i)) a.layout.rank (explained a e).outside
-  unfolding outsideOf
-  index-named i q = rw q (first-named a.layout (spanCoordinates a.layout i))
+  pub index_named : (i : ℕ) → indexed a (e / a.columns) (e % a.columns) ≡ Index i
+      → First (side_at a.layout (span_coordinates a.layout i)) a.layout.rank (explained a e).outside
+  unfolding outside_of
+  index_named i q = rw q (first_named a.layout (span_coordinates a.layout i))
 
 module _ (s : List ℕ) (len step e : ℕ) where
   -- A sheet that its check accepts is answered by the step's elements: by element e, or with refusal 5 at (step, e) where there is none.
-  pub explained-accepted : (checkedSheet s len).refusal.number ≡ 0
-      → explainedSheet s len step e ≡ answeredBy step e (asked (sheetExplained (readSheet s).sheet len step) e)
-  unfolding explainedSheet pick
-  explained-accepted fine = rw (eq-eqb (checkedSheet s len).refusal.number 0 fine) refl
+  pub explained_accepted : (checked_sheet s len).refusal.number ≡ 0
+      → explained_sheet s len step e ≡ answered_by step e (asked (sheet_explained (read_sheet s).sheet len step) e)
+  unfolding explained_sheet pick
+  explained_accepted fine = rw (eq-eqb (checked_sheet s len).refusal.number 0 fine) refl
 
   -- Another is refused as its check refuses it, at the same places, and nothing is told.
-  pub explained-refused : 0 < (checkedSheet s len).refusal.number → explainedSheet s len step e ≡ explainAnswer (checkedSheet s len).refusal nothingExplained
-  unfolding explainedSheet pick
-  explained-refused n = rw (ne_eqb (checkedSheet s len).refusal.number 0 (λ q. omega arith)) refl
+  pub explained_refused : 0 < (checked_sheet s len).refusal.number → explained_sheet s len step e ≡ explain_answer (checked_sheet s len).refusal nothing_explained
+  unfolding explained_sheet pick
+  explained_refused n = rw (ne_eqb (checked_sheet s len).refusal.number 0 (λ q. omega arith)) refl
 
 -- Beside the dimension the outcome is the one of the sheet's outcomes, by which tapes, masks and traces go.
-access-outcome : (a : Access) (e : ℕ) → (get_or (ofAccess explained a) e nothingExplained).outcome ≡ get_or (ofAccess outcomeOf a) e outcome.Skipped
-access-outcome a e =
-    by_order e (elementsOf a)
-    (λ h. rw (access-at explained a e nothingExplained h, access-at outcomeOf a e outcome.Skipped h) refl)
-    (λ h. rw (get_or-eq_default (ofAccess explained a) nothingExplained {n = e} (omega (arith, access-count explained a)), get_or-eq_default (ofAccess outcomeOf a) outcome.Skipped {n = e} (omega (arith, access-count outcomeOf a))) refl)
+access_outcome : (a : Access) (e : ℕ) → (get_or (of_access explained a) e nothing_explained).outcome ≡ get_or (of_access outcome_of a) e outcome.Skipped
+access_outcome a e =
+    by_order e (elements_of a)
+    (λ h. rw (access_at explained a e nothing_explained h, access_at outcome_of a e outcome.Skipped h) refl)
+    (λ h. rw (get_or-eq_default (of_access explained a) nothing_explained {n = e} (omega (arith, access_count explained a)), get_or-eq_default (of_access outcome_of a) outcome.Skipped {n = e} (omega (arith, access_count outcome_of a))) refl)
 
-step-outcome : (tensors : Tensors) (ts : List MatrixType) (len k : ℕ) (step : Step) (e : ℕ)
-    → (get_or (ofStep (λ (n : ℕ). explained) tensors ts len k step) e nothingExplained).outcome ≡ get_or (ofStep (λ (n : ℕ). outcomeOf) tensors ts len k step) e outcome.Skipped
-unfolding ofStep
-step-outcome tensors ts len k Nothing e = refl
-step-outcome tensors ts len k (Load register object window) e = access-outcome _ e
-step-outcome tensors ts len k (Store register window) e = access-outcome _ e
-step-outcome tensors ts len k (Whole whole) e = refl
+step_outcome : (tensors : Tensors) (ts : List MatrixType) (len k : ℕ) (step : Step) (e : ℕ)
+    → (get_or (of_step (λ (n : ℕ). explained) tensors ts len k step) e nothing_explained).outcome ≡ get_or (of_step (λ (n : ℕ). outcome_of) tensors ts len k step) e outcome.Skipped
+unfolding of_step
+step_outcome tensors ts len k Nothing e = refl
+step_outcome tensors ts len k (Load register object window) e = access_outcome _ e
+step_outcome tensors ts len k (Store register window) e = access_outcome _ e
+step_outcome tensors ts len k (Whole whole) e = refl
 
-sheet-outcome : (sh : Sheet) (len k e : ℕ) → (get_or (sheetExplained sh len k) e nothingExplained).outcome ≡ get_or (atStep (λ (n : ℕ). outcomeOf) sh len k) e outcome.Skipped
-sheet-outcome sh len k e =
+sheet_outcome : (sh : Sheet) (len k e : ℕ) → (get_or (sheet_explained sh len k) e nothing_explained).outcome ≡ get_or (at_step (λ (n : ℕ). outcome_of) sh len k) e outcome.Skipped
+sheet_outcome sh len k e =
     by_order k sh.steps
-    (λ h. rw (at-step (λ (n : ℕ). explained) sh len k h, at-step (λ (n : ℕ). outcomeOf) sh len k h) (step-outcome sh.tensors (types_at sh len k) len k (theStep sh.step k) e))
-    (λ h. rw (at-past (λ (n : ℕ). explained) sh len k h, at-past (λ (n : ℕ). outcomeOf) sh len k h) refl)
+    (λ h. rw (at_step_lem (λ (n : ℕ). explained) sh len k h, at_step_lem (λ (n : ℕ). outcome_of) sh len k h) (step_outcome sh.tensors (types_at sh len k) len k (the_step sh.step k) e))
+    (λ h. rw (at_past (λ (n : ℕ). explained) sh len k h, at_past (λ (n : ℕ). outcome_of) sh len k h) refl)
 
-asked-outcome : (xs : List Explained) (step e : ℕ) → (answeredBy step e (asked xs e)).explained.outcome ≡ (get_or xs e nothingExplained).outcome
+asked_outcome : (xs : List Explained) (step e : ℕ) → (answered_by step e (asked xs e)).explained.outcome ≡ (get_or xs e nothing_explained).outcome
 unfolding asked pick
-asked-outcome xs step e =
+asked_outcome xs step e =
     by_order e (length xs) (λ h. rw (lt-ltb e (length xs) h) refl)
-    (λ h. rw (le-ltb e (length xs) h, get_or-eq_default xs nothingExplained h) refl)
+    (λ h. rw (le-ltb e (length xs) h, get_or-eq_default xs nothing_explained h) refl)
 
-pub outcome-kept : (s : List ℕ) (len step e : ℕ) → (checkedSheet s len).refusal.number ≡ 0
-    → (explainedSheet s len step e).explained.outcome ≡ get_or (atStep (λ (n : ℕ). outcomeOf) (readSheet s).sheet len step) e outcome.Skipped
-outcome-kept s len step e fine =
-    ap (λ (r : ExplainAnswer). r.explained.outcome) (explained-accepted s len step e fine)
-    ∙ asked-outcome (sheetExplained (readSheet s).sheet len step) step e
-    ∙ sheet-outcome (readSheet s).sheet len step e
+pub outcome_kept : (s : List ℕ) (len step e : ℕ) → (checked_sheet s len).refusal.number ≡ 0
+    → (explained_sheet s len step e).explained.outcome ≡ get_or (at_step (λ (n : ℕ). outcome_of) (read_sheet s).sheet len step) e outcome.Skipped
+outcome_kept s len step e fine =
+    ap (λ (r : ExplainAnswer). r.explained.outcome) (explained_accepted s len step e fine)
+    ∙ asked_outcome (sheet_explained (read_sheet s).sheet len step) step e
+    ∙ sheet_outcome (read_sheet s).sheet len step e

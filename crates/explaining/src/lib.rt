@@ -1,17 +1,17 @@
 // Explains one element of a sheet's load or store (document 02, T-06): what becomes of it, and the first dimension in which it is not inside.
 ghost use Rattle.std.specs.Prelude.{◌≡◌, ◌≤◌, ◌<◌};
-ghost use Rattle.sheet.specs.Sizes.{memoryLimit};
-ghost use Rattle.sheet_reader.specs.Parts.{sheetOf, Outlined};
-ghost use Rattle.addressing.specs.Rules.{elementsOf};
+ghost use Rattle.sheet.specs.Sizes.{memory_limit};
+ghost use Rattle.sheet_reader.specs.Parts.{sheet_of, Outlined};
+ghost use Rattle.addressing.specs.Rules.{elements_of};
 ghost use Rattle.addressing.specs.Valid.{Planned};
-ghost use Rattle.accesses.specs.Refusals.{accessRefusal};
+ghost use Rattle.accesses.specs.Refusals.{access_refusal};
 ghost use Rattle.checking.specs.Checking.{checked};
 ghost use Rattle.accepted.specs.Accepted.{ClearAccess};
-ghost use Rattle.accepted.specs.Elements.{ofAccess};
+ghost use Rattle.accepted.specs.Elements.{of_access};
 ghost use Rattle.accepted.specs.Passes.{types_at};
 ghost use Rattle.accepted.specs.Laws.Rests.{Rest};
-ghost use Rattle.explaining.specs.Elements.{outsideOf, explained, sheetExplained};
-ghost use Rattle.explaining.specs.Explaining.{explainAnswer, nothingExplained, asked, explainedSheet};
+ghost use Rattle.explaining.specs.Elements.{outside_of, explained, sheet_explained};
+ghost use Rattle.explaining.specs.Explaining.{explain_answer, nothing_explained, asked, explained_sheet};
 
 use addressing::{Access, Indexed, Plan};
 use checking::{checks, turns};
@@ -43,9 +43,9 @@ pub fn outside_of(
     strides: &[u64; RANK],
     k: u32,
 ) -> Outside
-    requires planned { Planned p × (k < elementsOf p.access) × ((accessRefusal p.access).number ≡ 0) }
+    requires planned { Planned p × (k < elements_of p.access) × ((access_refusal p.access).number ≡ 0) }
     requires permutation_value { (permutation.now ≡ p.access.view.permutation) × (sizes.now ≡ p.sizes) × (strides.now ≡ p.strides) }
-    ensures { result ≡ outsideOf p.access k }
+    ensures { result ≡ outside_of p.access k }
 {
     match addressing::index_of(p, permutation, sizes, strides, k) {
         Indexed::Skipped => Outside::Nowhere,
@@ -60,8 +60,8 @@ pub fn outside_of(
 
 // The outcome comes from the survey that the jobs go by.
 fn explain_plan(p: Plan, element: usize) -> Asked
-    requires { Planned p × ((accessRefusal p.access).number ≡ 0) }
-    ensures { result ≡ asked (ofAccess explained p.access) element }
+    requires { Planned p × ((access_refusal p.access).number ≡ 0) }
+    ensures { result ≡ asked (of_access explained p.access) element }
 {
     if p.count <= element {
         return Asked::Nothing;
@@ -81,7 +81,7 @@ fn explain_plan(p: Plan, element: usize) -> Asked
 // An access without rows is that of no element.
 fn explain_access(access: Access, element: usize) -> Asked
     requires { 0 < access.rows → ClearAccess access }
-    ensures { result ≡ asked (ofAccess explained access) element }
+    ensures { result ≡ asked (of_access explained access) element }
 {
     if access.rows < 1 {
         return Asked::Nothing;
@@ -97,8 +97,8 @@ fn types_at(
     memory: usize,
     n: usize,
 ) -> [MatrixType; REGISTERS]
-    requires { Outlined s.now parts.now given × (memory ≤ memoryLimit) × ((checked (sheetOf s.now) memory).refusal.number ≡ 0) × (n < given.steps) }
-    ensures { (result ≡ types_at (sheetOf s.now) memory n) × Rest (sheetOf s.now) memory n result }
+    requires { Outlined s.now parts.now given × (memory ≤ memory_limit) × ((checked (sheet_of s.now) memory).refusal.number ≡ 0) × (n < given.steps) }
+    ensures { (result ≡ types_at (sheet_of s.now) memory n) × Rest (sheet_of s.now) memory n result }
 {
     let mut types = registers::empty_types();
     let mut k: usize = 0;
@@ -119,8 +119,8 @@ fn explain_sheet(
     step: usize,
     element: usize,
 ) -> Asked
-    requires { Outlined s.now parts.now given × (memory ≤ memoryLimit) × ((checked (sheetOf s.now) memory).refusal.number ≡ 0) }
-    ensures { result ≡ asked (sheetExplained (sheetOf s.now) memory step) element }
+    requires { Outlined s.now parts.now given × (memory ≤ memory_limit) × ((checked (sheet_of s.now) memory).refusal.number ≡ 0) }
+    ensures { result ≡ asked (sheet_explained (sheet_of s.now) memory step) element }
 {
     if given.steps <= step {
         return Asked::Nothing;
@@ -132,7 +132,7 @@ fn explain_sheet(
 }
 
 fn refuse(refusal: Refusal) -> ExplainAnswer
-    ensures { result ≡ explainAnswer refusal nothingExplained }
+    ensures { result ≡ explain_answer refusal nothing_explained }
 {
     ExplainAnswer {
         refusal,
@@ -145,7 +145,7 @@ fn refuse(refusal: Refusal) -> ExplainAnswer
 
 // Explains an element of a step for a memory of a length, without a memory.
 pub fn explain(sheet: &[u8], memory_len: usize, step: usize, element: usize) -> ExplainAnswer
-    ensures { result ≡ explainedSheet sheet.now memory_len «step» «element» }
+    ensures { result ≡ explained_sheet sheet.now memory_len «step» «element» }
 {
     let mut parts = sheet_parts::no_parts();
     let judged = checking::judge(sheet, &mut parts, memory_len);

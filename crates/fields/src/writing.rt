@@ -1,8 +1,8 @@
 // Writing a field's head, and small stretches of bytes.
 ghost use Rattle.std.specs.Prelude.{◌≡◌, [], ◌∷◌, ◌++◌, ◌+◌, ◌≤◌, length};
 ghost use Rattle.std.proofs.lemmas.List.Edits.{sets};
-ghost use Rattle.numbers.specs.Little.{u16Bytes};
-ghost use Rattle.fields.specs.Bytes.{headBytes};
+ghost use Rattle.numbers.specs.Little.{u16_bytes};
+ghost use Rattle.fields.specs.Bytes.{head_bytes};
 
 use super::HEAD;
 
@@ -31,7 +31,7 @@ pub fn put_pair(out: &mut [u8], at: usize, a: u8, b: u8)
 // Two numbers of 16 bits.
 pub fn put_u16s(out: &mut [u8], at: usize, x: u16, y: u16)
     requires { at + 4 ≤ length out.old }
-    ensures { out.new ≡ sets out.old at (u16Bytes x ++ u16Bytes y) }
+    ensures { out.new ≡ sets out.old at (u16_bytes x ++ u16_bytes y) }
 {
     numbers::put_u16(out, at, x);
     numbers::put_u16(out, at + 2, y);
@@ -40,7 +40,7 @@ pub fn put_u16s(out: &mut [u8], at: usize, x: u16, y: u16)
 // A field's tag and its content's length.
 pub fn put_head(out: &mut [u8], at: usize, tag: u8, content: u16)
     requires { at + 3 ≤ length out.old }
-    ensures { out.new ≡ sets out.old at (headBytes tag content) }
+    ensures { out.new ≡ sets out.old at (head_bytes tag content) }
 {
     put_byte(out, at, tag);
     numbers::put_u16(out, at + 1, content);

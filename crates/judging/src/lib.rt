@@ -1,14 +1,14 @@
 // Which records of a tape are out of range, over the registers' types and the memory's length: refusal 17.
 ghost use Rattle.std.specs.Prelude.{◌≡◌, true, ℕ, ◌+◌, ◌*◌, ◌<◌, ◌≤◌, ◌^◌, length};
-ghost use Rattle.sheet.specs.Sizes.{matrixPlaces, recordPlaces};
+ghost use Rattle.sheet.specs.Sizes.{matrix_places, record_places};
 ghost use Rattle.registers.specs.Sized.{Sized, SizedType};
-ghost use Rattle.sheet_reader.specs.Parts.{sheetOf, Outlined};
-ghost use Rattle.records.specs.Records.{recordLength};
+ghost use Rattle.sheet_reader.specs.Parts.{sheet_of, Outlined};
+ghost use Rattle.records.specs.Records.{record_length};
 ghost use Rattle.records.specs.Ranges.{Bytes, GoodInRange};
 ghost use Rattle.records.specs.declared.Decoded.TheVariants.{Good};
 ghost use Rattle.records.specs.declared.Record.TheVariants.{Whole};
-ghost use Rattle.judging.specs.Records.{elementsOk, byteInside, bytesInside, bytesRecordOk, fillRecordOk, wholeClear, wholeRecordOk, step_of, recordStep, recordOkWith, recordTypesWith};
-ghost use Rattle.judging.specs.Judging.{tapeRecord, decodedStep, decodedOkWith, decodedTypesWith, rangeRefusal, tapeRefusal};
+ghost use Rattle.judging.specs.Records.{elements_ok, byte_inside, bytes_inside, bytes_record_ok, fill_record_ok, whole_clear, whole_record_ok, step_of, record_step, record_ok_with, record_types_with};
+ghost use Rattle.judging.specs.Judging.{tape_record, decoded_step, decoded_ok_with, decoded_types_with, range_refusal, tape_refusal};
 ghost use Rattle.judging.specs.Laws.Named.{Placed};
 
 use checking::checks;
@@ -21,14 +21,14 @@ use sheet_reader::{Given, PARTS};
 
 fn elements_ok(t: MatrixType, first: usize, count: usize) -> bool
     requires { SizedType t × (first < 2 ^ 31) × (count < 2 ^ 31) }
-    ensures { result ≡ elementsOk t first count }
+    ensures { result ≡ elements_ok t first count }
 {
     first + count <= (t.rows as usize) * (t.columns as usize)
 }
 
 fn byte_inside(size: usize, len: usize, byte: usize, up: usize, down: usize, i: usize) -> bool
-    requires { (size ≤ 4) × (i < matrixPlaces) × Bytes byte up down }
-    ensures { result ≡ byteInside size len byte up down i }
+    requires { (size ≤ 4) × (i < matrix_places) × Bytes byte up down }
+    ensures { result ≡ byte_inside size len byte up down i }
 {
     let above = byte + i * up;
     let below = i * down;
@@ -39,8 +39,8 @@ fn byte_inside(size: usize, len: usize, byte: usize, up: usize, down: usize, i: 
 }
 
 fn bytes_inside(size: usize, len: usize, count: usize, byte: usize, up: usize, down: usize) -> bool
-    requires { (size ≤ 4) × (count ≤ matrixPlaces) × Bytes byte up down }
-    ensures { result ≡ bytesInside size len count byte up down }
+    requires { (size ≤ 4) × (count ≤ matrix_places) × Bytes byte up down }
+    ensures { result ≡ bytes_inside size len count byte up down }
 {
     let mut i = 0;
     while i < count {
@@ -63,7 +63,7 @@ fn bytes_record_ok(
     down: usize,
 ) -> bool
     requires { SizedType t × (first < 2 ^ 31) × (count < 2 ^ 31) × Bytes byte up down }
-    ensures { result ≡ bytesRecordOk t len first count byte up down }
+    ensures { result ≡ bytes_record_ok t len first count byte up down }
 {
     if registers::is_empty(t) {
         return false;
@@ -76,7 +76,7 @@ fn bytes_record_ok(
 
 fn fill_record_ok(t: MatrixType, first: usize, count: usize, value: u32) -> bool
     requires { SizedType t × (first < 2 ^ 31) × (count < 2 ^ 31) }
-    ensures { result ≡ fillRecordOk t first count value }
+    ensures { result ≡ fill_record_ok t first count value }
 {
     if registers::is_empty(t) {
         return false;
@@ -90,7 +90,7 @@ fn fill_record_ok(t: MatrixType, first: usize, count: usize, value: u32) -> bool
 // A whole step that would not be refused.
 fn whole_clear(edition: u8, types: [MatrixType; REGISTERS], len: usize, step: Step) -> bool
     requires { Placed edition step }
-    ensures { result ≡ wholeClear edition types len step }
+    ensures { result ≡ whole_clear edition types len step }
 {
     match step {
         Step::Nothing => false,
@@ -120,7 +120,7 @@ fn whole_record_ok(
     step: usize,
 ) -> bool
     requires { Placed edition named }
-    ensures { result ≡ wholeRecordOk edition steps types len named step }
+    ensures { result ≡ whole_record_ok edition steps types len named step }
 {
     if steps <= step {
         return false;
@@ -138,7 +138,7 @@ fn record_ok(
     r: Record,
 ) -> bool
     requires { Placed edition named × Sized types × GoodInRange (Good r) }
-    ensures { result ≡ recordOkWith edition steps types len named r }
+    ensures { result ≡ record_ok_with edition steps types len named r }
 {
     match r {
         Record::Copy {
@@ -182,8 +182,8 @@ fn record_ok(
 
 // The types that a record in range leaves.
 fn record_types(types: [MatrixType; REGISTERS], named: Step, r: Record) -> [MatrixType; REGISTERS]
-    requires { GoodInRange (Good r) × ((edition steps len : ℕ) × Placed edition named × (recordOkWith edition steps types len named r ≡ true)) }
-    ensures { result ≡ recordTypesWith types named r }
+    requires { GoodInRange (Good r) × ((edition steps len : ℕ) × Placed edition named × (record_ok_with edition steps types len named r ≡ true)) }
+    ensures { result ≡ record_types_with types named r }
 {
     match r {
         Record::Copy { register, object } => {
@@ -225,7 +225,7 @@ fn decoded_ok(
     d: Decoded,
 ) -> bool
     requires { Placed edition named × Sized types × GoodInRange d }
-    ensures { result ≡ decodedOkWith edition steps types len named d }
+    ensures { result ≡ decoded_ok_with edition steps types len named d }
 {
     match d {
         Decoded::Good(r) => record_ok(edition, steps, types, len, named, r),
@@ -234,8 +234,8 @@ fn decoded_ok(
 }
 
 fn decoded_types(types: [MatrixType; REGISTERS], named: Step, d: Decoded) -> [MatrixType; REGISTERS]
-    requires { GoodInRange d × ((edition steps len : ℕ) × Placed edition named × (decodedOkWith edition steps types len named d ≡ true)) }
-    ensures { result ≡ decodedTypesWith types named d }
+    requires { GoodInRange d × ((edition steps len : ℕ) × Placed edition named × (decoded_ok_with edition steps types len named d ≡ true)) }
+    ensures { result ≡ decoded_types_with types named d }
 {
     match d {
         Decoded::Good(r) => record_types(types, named, r),
@@ -246,7 +246,7 @@ fn decoded_types(types: [MatrixType; REGISTERS], named: Step, d: Decoded) -> [Ma
 // Step number k of the sheet, from its bytes; nothing, where it has no such step.
 fn step_of(s: &[u8], parts: &[usize; PARTS], given: Given, k: usize) -> Step
     requires { Outlined s.now parts.now given }
-    ensures { result ≡ step_of (sheetOf s.now) k }
+    ensures { result ≡ step_of (sheet_of s.now) k }
 {
     if k < given.steps {
         return sheet_parts::step_in(s, parts, given, k);
@@ -257,7 +257,7 @@ fn step_of(s: &[u8], parts: &[usize; PARTS], given: Given, k: usize) -> Step
 // Only op 4 names a step.
 fn record_step(s: &[u8], parts: &[usize; PARTS], given: Given, r: Record) -> Step
     requires { Outlined s.now parts.now given }
-    ensures { result ≡ recordStep (sheetOf s.now) r }
+    ensures { result ≡ record_step (sheet_of s.now) r }
 {
     match r {
         Record::Copy {
@@ -293,7 +293,7 @@ fn record_step(s: &[u8], parts: &[usize; PARTS], given: Given, r: Record) -> Ste
 // The step of the sheet that a record names, or nothing.
 pub fn step_named(s: &[u8], parts: &[usize; PARTS], given: Given, d: Decoded) -> Step
     requires { Outlined s.now parts.now given }
-    ensures { result ≡ decodedStep (sheetOf s.now) d }
+    ensures { result ≡ decoded_step (sheet_of s.now) d }
 {
     match d {
         Decoded::Good(r) => record_step(s, parts, given, r),
@@ -310,8 +310,8 @@ fn range(
     records: usize,
     len: usize,
 ) -> Refusal
-    requires { Outlined s.now parts.now given × (records ≤ recordPlaces) × (records * recordLength ≤ length tape.now) }
-    ensures { result ≡ rangeRefusal records (sheetOf s.now) len (tapeRecord tape.now) }
+    requires { Outlined s.now parts.now given × (records ≤ record_places) × (records * record_length ≤ length tape.now) }
+    ensures { result ≡ range_refusal records (sheet_of s.now) len (tape_record tape.now) }
 {
     let mut types = registers::empty_types();
     let mut k: usize = 0;
@@ -338,7 +338,7 @@ pub fn tape_refusal(
     len: usize,
 ) -> Refusal
     requires { Outlined s.now parts.now given }
-    ensures { result ≡ tapeRefusal (sheetOf s.now) tape.now records len }
+    ensures { result ≡ tape_refusal (sheet_of s.now) tape.now records len }
 {
     if !records::records_fit(given.edition, tape.len(), records) {
         return refusals::refusal_at(RECORD_OUT_OF_RANGE, 0, 0);

@@ -17,12 +17,12 @@ u32 = 4
 abbrev pub s32 : ℕ
 s32 = 5
 
-abbrev pub kindOk : ℕ → Bool
-kindOk kind = leb kind 5
+abbrev pub kind_ok : ℕ → Bool
+kind_ok kind = leb kind 5
 
 -- the kinds of 32 bits, which sums of products are of
-abbrev pub wordKind : ℕ → Bool
-wordKind kind = between u32 s32 kind
+abbrev pub word_kind : ℕ → Bool
+word_kind kind = between u32 s32 kind
 
 -- the width of a kind in bits
 unfoldable pub width : ℕ → ℕ

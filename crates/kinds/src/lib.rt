@@ -3,7 +3,7 @@ pub mod interpretations;
 
 ghost use Rattle.std.specs.Prelude.{◌≡◌, ◌+◌, ◌-◌, ◌*◌, ◌<◌, ◌%◌, ◌^◌};
 ghost use Rattle.std.specs.Int.Signed.{le_z};
-ghost use Rattle.kinds.specs.Widths.{kindOk, wordKind, width, bytes_of, fits};
+ghost use Rattle.kinds.specs.Widths.{kind_ok, word_kind, width, bytes_of, fits};
 ghost use Rattle.kinds.specs.Values.{signed, negative, taken, value};
 ghost use Rattle.numbers.specs.Remainders.{remainder};
 
@@ -16,14 +16,14 @@ pub const U32: u8 = 4;
 const S32: u8 = 5;
 
 pub fn kind_ok(kind: u8) -> bool
-    ensures { result ≡ kindOk kind }
+    ensures { result ≡ kind_ok kind }
 {
     kind <= 5
 }
 
 // The kinds of 32 bits, which sums of products are of.
 pub fn word_kind(kind: u8) -> bool
-    ensures { result ≡ wordKind kind }
+    ensures { result ≡ word_kind kind }
 {
     numbers::between(U32 as usize, S32 as usize, kind as usize)
 }

@@ -11,31 +11,31 @@ use Rattle.std.proofs.Math.ListN.{get_or-append, get_or-eq_default}
 use Rattle.std.proofs.lemmas.List.Edits.{sets, sets-eq}
 use Rattle.numbers.specs.Choice.{pick, both}
 use Rattle.numbers.specs.Lists.{each}
-use Rattle.numbers.specs.Little.{u16At, u16Bytes}
+use Rattle.numbers.specs.Little.{u16_at, u16_bytes}
 use Rattle.numbers.specs.Laws.Choice.{stop, by_order}
 use Rattle.numbers.specs.Laws.Joins.{each_part, each_at}
-use Rattle.sheet.specs.Sizes.{matrixPlaces, stepPlaces}
+use Rattle.sheet.specs.Sizes.{matrix_places, step_places}
 use Rattle.outcomes.specs.declared.Outcome.{Outcome}
 use Rattle.outcomes.specs.declared.Outcome.TheVariants.{Skipped, Filled, Discarded, Placed}
-use Rattle.accesses.specs.Refusals.{placedOne}
-use Rattle.masks.specs.Masks.{bitBytes, maskBytes, maskArea, bit_of, packed, sum_of, mask_of, masksOf, maskPlace, touched}
-use Rattle.masks.specs.Placed.{hasByte, placedIn, countAt}
-use Rattle.masks.specs.Laws.Packed.{packed-bit}
-use Rattle.masks.specs.Laws.Bits.{outcome-bits, placed-bits}
-use Rattle.masks.specs.Laws.Written.{bits, length-bits, length-mask, length-masks}
+use Rattle.accesses.specs.Refusals.{placed_one}
+use Rattle.masks.specs.Masks.{bit_bytes, mask_bytes, mask_area, bit_of, packed, sum_of, mask_of, masks_of, mask_place, touched}
+use Rattle.masks.specs.Placed.{has_byte, placed_in, count_at}
+use Rattle.masks.specs.Laws.Packed.{packed_bit}
+use Rattle.masks.specs.Laws.Bits.{outcome_bits, placed_bits}
+use Rattle.masks.specs.Laws.Written.{bits, length_bits, length_mask, length_masks}
 
 -- ---- one mask
 
 module _ (bit : ℕ → ℕ) where
-  mask-bits : (j : ℕ) → j < bitBytes → get_or (mask_of bit) j 0 ≡ packed bit (8 * j) 8
+  mask_bits : (j : ℕ) → j < bit_bytes → get_or (mask_of bit) j 0 ≡ packed bit (8 * j) 8
   unfolding mask_of
-  mask-bits j h =
-      get_or-append (bits bit bitBytes) (u16Bytes (sum_of bit matrixPlaces)) 0 j (rw (length-bits bit bitBytes) h)
-      ∙ each_at bitBytes (λ (k : ℕ). packed bit (8 * k) 8) j 0 h
+  mask_bits j h =
+      get_or-append (bits bit bit_bytes) (u16_bytes (sum_of bit matrix_places)) 0 j (rw (length_bits bit bit_bytes) h)
+      ∙ each_at bit_bytes (λ (k : ℕ). packed bit (8 * k) 8) j 0 h
 
-  mask-count : (j : ℕ) → get_or (mask_of bit) (bitBytes + j) 0 ≡ get_or (u16Bytes (sum_of bit matrixPlaces)) j 0
+  mask_count : (j : ℕ) → get_or (mask_of bit) (bit_bytes + j) 0 ≡ get_or (u16_bytes (sum_of bit matrix_places)) j 0
   unfolding mask_of
-  mask-count j = rw (length-bits bit bitBytes) at (get_or-append-add (bits bit bitBytes) (u16Bytes (sum_of bit matrixPlaces)) j 0)
+  mask_count j = rw (length_bits bit bit_bytes) at (get_or-append-add (bits bit bit_bytes) (u16_bytes (sum_of bit matrix_places)) j 0)
 
 -- ---- where the answer is no
 
@@ -46,76 +46,76 @@ none false = refl
 
 module _ (masks : List ℕ) (step e : ℕ) where
   -- a step past the last of 32
-  pub touched-steps : stepPlaces ≤ step → touched masks step e ≡ false
+  pub touched_steps : step_places ≤ step → touched masks step e ≡ false
   unfolding touched both pick
-  touched-steps h = rw (le-ltb step stepPlaces h) refl
+  touched_steps h = rw (le-ltb step step_places h) refl
 
   -- an element past the last of 256
-  pub touched-past : matrixPlaces ≤ e → touched masks step e ≡ false
+  pub touched_past : matrix_places ≤ e → touched masks step e ≡ false
   unfolding touched
-  touched-past h = rw (le-ltb e matrixPlaces h) (ap (both (ltb step stepPlaces)) (sym (stop _ refl)) ∙ none (ltb step stepPlaces))
+  touched_past h = rw (le-ltb e matrix_places h) (ap (both (ltb step step_places)) (sym (stop _ refl)) ∙ none (ltb step step_places))
 
   -- a byte past what is lent
-  pub touched-short : length masks ≤ maskPlace step + e / 8 → touched masks step e ≡ false
+  pub touched_short : length masks ≤ mask_place step + e / 8 → touched masks step e ≡ false
   unfolding touched
-  touched-short h =
-      rw (get_or-eq_default masks 0 h, zero-div (2 ^ (e % 8)), none (ltb e matrixPlaces)) (none (ltb step stepPlaces))
+  touched_short h =
+      rw (get_or-eq_default masks 0 h, zero-div (2 ^ (e % 8)), none (ltb e matrix_places)) (none (ltb step step_places))
 
 -- ---- the whole area
 
-one_byte : (o : Outcome) → eqb (placedOne o) 1 ≡ hasByte o
+one_byte : (o : Outcome) → eqb (placed_one o) 1 ≡ has_byte o
 one_byte Skipped = refl
 one_byte (Filled bits) = refl
 one_byte Discarded = refl
 one_byte (Placed byte) = refl
 
 -- an area with the masks of all steps, written from its start on
-module _ (os : ℕ → List Outcome) (masks area : List ℕ) (room : maskArea ≤ length masks) (is : area ≡ sets masks 0 (masksOf os stepPlaces)) where
-  area-is : area ≡ masksOf os stepPlaces ++ drop maskArea masks
-  area-is =
-      let long = length-masks os stepPlaces in
-      is ∙ sets-eq (masksOf os stepPlaces) masks 0 (rw long room) ∙ rw long refl
+module _ (os : ℕ → List Outcome) (masks area : List ℕ) (room : mask_area ≤ length masks) (is : area ≡ sets masks 0 (masks_of os step_places)) where
+  area_is : area ≡ masks_of os step_places ++ drop mask_area masks
+  area_is =
+      let long = length_masks os step_places in
+      is ∙ sets-eq (masks_of os step_places) masks 0 (rw long room) ∙ rw long refl
 
   -- byte j of a step's mask
-  mask_at : (step j : ℕ) → step < stepPlaces → j < maskBytes → get_or area (maskPlace step + j) 0 ≡ get_or (mask_of (bit_of (os step))) j 0
+  mask_at : (step j : ℕ) → step < step_places → j < mask_bytes → get_or area (mask_place step + j) 0 ≡ get_or (mask_of (bit_of (os step))) j 0
   mask_at step j h l =
-      rw (area-is, get_or-append (masksOf os stepPlaces) (drop maskArea masks) 0 (maskPlace step + j) (rw (length-masks os stepPlaces) (omega arith)))
-      (each_part maskBytes stepPlaces (λ (s : ℕ). mask_of (bit_of (os s))) step j 0 (λ k q. length-mask (bit_of (os k))) h l)
+      rw (area_is, get_or-append (masks_of os step_places) (drop mask_area masks) 0 (mask_place step + j) (rw (length_masks os step_places) (omega arith)))
+      (each_part mask_bytes step_places (λ (s : ℕ). mask_of (bit_of (os s))) step j 0 (λ k q. length_mask (bit_of (os k))) h l)
 
   -- bytes past the area are as they were
-  pub past-area : (k : ℕ) → maskArea ≤ k → get_or area k 0 ≡ get_or masks k 0
-  past-area k h =
-      let e : maskArea + (k - maskArea) ≡ k = omega arith in
-      rw (length-masks os stepPlaces, e) at (ap (λ (l : List ℕ). get_or l (length (masksOf os stepPlaces) + (k - maskArea)) 0) area-is
-      ∙ get_or-append-add (masksOf os stepPlaces) (drop maskArea masks) (k - maskArea) 0 ∙ get_or-drop maskArea masks (k - maskArea) 0)
+  pub past_area : (k : ℕ) → mask_area ≤ k → get_or area k 0 ≡ get_or masks k 0
+  past_area k h =
+      let e : mask_area + (k - mask_area) ≡ k = omega arith in
+      rw (length_masks os step_places, e) at (ap (λ (l : List ℕ). get_or l (length (masks_of os step_places) + (k - mask_area)) 0) area_is
+      ∙ get_or-append-add (masks_of os step_places) (drop mask_area masks) (k - mask_area) 0 ∙ get_or-drop mask_area masks (k - mask_area) 0)
 
   -- a step's count is the number of its set bits
-  count_bits : (step : ℕ) → step < stepPlaces → countAt area step ≡ sum_of (bit_of (os step)) matrixPlaces
-  unfolding u16At
+  count_bits : (step : ℕ) → step < step_places → count_at area step ≡ sum_of (bit_of (os step)) matrix_places
+  unfolding u16_at
   count_bits step h =
-      let n = sum_of (bit_of (os step)) matrixPlaces in
-      let e : maskPlace step + bitBytes + 1 ≡ maskPlace step + (bitBytes + 1) = omega arith in
-      rw (e, mask_at step bitBytes h (omega arith), mask_at step (bitBytes + 1) h (omega arith), mask-count (bit_of (os step)) 0, mask-count (bit_of (os step)) 1)
+      let n = sum_of (bit_of (os step)) matrix_places in
+      let e : mask_place step + bit_bytes + 1 ≡ mask_place step + (bit_bytes + 1) = omega arith in
+      rw (e, mask_at step bit_bytes h (omega arith), mask_at step (bit_bytes + 1) h (omega arith), mask_count (bit_of (os step)) 0, mask_count (bit_of (os step)) 1)
       (omega arith)
 
   -- so it is the number of its elements with a byte, and the counts add up to the number of all of them
-  module _ (few : (s : ℕ) → length (os s) ≤ matrixPlaces) where
-    pub count-placed : (step : ℕ) → step < stepPlaces → countAt area step ≡ placedIn (os step)
-    count-placed step h = count_bits step h ∙ placed-bits (os step) matrixPlaces (few step)
+  module _ (few : (s : ℕ) → length (os s) ≤ matrix_places) where
+    pub count_placed : (step : ℕ) → step < step_places → count_at area step ≡ placed_in (os step)
+    count_placed step h = count_bits step h ∙ placed_bits (os step) matrix_places (few step)
 
-    pub counts-placed : (n : ℕ) → n ≤ stepPlaces → sum_of (countAt area) n ≡ sum_of (λ (s : ℕ). placedIn (os s)) n
+    pub counts_placed : (n : ℕ) → n ≤ step_places → sum_of (count_at area) n ≡ sum_of (λ (s : ℕ). placed_in (os s)) n
     unfolding sum_of
-    counts-placed zero h = refl
-    counts-placed (suc n) h = ap₂ ◌+◌ (counts-placed n (omega arith)) (count-placed n h)
+    counts_placed zero h = refl
+    counts_placed (suc n) h = ap₂ ◌+◌ (counts_placed n (omega arith)) (count_placed n h)
 
   -- a step touched an element exactly where it has a byte
-  pub touched-outcome : (step e : ℕ) → step < stepPlaces → length (os step) ≤ matrixPlaces → touched area step e ≡ hasByte (get_or (os step) e Skipped)
+  pub touched_outcome : (step e : ℕ) → step < step_places → length (os step) ≤ matrix_places → touched area step e ≡ has_byte (get_or (os step) e Skipped)
   unfolding touched both pick bit_of
-  touched-outcome step e h few =
-      by_order e matrixPlaces
+  touched_outcome step e h few =
+      by_order e matrix_places
       (λ l.
       let p : 8 * (e / 8) + e % 8 ≡ e = omega arith in
       let bit = bit_of (os step) in
-      rw (lt-ltb step stepPlaces h, lt-ltb e matrixPlaces l, mask_at step (e / 8) h (omega arith), mask-bits bit (e / 8) (omega arith), packed-bit bit (outcome-bits (os step)) (8 * (e / 8)) 8 (e % 8) (omega arith), p)
+      rw (lt-ltb step step_places h, lt-ltb e matrix_places l, mask_at step (e / 8) h (omega arith), mask_bits bit (e / 8) (omega arith), packed_bit bit (outcome_bits (os step)) (8 * (e / 8)) 8 (e % 8) (omega arith), p)
       (one_byte (get_or (os step) e Skipped)))
-      (λ l. touched-past area step e l ∙ ap hasByte (sym (get_or-eq_default (os step) Skipped (omega arith))))
+      (λ l. touched_past area step e l ∙ ap has_byte (sym (get_or-eq_default (os step) Skipped (omega arith))))

@@ -2,9 +2,9 @@
 ghost use Rattle.std.specs.Prelude.{◌≡◌, ◌+◌, ◌-◌, ◌<◌, ◌≤◌, length, get_or};
 ghost use Rattle.std.proofs.lemmas.List.Edits.{sets};
 ghost use Rattle.numbers.specs.Lists.{each};
-ghost use Rattle.sheet.specs.Sizes.{matrixPlaces, stepPlaces};
-ghost use Rattle.masks.specs.Masks.{bitBytes, maskArea, maskPlace, packed, sum_of, bitByte, mask_of, touched};
-ghost use Rattle.masks.specs.Entries.{entryOne, entryBit, emptyMasks};
+ghost use Rattle.sheet.specs.Sizes.{matrix_places, step_places};
+ghost use Rattle.masks.specs.Masks.{bit_bytes, mask_area, mask_place, packed, sum_of, bit_byte, mask_of, touched};
+ghost use Rattle.masks.specs.Entries.{entry_one, entry_bit, empty_masks};
 
 use clashes::FILLED;
 use sheet::sizes::{PLACES, STEPS};
@@ -24,7 +24,7 @@ const WORD_BYTES: usize = WORD / 8;
 
 // 1 for an entry of an element with a byte.
 fn entry_one(entry: u32) -> u32
-    ensures { (result ≡ entryOne entry) × (result ≤ 1) }
+    ensures { (result ≡ entry_one entry) × (result ≤ 1) }
 {
     if entry == 0 {
         return 0;
@@ -51,8 +51,8 @@ fn word_elements(count: usize, first: usize) -> usize
 
 // The bits of 32 elements of `count`, the first lowest.
 fn mask_word(entries: &[u32; PLACES], count: usize, first: usize) -> u32
-    requires { count ≤ matrixPlaces }
-    ensures { result ≡ packed (entryBit entries.now count) first 32 }
+    requires { count ≤ matrix_places }
+    ensures { result ≡ packed (entry_bit entries.now count) first 32 }
 {
     let mut left = word_elements(count, first);
     let mut word = 0;
@@ -65,9 +65,9 @@ fn mask_word(entries: &[u32; PLACES], count: usize, first: usize) -> u32
 
 // Writes the bits from a place on: how many are set, each word's counted by the language.
 fn put_bits(masks: &mut [u8], at: usize, entries: &[u32; PLACES], count: usize) -> u32
-    requires { (count ≤ matrixPlaces) × (at + bitBytes ≤ length masks.old) }
-    ensures value { result ≡ sum_of (entryBit entries.now count) matrixPlaces }
-    ensures masks_after { masks.new ≡ sets masks.old at (each bitBytes (bitByte (entryBit entries.now count))) }
+    requires { (count ≤ matrix_places) × (at + bit_bytes ≤ length masks.old) }
+    ensures value { result ≡ sum_of (entry_bit entries.now count) matrix_places }
+    ensures masks_after { masks.new ≡ sets masks.old at (each bit_bytes (bit_byte (entry_bit entries.now count))) }
 {
     let words = PLACES / WORD;
     let mut ones = 0;
@@ -83,8 +83,8 @@ fn put_bits(masks: &mut [u8], at: usize, entries: &[u32; PLACES], count: usize) 
 
 // Writes the mask of a step whose survey has `count` entries: an empty one at once where it has none.
 pub fn put_mask(masks: &mut [u8], step: usize, entries: &[u32; PLACES], count: usize)
-    requires { (step < stepPlaces) × (maskArea ≤ length masks.old) × (count ≤ matrixPlaces) }
-    ensures { masks.new ≡ sets masks.old (maskPlace step) (mask_of (entryBit entries.now count)) }
+    requires { (step < step_places) × (mask_area ≤ length masks.old) × (count ≤ matrix_places) }
+    ensures { masks.new ≡ sets masks.old (mask_place step) (mask_of (entry_bit entries.now count)) }
 {
     if count < 1 {
         return clear_masks(masks, step, step + 1);
@@ -96,8 +96,8 @@ pub fn put_mask(masks: &mut [u8], step: usize, entries: &[u32; PLACES], count: u
 
 // Writes empty masks from a step on, up to another.
 pub fn clear_masks(masks: &mut [u8], first: usize, end: usize)
-    requires { (first ≤ end) × (end ≤ stepPlaces) × (maskArea ≤ length masks.old) }
-    ensures { masks.new ≡ sets masks.old (maskPlace first) (emptyMasks (end - first)) }
+    requires { (first ≤ end) × (end ≤ step_places) × (mask_area ≤ length masks.old) }
+    ensures { masks.new ≡ sets masks.old (mask_place first) (empty_masks (end - first)) }
 {
     let bytes = (end - first) * MASK_BYTES;
     let at = first * MASK_BYTES;

@@ -3,14 +3,14 @@ use Rattle.std.specs.Prelude.{ℕ, zero, suc, ◌+◌, ◌*◌, ◌/◌, ◌%◌
 use Rattle.numbers.specs.Lists.{line}
 
 -- the number whose bytes stand from a byte on, the lowest first
-unfoldable pub elementAt : List ℕ → ℕ → ℕ → ℕ
-elementAt memory byte zero = 0
-elementAt memory byte (suc n) = get_or memory (byte + n) 0 * 2 ^ (8 * n) + elementAt memory byte n
+unfoldable pub element_at : List ℕ → ℕ → ℕ → ℕ
+element_at memory byte zero = 0
+element_at memory byte (suc n) = get_or memory (byte + n) 0 * 2 ^ (8 * n) + element_at memory byte n
 
 -- byte i of a number, the lowest being byte 0
-abbrev pub byteOf : ℕ → ℕ → ℕ
-byteOf x i = x / 2 ^ (8 * i) % 2 ^ 8
+abbrev pub byte_of : ℕ → ℕ → ℕ
+byte_of x i = x / 2 ^ (8 * i) % 2 ^ 8
 
 -- memory with the lowest bytes of x written from a byte on
-unfoldable pub withElement : List ℕ → ℕ → ℕ → ℕ → List ℕ
-withElement memory byte size x = line memory byte (byteOf x) size
+unfoldable pub with_element : List ℕ → ℕ → ℕ → ℕ → List ℕ
+with_element memory byte size x = line memory byte (byte_of x) size

@@ -1,12 +1,12 @@
 // Little-endian elements in memory.
 ghost use Rattle.std.specs.Prelude.{◌≡◌, ◌+◌, ◌≤◌, length};
 ghost use Rattle.kinds.specs.Laws.Widths.{ElementSize};
-ghost use Rattle.memory.specs.Elements.{elementAt, withElement};
+ghost use Rattle.memory.specs.Elements.{element_at, with_element};
 
 // The element of `size` bytes from `byte` on.
 pub fn element_at(memory: &[u8], byte: usize, size: usize) -> u32
     requires { ElementSize size × (byte + size ≤ length memory.now) }
-    ensures { result ≡ elementAt memory.now byte size }
+    ensures { result ≡ element_at memory.now byte size }
 {
     if size < 2 {
         return numbers::wide(memory[byte]) as u32;
@@ -20,7 +20,7 @@ pub fn element_at(memory: &[u8], byte: usize, size: usize) -> u32
 // The lowest `size` bytes of x written from `byte` on.
 pub fn put_element(memory: &mut [u8], byte: usize, size: usize, x: u32)
     requires { ElementSize size × (byte + size ≤ length memory.old) }
-    ensures { memory.new ≡ withElement memory.old byte size x }
+    ensures { memory.new ≡ with_element memory.old byte size x }
 {
     if size < 2 {
         memory[byte] = (x % 256) as u8;

@@ -4,21 +4,21 @@ use borrow.Author.Tests.{eq-eqb, le-leb}
 use Rattle.std.proofs.lemmas.List.Edits.{sets}
 use Rattle.numbers.specs.Choice.{pick}
 use Rattle.numbers.specs.Bytes.{AreBytes}
-use Rattle.sheet_reader.specs.Reading.{readSheet}
-use Rattle.sheet_writer.specs.Writing.{writeAnswer, written, writtenRoom}
-use Rattle.sheet_reader.specs.Laws.Growing.{not-refused}
-use Rattle.round_trip.specs.Theorems.{WritesBack, read-writes-back}
-use Rattle.moonbleat.specs.Rewriting.{rewritten, rewrittenRoom}
+use Rattle.sheet_reader.specs.Reading.{read_sheet}
+use Rattle.sheet_writer.specs.Writing.{write_answer, written, written_room}
+use Rattle.sheet_reader.specs.Laws.Growing.{not_refused_lem}
+use Rattle.round_trip.specs.Theorems.{WritesBack, read_writes_back}
+use Rattle.moonbleat.specs.Rewriting.{rewritten, rewritten_room}
 
 -- A sheet that is read and for which there is room is rewritten byte for byte, and its byte count is its length.
-module _ (s : List ℕ) (b : AreBytes s) (e : (readSheet s).refusal.number ≡ 0) where
-  back : WritesBack s (readSheet s).sheet
-  back = read-writes-back s (readSheet s).sheet b (not-refused s e)
+module _ (s : List ℕ) (b : AreBytes s) (e : (read_sheet s).refusal.number ≡ 0) where
+  back : WritesBack s (read_sheet s).sheet
+  back = read_writes_back s (read_sheet s).sheet b (not_refused_lem s e)
 
-  pub rewritten-count : (room : ℕ) → length s ≤ room → rewritten s room ≡ writeAnswer 0 (length s)
+  pub rewritten_count : (room : ℕ) → length s ≤ room → rewritten s room ≡ write_answer 0 (length s)
   unfolding rewritten written pick
-  rewritten-count room h = rw (eq-eqb (readSheet s).refusal.number 0 e, back.allowed, back.same, le-leb (length s) room h)
+  rewritten_count room h = rw (eq-eqb (read_sheet s).refusal.number 0 e, back.allowed, back.same, le-leb (length s) room h)
 
-  pub rewritten-same : (out : List ℕ) → length s ≤ length out → rewrittenRoom s out ≡ sets out 0 s
-  unfolding rewrittenRoom writtenRoom pick
-  rewritten-same out h = rw (eq-eqb (readSheet s).refusal.number 0 e, back.allowed, back.same, le-leb (length s) (length out) h)
+  pub rewritten_same : (out : List ℕ) → length s ≤ length out → rewritten_room s out ≡ sets out 0 s
+  unfolding rewritten_room written_room pick
+  rewritten_same out h = rw (eq-eqb (read_sheet s).refusal.number 0 e, back.allowed, back.same, le-leb (length s) (length out) h)

@@ -1,18 +1,18 @@
 // The C interface of include/moonbleat.h: the eleven public routines, with rows of numbers in place of structs.
 ghost use Rattle.std.specs.Prelude.{◌≡◌, [], ◌∷◌, length};
 ghost use Rattle.numbers.specs.Choice.{pick};
-ghost use Rattle.sheet_reader.specs.Reading.{readSheet};
-ghost use Rattle.checking.specs.Checking.{checkedSheet};
-ghost use Rattle.carrying.specs.Carrying.{carried, carriedMemory};
+ghost use Rattle.sheet_reader.specs.Reading.{read_sheet};
+ghost use Rattle.checking.specs.Checking.{checked_sheet};
+ghost use Rattle.carrying.specs.Carrying.{carried, carried_memory};
 ghost use Rattle.dividing.specs.Dividing.{counted};
-ghost use Rattle.explaining.specs.Explaining.{explainedSheet};
+ghost use Rattle.explaining.specs.Explaining.{explained_sheet};
 ghost use Rattle.masks.specs.Masks.{touched};
-ghost use Rattle.translating.specs.Translating.{translated, translatedRoom, translatedMasks};
-ghost use Rattle.running.specs.Running.{runTape, ranMemory};
-ghost use Rattle.tracing.specs.Tracing.{traced, tracedRoom};
+ghost use Rattle.translating.specs.Translating.{translated, translated_room, translated_masks};
+ghost use Rattle.running.specs.Running.{run_tape, ran_memory};
+ghost use Rattle.tracing.specs.Tracing.{traced, traced_room};
 ghost use Rattle.replaying.specs.Replaying.{replayed};
-ghost use Rattle.rows.specs.Rows.{answerRow, countsRow, typesRow, verdictRow, outcomeRow, capped};
-ghost use Rattle.moonbleat.specs.Rewriting.{rewritten, rewrittenRoom};
+ghost use Rattle.rows.specs.Rows.{answer_row, counts_row, types_row, verdict_row, outcome_row, capped};
+ghost use Rattle.moonbleat.specs.Rewriting.{rewritten, rewritten_room};
 
 use rows::{ANSWER, COUNTS, OUTCOME, TYPES, VERDICT};
 use sheet::sizes::ELEMENTS;
@@ -24,9 +24,9 @@ pub extern "C" fn moonbleat_read(
     counts: &mut [u32; COUNTS],
     answer: &mut [u32; ANSWER],
 ) -> u32
-    ensures value { result ≡ (readSheet sheet.now).refusal.number }
-    ensures counts_after { counts.new ≡ countsRow (readSheet sheet.now).sheet }
-    ensures answer_after { answer.new ≡ answerRow (readSheet sheet.now).refusal 0 }
+    ensures value { result ≡ (read_sheet sheet.now).refusal.number }
+    ensures counts_after { counts.new ≡ counts_row (read_sheet sheet.now).sheet }
+    ensures answer_after { answer.new ≡ answer_row (read_sheet sheet.now).refusal 0 }
 {
     let mut parts = sheet_parts::no_parts();
     let read = sheet_reader::outline_sheet(sheet, &mut parts);
@@ -39,8 +39,8 @@ pub extern "C" fn moonbleat_read(
 #[unsafe(no_mangle)]
 pub extern "C" fn moonbleat_rewrite(sheet: &[u8], out: &mut [u8], answer: &mut [u32; ANSWER]) -> u32
     ensures value { result ≡ (rewritten sheet.now (length out.old)).refusal.number }
-    ensures out_after { out.new ≡ rewrittenRoom sheet.now out.old }
-    ensures answer_after { answer.new ≡ answerRow (rewritten sheet.now (length out.old)).refusal (rewritten sheet.now (length out.old)).bytes }
+    ensures out_after { out.new ≡ rewritten_room sheet.now out.old }
+    ensures answer_after { answer.new ≡ answer_row (rewritten sheet.now (length out.old)).refusal (rewritten sheet.now (length out.old)).bytes }
 {
     let read = sheet_parts::read_sheet(sheet);
     let refusal = read.refusal;
@@ -59,8 +59,8 @@ pub extern "C" fn moonbleat_check(
     memory_len: usize,
     answer: &mut [u32; ANSWER],
 ) -> u32
-    ensures value { result ≡ (checkedSheet sheet.now memory_len).refusal.number }
-    ensures answer_after { answer.new ≡ answerRow (checkedSheet sheet.now memory_len).refusal (checkedSheet sheet.now memory_len).count }
+    ensures value { result ≡ (checked_sheet sheet.now memory_len).refusal.number }
+    ensures answer_after { answer.new ≡ answer_row (checked_sheet sheet.now memory_len).refusal (checked_sheet sheet.now memory_len).count }
 {
     let found = checking::check_sheet(sheet, memory_len);
     rows::put_answer(answer, found.refusal, found.count)
@@ -74,7 +74,7 @@ pub extern "C" fn moonbleat_divisions(
     answer: &mut [u32; ANSWER],
 ) -> u32
     ensures value { result ≡ (counted sheet.now memory_len).refusal.number }
-    ensures answer_after { answer.new ≡ answerRow (counted sheet.now memory_len).refusal (counted sheet.now memory_len).divisions }
+    ensures answer_after { answer.new ≡ answer_row (counted sheet.now memory_len).refusal (counted sheet.now memory_len).divisions }
 {
     let found = dividing::count_divisions(sheet, memory_len);
     rows::put_answer(answer, found.refusal, found.divisions)
@@ -90,9 +90,9 @@ pub extern "C" fn moonbleat_outcome(
     outcome: &mut [u32; OUTCOME],
     answer: &mut [u32; ANSWER],
 ) -> u32
-    ensures value { result ≡ (explainedSheet sheet.now memory_len «step» «element»).refusal.number }
-    ensures outcome_after { outcome.new ≡ outcomeRow (explainedSheet sheet.now memory_len «step» «element»).explained }
-    ensures answer_after { answer.new ≡ answerRow (explainedSheet sheet.now memory_len «step» «element»).refusal 0 }
+    ensures value { result ≡ (explained_sheet sheet.now memory_len «step» «element»).refusal.number }
+    ensures outcome_after { outcome.new ≡ outcome_row (explained_sheet sheet.now memory_len «step» «element»).explained }
+    ensures answer_after { answer.new ≡ answer_row (explained_sheet sheet.now memory_len «step» «element»).refusal 0 }
 {
     let found = explaining::explain(sheet, memory_len, step as usize, element as usize);
     let told = found.explained;
@@ -110,10 +110,10 @@ pub extern "C" fn moonbleat_carry_out(
     answer: &mut [u32; ANSWER],
 ) -> u32
     ensures value { result ≡ (carried sheet.now memory.old).refusal.number }
-    ensures memory_after { memory.new ≡ carriedMemory sheet.now memory.old }
-    ensures types_after { types.new ≡ typesRow (carried sheet.now memory.old).registers.types }
+    ensures memory_after { memory.new ≡ carried_memory sheet.now memory.old }
+    ensures types_after { types.new ≡ types_row (carried sheet.now memory.old).registers.types }
     ensures elements_after { elements.new ≡ (carried sheet.now memory.old).registers.elements }
-    ensures answer_after { answer.new ≡ answerRow (carried sheet.now memory.old).refusal (carried sheet.now memory.old).counts.placed }
+    ensures answer_after { answer.new ≡ answer_row (carried sheet.now memory.old).refusal (carried sheet.now memory.old).counts.placed }
 {
     let done = carrying::carry_out(sheet, memory, elements);
     let left = done.types;
@@ -132,10 +132,10 @@ pub extern "C" fn moonbleat_translate(
     answer: &mut [u32; ANSWER],
 ) -> u32
     ensures value { result ≡ (translated sheet.now memory_len (length tape.old) (length masks.old)).refusal.number }
-    ensures tape_after { tape.new ≡ translatedRoom sheet.now memory_len tape.old (length masks.old) }
-    ensures masks_after { masks.new ≡ translatedMasks sheet.now memory_len (length tape.old) masks.old }
+    ensures tape_after { tape.new ≡ translated_room sheet.now memory_len tape.old (length masks.old) }
+    ensures masks_after { masks.new ≡ translated_masks sheet.now memory_len (length tape.old) masks.old }
     ensures records_after { records.new ≡ (translated sheet.now memory_len (length tape.old) (length masks.old)).records ∷ [] }
-    ensures answer_after { answer.new ≡ answerRow (translated sheet.now memory_len (length tape.old) (length masks.old)).refusal (translated sheet.now memory_len (length tape.old) (length masks.old)).count }
+    ensures answer_after { answer.new ≡ answer_row (translated sheet.now memory_len (length tape.old) (length masks.old)).refusal (translated sheet.now memory_len (length tape.old) (length masks.old)).count }
 {
     let made = translating::translate(sheet, memory_len, tape, masks);
     *records = [made.records as u32];
@@ -164,11 +164,11 @@ pub extern "C" fn moonbleat_run(
     elements: &mut [u32; ELEMENTS],
     answer: &mut [u32; ANSWER],
 ) -> u32
-    ensures value { result ≡ (runTape sheet.now tape.now records memory.old).refusal.number }
-    ensures memory_after { memory.new ≡ ranMemory sheet.now tape.now records memory.old }
-    ensures types_after { types.new ≡ typesRow (runTape sheet.now tape.now records memory.old).registers.types }
-    ensures elements_after { elements.new ≡ (runTape sheet.now tape.now records memory.old).registers.elements }
-    ensures answer_after { answer.new ≡ answerRow (runTape sheet.now tape.now records memory.old).refusal (runTape sheet.now tape.now records memory.old).counts.placed }
+    ensures value { result ≡ (run_tape sheet.now tape.now records memory.old).refusal.number }
+    ensures memory_after { memory.new ≡ ran_memory sheet.now tape.now records memory.old }
+    ensures types_after { types.new ≡ types_row (run_tape sheet.now tape.now records memory.old).registers.types }
+    ensures elements_after { elements.new ≡ (run_tape sheet.now tape.now records memory.old).registers.elements }
+    ensures answer_after { answer.new ≡ answer_row (run_tape sheet.now tape.now records memory.old).refusal (run_tape sheet.now tape.now records memory.old).counts.placed }
 {
     let done = running::run_tape(sheet, tape, records, memory, elements);
     let left = done.types;
@@ -185,8 +185,8 @@ pub extern "C" fn moonbleat_trace(
     answer: &mut [u32; ANSWER],
 ) -> u32
     ensures value { result ≡ (traced sheet.now memory_len (length out.old)).refusal.number }
-    ensures out_after { out.new ≡ tracedRoom sheet.now memory_len out.old }
-    ensures answer_after { answer.new ≡ answerRow (traced sheet.now memory_len (length out.old)).refusal (traced sheet.now memory_len (length out.old)).bytes }
+    ensures out_after { out.new ≡ traced_room sheet.now memory_len out.old }
+    ensures answer_after { answer.new ≡ answer_row (traced sheet.now memory_len (length out.old)).refusal (traced sheet.now memory_len (length out.old)).bytes }
 {
     let made = tracing::trace(sheet, memory_len, out);
     rows::put_answer(answer, made.refusal, made.bytes)
@@ -202,8 +202,8 @@ pub extern "C" fn moonbleat_replay(
     answer: &mut [u32; ANSWER],
 ) -> u32
     ensures value { result ≡ (replayed sheet.now memory_len trace.now).refusal.number }
-    ensures verdict_after { verdict.new ≡ verdictRow (replayed sheet.now memory_len trace.now).verdict }
-    ensures answer_after { answer.new ≡ answerRow (capped (replayed sheet.now memory_len trace.now).refusal) (replayed sheet.now memory_len trace.now).count }
+    ensures verdict_after { verdict.new ≡ verdict_row (replayed sheet.now memory_len trace.now).verdict }
+    ensures answer_after { answer.new ≡ answer_row (capped (replayed sheet.now memory_len trace.now).refusal) (replayed sheet.now memory_len trace.now).count }
 {
     let found = replaying::replay(sheet, memory_len, trace);
     let said = found.verdict;

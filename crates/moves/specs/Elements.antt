@@ -1,8 +1,8 @@
 -- What a take, a put and a fill do to their elements.
 use Rattle.std.specs.Prelude.{ℕ, ◌+◌}
-use Rattle.numbers.specs.Orders.{inOrder}
+use Rattle.numbers.specs.Orders.{in_order}
 use Rattle.kinds.specs.Widths.{bytes_of}
-use Rattle.registers.specs.Types.{theType}
+use Rattle.registers.specs.Types.{the_type}
 use Rattle.transfers.specs.Acts.{State, took, gave, put}
 use Rattle.carrying.specs.Steps.{Machine, state_of, machine_of}
 use Rattle.judging.specs.Records.{byte_at}
@@ -18,6 +18,6 @@ abbrev pub filling : ℕ → ℕ → ℕ → ℕ → State → State
 filling register first value i s = gave register (first + i) value s
 
 -- a record that works on elements of register r: their acts, by the size of its elements
-abbrev pub onElements : ℕ → (ℕ → ℕ → State → State) → ℕ → Machine → Machine
-onElements register act count m =
-    machine_of m.registers.types (inOrder (act (bytes_of (theType m.registers.types register).kind)) count (state_of m))
+abbrev pub on_elements : ℕ → (ℕ → ℕ → State → State) → ℕ → Machine → Machine
+on_elements register act count m =
+    machine_of m.registers.types (in_order (act (bytes_of (the_type m.registers.types register).kind)) count (state_of m))

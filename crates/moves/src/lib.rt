@@ -1,23 +1,23 @@
 // Takes, puts and fills: elements moved as a record says.
 ghost use Rattle.std.specs.Prelude.{◌≡◌, true, List, ℕ, ◌+◌, ◌*◌, ◌<◌, ◌≤◌, length};
-ghost use Rattle.numbers.specs.Orders.{inOrder};
+ghost use Rattle.numbers.specs.Orders.{in_order};
 ghost use Rattle.kinds.specs.Laws.Widths.{ElementSize};
-ghost use Rattle.sheet.specs.Sizes.{registerCount, matrixPlaces};
+ghost use Rattle.sheet.specs.Sizes.{register_count, matrix_places};
 ghost use Rattle.registers.specs.Sized.{Sized};
-ghost use Rattle.registers.specs.Types.{theType};
-ghost use Rattle.counts.specs.Counts.{morePlaced};
+ghost use Rattle.registers.specs.Types.{the_type};
+ghost use Rattle.counts.specs.Counts.{more_placed};
 ghost use Rattle.counts.specs.declared.Counts.{Counts};
 ghost use Rattle.transfers.specs.Acts.{state};
 ghost use Rattle.carrying.specs.Steps.{machine_of};
 ghost use Rattle.records.specs.Ranges.{Elements, Bytes};
-ghost use Rattle.judging.specs.Records.{byte_at, bytesInside, bytesRecordOk, fillRecordOk};
-ghost use Rattle.moves.specs.Elements.{taking, putting, filling, onElements};
+ghost use Rattle.judging.specs.Records.{byte_at, bytes_inside, bytes_record_ok, fill_record_ok};
+ghost use Rattle.moves.specs.Elements.{taking, putting, filling, on_elements};
 
 use registers::MatrixType;
 use sheet::sizes::{ELEMENTS, REGISTERS};
 
 fn byte_at(byte: usize, up: usize, down: usize, i: usize) -> usize
-    requires { Bytes byte up down × (i < matrixPlaces) × (i * down ≤ byte + i * up) }
+    requires { Bytes byte up down × (i < matrix_places) × (i * down ≤ byte + i * up) }
     ensures { result ≡ byte_at byte up down i }
 {
     byte + i * up - i * down
@@ -34,9 +34,9 @@ fn take_elements(
     up: usize,
     down: usize,
 )
-    requires element_size { ElementSize size × (register < registerCount) × (first + count ≤ matrixPlaces) × Bytes byte up down }
-    requires down_value { bytesInside size (length memory.now) count byte up down ≡ true }
-    ensures { (c : Counts) → state elements.new memory.now (morePlaced c count) ≡ inOrder (taking size register first byte up down) count (state elements.old memory.now c) }
+    requires element_size { ElementSize size × (register < register_count) × (first + count ≤ matrix_places) × Bytes byte up down }
+    requires down_value { bytes_inside size (length memory.now) count byte up down ≡ true }
+    ensures { (c : Counts) → state elements.new memory.now (more_placed c count) ≡ in_order (taking size register first byte up down) count (state elements.old memory.now c) }
 {
     let mut i = 0;
     while i < count {
@@ -58,9 +58,9 @@ fn put_elements(
     up: usize,
     down: usize,
 )
-    requires element_size { ElementSize size × (register < registerCount) × (first + count ≤ matrixPlaces) × Bytes byte up down }
-    requires down_value { bytesInside size (length memory.old) count byte up down ≡ true }
-    ensures { (c : Counts) → state elements.now memory.new (morePlaced c count) ≡ inOrder (putting size register first byte up down) count (state elements.now memory.old c) }
+    requires element_size { ElementSize size × (register < register_count) × (first + count ≤ matrix_places) × Bytes byte up down }
+    requires down_value { bytes_inside size (length memory.old) count byte up down ≡ true }
+    ensures { (c : Counts) → state elements.now memory.new (more_placed c count) ≡ in_order (putting size register first byte up down) count (state elements.now memory.old c) }
 {
     let mut i = 0;
     while i < count {
@@ -84,8 +84,8 @@ pub fn take(
     down: usize,
 )
     requires sized { Sized types × Elements register first count × Bytes byte up down }
-    requires down_value { bytesRecordOk (theType types register) (length memory.now) first count byte up down ≡ true }
-    ensures { (c : Counts) → machine_of types (state elements.new memory.now (morePlaced c count)) ≡ onElements register (λ (size : ℕ). taking size register first byte up down) count (machine_of types (state elements.old memory.now c)) }
+    requires down_value { bytes_record_ok (the_type types register) (length memory.now) first count byte up down ≡ true }
+    ensures { (c : Counts) → machine_of types (state elements.new memory.now (more_placed c count)) ≡ on_elements register (λ (size : ℕ). taking size register first byte up down) count (machine_of types (state elements.old memory.now c)) }
 {
     let t = registers::the_type(types, register);
     take_elements(
@@ -114,8 +114,8 @@ pub fn put(
     down: usize,
 )
     requires sized { Sized types × Elements register first count × Bytes byte up down }
-    requires down_value { bytesRecordOk (theType types register) (length memory.old) first count byte up down ≡ true }
-    ensures { (c : Counts) → machine_of types (state elements.now memory.new (morePlaced c count)) ≡ onElements register (λ (size : ℕ). putting size register first byte up down) count (machine_of types (state elements.now memory.old c)) }
+    requires down_value { bytes_record_ok (the_type types register) (length memory.old) first count byte up down ≡ true }
+    ensures { (c : Counts) → machine_of types (state elements.now memory.new (more_placed c count)) ≡ on_elements register (λ (size : ℕ). putting size register first byte up down) count (machine_of types (state elements.now memory.old c)) }
 {
     let t = registers::the_type(types, register);
     put_elements(
@@ -141,8 +141,8 @@ pub fn fill(
     value: u32,
 )
     requires sized { Sized types × Elements register first count }
-    requires value_value { fillRecordOk (theType types register) first count value ≡ true }
-    ensures { (memory : List ℕ) (c : Counts) → machine_of types (state elements.new memory c) ≡ onElements register (λ (size : ℕ). filling register first value) count (machine_of types (state elements.old memory c)) }
+    requires value_value { fill_record_ok (the_type types register) first count value ≡ true }
+    ensures { (memory : List ℕ) (c : Counts) → machine_of types (state elements.new memory c) ≡ on_elements register (λ (size : ℕ). filling register first value) count (machine_of types (state elements.old memory c)) }
 {
     registers::fill_elements(elements, register, first, count, value);
 }

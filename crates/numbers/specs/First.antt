@@ -3,6 +3,6 @@ use Rattle.std.specs.Prelude.{ℕ, zero, suc, ◌+◌, ◌-◌, Bool, true}
 use Rattle.numbers.specs.Choice.{pick}
 
 -- of the m numbers from k on; k + m where there is none
-unfoldable pub firstFrom : (ℕ → Bool) → ℕ → ℕ → ℕ
-firstFrom test k zero = k
-firstFrom test k (suc m) = pick (test k) k (firstFrom test (suc k) m)
+unfoldable pub first_from : (ℕ → Bool) → ℕ → ℕ → ℕ
+first_from test k zero = k
+first_from test k (suc m) = pick (test k) k (first_from test (suc k) m)

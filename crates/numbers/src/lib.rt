@@ -2,7 +2,7 @@
 ghost use Rattle.std.specs.Prelude.{◌≡◌, ◌+◌, ◌≤◌, ◌<◌, ◌/◌, ◌%◌, length, get_or};
 ghost use Rattle.std.proofs.lemmas.List.Edits.{sets};
 ghost use Rattle.numbers.specs.Choice.{between};
-ghost use Rattle.numbers.specs.Little.{u16At, u32_at, u16Bytes, u32Bytes};
+ghost use Rattle.numbers.specs.Little.{u16_at, u32_at, u16_bytes, u32_bytes};
 
 // x is from low to high.
 pub fn between(low: usize, high: usize, x: usize) -> bool
@@ -33,7 +33,7 @@ pub fn at(elements: &[u32], place: usize) -> u32
 
 pub fn u16_at(s: &[u8], at: usize) -> u16
     requires { at + 2 ≤ length s.now }
-    ensures { result ≡ u16At s.now at }
+    ensures { result ≡ u16_at s.now at }
 {
     let low = wide(s[at]);
     let high = wide(s[at + 1]);
@@ -63,7 +63,7 @@ fn high_byte(x: u16) -> u8
 
 pub fn put_u16(out: &mut [u8], at: usize, x: u16)
     requires { at + 2 ≤ length out.old }
-    ensures { out.new ≡ sets out.old at (u16Bytes x) }
+    ensures { out.new ≡ sets out.old at (u16_bytes x) }
 {
     out[at] = low_byte(x);
     out[at + 1] = high_byte(x);
@@ -71,7 +71,7 @@ pub fn put_u16(out: &mut [u8], at: usize, x: u16)
 
 pub fn put_u32(out: &mut [u8], at: usize, x: u32)
     requires { at + 4 ≤ length out.old }
-    ensures { out.new ≡ sets out.old at (u32Bytes x) }
+    ensures { out.new ≡ sets out.old at (u32_bytes x) }
 {
     put_u16(out, at, (x % 65536) as u16);
     put_u16(out, at + 2, (x / 65536) as u16);

@@ -1,7 +1,7 @@
 // Prints the tape of the sheet on standard input for a memory of 65,536: one record a line, six decimal numbers with single blanks. A refusal is one
 // line of three numbers, its number and its place. Where the input cannot be read, one line on standard error says so.
 ghost use Rattle.std.specs.Prelude.{◌<◌, ◌≤◌};
-ghost use Rattle.sheet.specs.Sizes.{recordPlaces};
+ghost use Rattle.sheet.specs.Sizes.{record_places};
 
 use libc::{STDERR_FILENO, STDIN_FILENO, STDOUT_FILENO};
 use masks::MASK_AREA;
@@ -39,7 +39,7 @@ fn print_record(tape: &[i32], at: usize)
 }
 
 fn print_records(tape: &[i32], records: usize)
-    requires { records ≤ recordPlaces }
+    requires { records ≤ record_places }
 {
     let mut k: usize = 0;
     while k < records {
@@ -61,7 +61,7 @@ fn unreadable() -> bool {
 }
 
 // The longest accepted sheet has 1,096 bytes and the longest field 65,538: what is past both cannot change the answer (theorem
-// `prefix-reads` of the crate round_trip).
+// `prefix_reads` of the crate round_trip).
 const ENOUGH: usize = 1_096 + 65_538;
 
 fn main() {

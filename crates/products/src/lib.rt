@@ -5,12 +5,12 @@ ghost use Rattle.std.specs.Prelude.{◌≡◌, ℕ, ◌+◌, ◌*◌, ◌%◌, �
 ghost use Rattle.numbers.specs.Lists.{line};
 ghost use Rattle.numbers.specs.Remainders.{remainder};
 ghost use Rattle.kinds.specs.Values.{value};
-ghost use Rattle.sheet.specs.Sizes.{registerCount, sidePlaces, matrixPlaces, elementPlaces};
+ghost use Rattle.sheet.specs.Sizes.{register_count, side_places, matrix_places, element_places};
 ghost use Rattle.registers.specs.Sized.{SizedType};
-ghost use Rattle.registers.specs.Grids.{blockOn};
+ghost use Rattle.registers.specs.Grids.{block_on};
 ghost use Rattle.products.specs.Multiplying.{multiplied};
-ghost use Rattle.products.specs.Shapes.{multiplyAgrees};
-ghost use Rattle.products.specs.Residues.{residuesOn, dotOf, dotPlus};
+ghost use Rattle.products.specs.Shapes.{multiply_agrees};
+ghost use Rattle.products.specs.Residues.{residues_on, dot_of, dot_plus};
 
 use registers::MatrixType;
 use sheet::sizes::{PLACES, SIDE};
@@ -25,8 +25,8 @@ fn wide(x: u32) -> u64
 
 // The values of a matrix by element number.
 fn residues(out: &mut [u32; PLACES], elements: &[u32], source: u8, t: MatrixType)
-    requires { (source < registerCount) × SizedType t }
-    ensures { out.new ≡ residuesOn out.old elements.now source t }
+    requires { (source < register_count) × SizedType t }
+    ensures { out.new ≡ residues_on out.old elements.now source t }
 {
     let count = registers::element_count(t);
     let first = registers::place_of(source, 0);
@@ -40,7 +40,7 @@ fn residues(out: &mut [u32; PLACES], elements: &[u32], source: u8, t: MatrixType
 
 // The values of a row, whose elements stand from a place on.
 fn residue_row(out: &mut [u32; SIDE], elements: &[u32], kind: u8, first: usize, count: usize)
-    requires { (count ≤ sidePlaces) × (first ≤ 2 * elementPlaces) }
+    requires { (count ≤ side_places) × (first ≤ 2 * element_places) }
     ensures { out.new ≡ line out.old 0 (λ (t : ℕ). remainder (value kind (get_or elements.now (first + t) 0)) (2 ^ 32)) count }
 {
     let mut t = 0;
@@ -52,8 +52,8 @@ fn residue_row(out: &mut [u32; SIDE], elements: &[u32], kind: u8, first: usize, 
 
 // The sum of products of a row and a column of y from q on, whose elements are n apart.
 fn dot(x: &[u32; SIDE], y: &[u32; PLACES], q: usize, n: usize, count: usize) -> u64
-    requires { (count ≤ sidePlaces) × (n ≤ sidePlaces) × (q < n) }
-    ensures { (result ≡ dotOf (λ (t : ℕ). get_or x.now t 0) (λ (t : ℕ). get_or y.now (q + t * n) 0) count) × (result < 2 ^ 32) }
+    requires { (count ≤ side_places) × (n ≤ side_places) × (q < n) }
+    ensures { (result ≡ dot_of (λ (t : ℕ). get_or x.now t 0) (λ (t : ℕ). get_or y.now (q + t * n) 0) count) × (result < 2 ^ 32) }
 {
     let mut sum: u64 = 0;
     let mut t = 0;
@@ -76,8 +76,8 @@ fn product_row(
     inner: usize,
     n: usize,
 )
-    requires { (start + n ≤ matrixPlaces) × (from ≤ 2 * elementPlaces) × (inner ≤ sidePlaces) × (n ≤ sidePlaces) }
-    ensures { out.new ≡ line out.old start (λ (j : ℕ). (dotOf (λ (t : ℕ). get_or x.now t 0) (λ (t : ℕ). get_or y.now (j + t * n) 0) inner + remainder (value kind (get_or elements.now (from + j) 0)) (2 ^ 32)) % 2 ^ 32) n }
+    requires { (start + n ≤ matrix_places) × (from ≤ 2 * element_places) × (inner ≤ side_places) × (n ≤ side_places) }
+    ensures { out.new ≡ line out.old start (λ (j : ℕ). (dot_of (λ (t : ℕ). get_or x.now t 0) (λ (t : ℕ). get_or y.now (j + t * n) 0) inner + remainder (value kind (get_or elements.now (from + j) 0)) (2 ^ 32)) % 2 ^ 32) n }
 {
     let mut j = 0;
     while j < n {
@@ -98,8 +98,8 @@ fn product(
     c: u8,
     tc: MatrixType,
 )
-    requires { ((a < registerCount) × SizedType ta) × ((c < registerCount) × SizedType tc) }
-    ensures { out.new ≡ blockOn out.old tc.rows tc.columns (dotPlus elements.now a ta y.now c tc) }
+    requires { ((a < register_count) × SizedType ta) × ((c < register_count) × SizedType tc) }
+    ensures { out.new ≡ block_on out.old tc.rows tc.columns (dot_plus elements.now a ta y.now c tc) }
 {
     let rows = tc.rows as usize;
     let columns = tc.columns as usize;
@@ -137,8 +137,8 @@ pub fn multiply_block(
     c: u8,
     tc: MatrixType,
 )
-    requires { ((a < registerCount) × SizedType ta) × ((b < registerCount) × SizedType tb) × ((c < registerCount) × SizedType tc) × (multiplyAgrees ta tb tc ≡ true) }
-    ensures { out.new ≡ blockOn out.old tc.rows tc.columns (multiplied elements.now a ta b tb c tc) }
+    requires { ((a < register_count) × SizedType ta) × ((b < register_count) × SizedType tb) × ((c < register_count) × SizedType tc) × (multiply_agrees ta tb tc ≡ true) }
+    ensures { out.new ≡ block_on out.old tc.rows tc.columns (multiplied elements.now a ta b tb c tc) }
 {
     let mut y = [0u32; PLACES];
     residues(&mut y, elements, b, tb);

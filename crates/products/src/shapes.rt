@@ -1,12 +1,12 @@
 // When a multiply-add is refused.
 ghost use Rattle.std.specs.Prelude.{◌≡◌};
-ghost use Rattle.products.specs.Shapes.{multiplyAgrees, multiplyRefusal};
+ghost use Rattle.products.specs.Shapes.{multiply_agrees, multiply_refusal};
 
 use refusals::{EMPTY_REGISTER, SHAPES_DISAGREE};
 use registers::MatrixType;
 
 fn multiply_agrees(a: MatrixType, b: MatrixType, c: MatrixType) -> bool
-    ensures { result ≡ multiplyAgrees a b c }
+    ensures { result ≡ multiply_agrees a b c }
 {
     if a.rows != c.rows {
         return false;
@@ -21,7 +21,7 @@ fn multiply_agrees(a: MatrixType, b: MatrixType, c: MatrixType) -> bool
 }
 
 pub fn multiply_refusal(a: MatrixType, b: MatrixType, c: MatrixType) -> u8
-    ensures { result ≡ multiplyRefusal a b c }
+    ensures { result ≡ multiply_refusal a b c }
 {
     if registers::is_empty(a) {
         return EMPTY_REGISTER;

@@ -1,14 +1,14 @@
 // Writes a record of a tape: its six numbers.
 ghost use Rattle.std.specs.Prelude.{◌≡◌, [], ◌∷◌, ◌+◌, ◌<◌, ◌≤◌, ◌^◌, length, pos};
 ghost use Rattle.std.proofs.lemmas.List.Edits.{sets};
-ghost use Rattle.records.specs.Records.{recordLength, bytesNumbers, recordNumbers};
+ghost use Rattle.records.specs.Records.{record_length, bytes_numbers, record_numbers};
 ghost use Rattle.records.specs.Ranges.{Elements, Bytes, InRange};
 
 use records::Record;
 
 // The op and the three numbers after it.
 fn put_four(tape: &mut [i32], at: usize, op: usize, a: usize, b: usize, c: usize)
-    requires record_length_in_bounds { at + recordLength ≤ length tape.old }
+    requires record_length_in_bounds { at + record_length ≤ length tape.old }
     requires op_bound { (op < 2 ^ 31) × (a < 2 ^ 31) × (b < 2 ^ 31) × (c < 2 ^ 31) }
     ensures { tape.new ≡ sets tape.old at (pos op ∷ pos a ∷ pos b ∷ pos c ∷ []) }
 {
@@ -20,7 +20,7 @@ fn put_four(tape: &mut [i32], at: usize, op: usize, a: usize, b: usize, c: usize
 
 // A record of naturals, the last two of them unused.
 fn put_plain(tape: &mut [i32], at: usize, op: usize, a: usize, b: usize)
-    requires record_length_in_bounds { at + recordLength ≤ length tape.old }
+    requires record_length_in_bounds { at + record_length ≤ length tape.old }
     requires op_bound { (op < 2 ^ 31) × (a < 2 ^ 31) × (b < 2 ^ 31) }
     ensures { tape.new ≡ sets tape.old at (pos op ∷ pos a ∷ pos b ∷ pos 0 ∷ pos 0 ∷ pos 0 ∷ []) }
 {
@@ -40,9 +40,9 @@ fn put_bytes(
     up: usize,
     down: usize,
 )
-    requires record_length_in_bounds { at + recordLength ≤ length tape.old }
+    requires record_length_in_bounds { at + record_length ≤ length tape.old }
     requires op_bound { (op < 3) × Elements register first count × Bytes byte up down }
-    ensures { tape.new ≡ sets tape.old at (bytesNumbers op register first count byte up down) }
+    ensures { tape.new ≡ sets tape.old at (bytes_numbers op register first count byte up down) }
 {
     put_four(tape, at, op, register as usize, first, count);
     signed::put_natural(tape, at + 4, byte);
@@ -50,9 +50,9 @@ fn put_bytes(
 }
 
 fn put_fill(tape: &mut [i32], at: usize, register: u8, first: usize, count: usize, value: u32)
-    requires record_length_in_bounds { at + recordLength ≤ length tape.old }
+    requires record_length_in_bounds { at + record_length ≤ length tape.old }
     requires elements { Elements register first count }
-    ensures { tape.new ≡ sets tape.old at (recordNumbers (Record.Fill register first count value)) }
+    ensures { tape.new ≡ sets tape.old at (record_numbers (Record.Fill register first count value)) }
 {
     put_four(tape, at, 3, register as usize, first, count);
     signed::put_bits(tape, at + 4, value);
@@ -60,9 +60,9 @@ fn put_fill(tape: &mut [i32], at: usize, register: u8, first: usize, count: usiz
 }
 
 pub fn put_record(tape: &mut [i32], at: usize, r: Record)
-    requires record_length_in_bounds { at + recordLength ≤ length tape.old }
+    requires record_length_in_bounds { at + record_length ≤ length tape.old }
     requires in_range { InRange r }
-    ensures { tape.new ≡ sets tape.old at (recordNumbers r) }
+    ensures { tape.new ≡ sets tape.old at (record_numbers r) }
 {
     match r {
         Record::Copy { register, object } => {

@@ -1,10 +1,10 @@
 // The records of a tape, and how their six numbers are read (document 01, "The tape").
 ghost use Rattle.std.specs.Prelude.{◌≡◌, true, ◌+◌, ◌<◌, ◌≤◌, length};
-ghost use Rattle.sheet.specs.Sizes.{registerCount};
+ghost use Rattle.sheet.specs.Sizes.{register_count};
 ghost use Rattle.signed.specs.Numbers.{number, rise};
-ghost use Rattle.records.specs.Records.{recordLength, registerInRange, moved, fields, copyInRange, bytesInRange, fillInRange, wholeInRange, copy_of, movedOf, fillOf, whole_of, recordAt};
+ghost use Rattle.records.specs.Records.{record_length, register_in_range, moved, fields, copy_in_range, bytes_in_range, fill_in_range, whole_in_range, copy_of, moved_of, fill_of, whole_of, record_at};
 ghost use Rattle.records.specs.Ranges.{GoodInRange};
-ghost use Rattle.records.specs.Room.{recordsFit};
+ghost use Rattle.records.specs.Room.{records_fit};
 
 use sheet::editions;
 use sheet::sizes::REGISTERS;
@@ -60,7 +60,7 @@ const STEP: usize = 65_535;
 
 // The limit first: past it the numbers are not counted.
 pub fn records_fit(edition: u8, room: usize, records: usize) -> bool
-    ensures { result ≡ recordsFit edition room records }
+    ensures { result ≡ records_fit edition room records }
 {
     let most = editions::limits(edition);
     if most.records < records {
@@ -70,8 +70,8 @@ pub fn records_fit(edition: u8, room: usize, records: usize) -> bool
 }
 
 fn copy_in_range(tape: &[i32], at: usize) -> bool
-    requires { at + recordLength ≤ length tape.now }
-    ensures { result ≡ fields copyInRange tape.now at }
+    requires { at + record_length ≤ length tape.now }
+    ensures { result ≡ fields copy_in_range tape.now at }
 {
     if !signed::spans(tape, at + 1, 0, REGISTER) {
         return false;
@@ -89,8 +89,8 @@ fn copy_in_range(tape: &[i32], at: usize) -> bool
 }
 
 fn bytes_in_range(tape: &[i32], at: usize) -> bool
-    requires { at + recordLength ≤ length tape.now }
-    ensures { result ≡ fields bytesInRange tape.now at }
+    requires { at + record_length ≤ length tape.now }
+    ensures { result ≡ fields bytes_in_range tape.now at }
 {
     if !signed::spans(tape, at + 1, 0, REGISTER) {
         return false;
@@ -108,8 +108,8 @@ fn bytes_in_range(tape: &[i32], at: usize) -> bool
 }
 
 fn fill_in_range(tape: &[i32], at: usize) -> bool
-    requires { at + recordLength ≤ length tape.now }
-    ensures { result ≡ fields fillInRange tape.now at }
+    requires { at + record_length ≤ length tape.now }
+    ensures { result ≡ fields fill_in_range tape.now at }
 {
     if !signed::spans(tape, at + 1, 0, REGISTER) {
         return false;
@@ -124,8 +124,8 @@ fn fill_in_range(tape: &[i32], at: usize) -> bool
 }
 
 fn whole_in_range(tape: &[i32], at: usize) -> bool
-    requires { at + recordLength ≤ length tape.now }
-    ensures { result ≡ fields wholeInRange tape.now at }
+    requires { at + record_length ≤ length tape.now }
+    ensures { result ≡ fields whole_in_range tape.now at }
 {
     if !signed::at_least(tape, at + 1, 0) {
         return false;
@@ -143,14 +143,14 @@ fn whole_in_range(tape: &[i32], at: usize) -> bool
 }
 
 fn register_at(tape: &[i32], at: usize) -> u8
-    requires { (at < length tape.now) × (registerInRange (number tape.now at) ≡ true) }
-    ensures { (result ≡ rise (number tape.now at)) × (result < registerCount) }
+    requires { (at < length tape.now) × (register_in_range (number tape.now at) ≡ true) }
+    ensures { (result ≡ rise (number tape.now at)) × (result < register_count) }
 {
     signed::rise(tape, at) as u8
 }
 
 fn copy_record(tape: &[i32], at: usize) -> Decoded
-    requires { at + recordLength ≤ length tape.now }
+    requires { at + record_length ≤ length tape.now }
     ensures { (result ≡ fields copy_of tape.now at) × GoodInRange result }
 {
     if !copy_in_range(tape, at) {
@@ -194,8 +194,8 @@ pub fn moved(
 }
 
 fn bytes_record(tape: &[i32], at: usize, take: bool) -> Decoded
-    requires { at + recordLength ≤ length tape.now }
-    ensures { (result ≡ fields (movedOf take) tape.now at) × GoodInRange result }
+    requires { at + record_length ≤ length tape.now }
+    ensures { (result ≡ fields (moved_of take) tape.now at) × GoodInRange result }
 {
     if !bytes_in_range(tape, at) {
         return Decoded::Bad;
@@ -210,8 +210,8 @@ fn bytes_record(tape: &[i32], at: usize, take: bool) -> Decoded
 }
 
 fn fill_record(tape: &[i32], at: usize) -> Decoded
-    requires { at + recordLength ≤ length tape.now }
-    ensures { (result ≡ fields fillOf tape.now at) × GoodInRange result }
+    requires { at + record_length ≤ length tape.now }
+    ensures { (result ≡ fields fill_of tape.now at) × GoodInRange result }
 {
     if !fill_in_range(tape, at) {
         return Decoded::Bad;
@@ -229,7 +229,7 @@ fn fill_record(tape: &[i32], at: usize) -> Decoded
 }
 
 fn whole_record(tape: &[i32], at: usize) -> Decoded
-    requires { at + recordLength ≤ length tape.now }
+    requires { at + record_length ≤ length tape.now }
     ensures { (result ≡ fields whole_of tape.now at) × GoodInRange result }
 {
     if !whole_in_range(tape, at) {
@@ -241,8 +241,8 @@ fn whole_record(tape: &[i32], at: usize) -> Decoded
 
 // The record whose numbers begin at a place of a tape.
 pub fn read_record(tape: &[i32], at: usize) -> Decoded
-    requires { at + recordLength ≤ length tape.now }
-    ensures { (result ≡ recordAt tape.now at) × GoodInRange result }
+    requires { at + record_length ≤ length tape.now }
+    ensures { (result ≡ record_at tape.now at) × GoodInRange result }
 {
     if signed::is(tape, at, 0) {
         return copy_record(tape, at);

@@ -3,7 +3,7 @@ use Rattle.std.specs.Prelude.{List, ℕ, ◌+◌, ◌-◌, ◌*◌, ◌/◌, ◌
 use Rattle.sheet.specs.declared.ReduceMode.{ReduceMode}
 use Rattle.sheet.specs.declared.ReduceMode.TheVariants.{Row, Column, Both, TwoByTwo}
 use Rattle.sheet.specs.declared.Combine.{Combine}
-use Rattle.registers.specs.Registers.{elementOf}
+use Rattle.registers.specs.Registers.{element_of}
 use Rattle.registers.specs.declared.MatrixType.{MatrixType}
 use Rattle.combines.specs.Combining.{folded}
 
@@ -16,13 +16,13 @@ part_at Both n i j t = t
 part_at TwoByTwo n i j t = (2 * i + t / 2) * n + (2 * j + t % 2)
 
 -- how many there are after the first, for an m by n source
-abbrev pub laterOf : ReduceMode → ℕ → ℕ → ℕ
-laterOf Row m n = n - 1
-laterOf Column m n = m - 1
-laterOf Both m n = m * n - 1
-laterOf TwoByTwo m n = 3
+abbrev pub later_of : ReduceMode → ℕ → ℕ → ℕ
+later_of Row m n = n - 1
+later_of Column m n = m - 1
+later_of Both m n = m * n - 1
+later_of TwoByTwo m n = 3
 
 -- element (i, j) of a reduce of register s, which holds a matrix of type t: the first combined with each later one, in order
 unfoldable pub reduced : List ℕ → ℕ → MatrixType → ReduceMode → Combine → ℕ → ℕ → ℕ
 reduced es s t mode combine i j =
-    folded t.kind combine (λ (k : ℕ). elementOf es s (part_at mode t.columns i j k)) (laterOf mode t.rows t.columns)
+    folded t.kind combine (λ (k : ℕ). element_of es s (part_at mode t.columns i j k)) (later_of mode t.rows t.columns)

@@ -3,9 +3,9 @@ pub mod parts;
 pub mod shapes;
 
 ghost use Rattle.std.specs.Prelude.{◌≡◌, ◌<◌, ◌≤◌};
-ghost use Rattle.sheet.specs.Sizes.{registerCount, sidePlaces};
+ghost use Rattle.sheet.specs.Sizes.{register_count, side_places};
 ghost use Rattle.sheet.specs.declared.ReduceMode.TheVariants.{Row, Column, Both, TwoByTwo};
-ghost use Rattle.registers.specs.Grids.{blockOn};
+ghost use Rattle.registers.specs.Grids.{block_on};
 ghost use Rattle.registers.specs.Sized.{SizedType};
 ghost use Rattle.reduces.specs.Reducing.{reduced};
 
@@ -23,8 +23,8 @@ fn row_block(
     rows: usize,
     columns: usize,
 )
-    requires { (source < registerCount) × SizedType t × (0 < t.rows) × (rows ≤ sidePlaces) × (columns ≤ sidePlaces) }
-    ensures { out.new ≡ blockOn out.old rows columns (reduced elements.now source t Row combine) }
+    requires { (source < register_count) × SizedType t × (0 < t.rows) × (rows ≤ side_places) × (columns ≤ side_places) }
+    ensures { out.new ≡ block_on out.old rows columns (reduced elements.now source t Row combine) }
 {
     let n = t.columns as usize;
     let first = registers::place_of(source, 0);
@@ -42,8 +42,8 @@ fn column_block(
     rows: usize,
     columns: usize,
 )
-    requires { (source < registerCount) × SizedType t × (0 < t.rows) × (rows ≤ sidePlaces) × (columns ≤ sidePlaces) }
-    ensures { out.new ≡ blockOn out.old rows columns (reduced elements.now source t Column combine) }
+    requires { (source < register_count) × SizedType t × (0 < t.rows) × (rows ≤ side_places) × (columns ≤ side_places) }
+    ensures { out.new ≡ block_on out.old rows columns (reduced elements.now source t Column combine) }
 {
     let m = t.rows as usize;
     let n = t.columns as usize;
@@ -62,8 +62,8 @@ fn both_block(
     rows: usize,
     columns: usize,
 )
-    requires { (source < registerCount) × SizedType t × (0 < t.rows) × (rows ≤ sidePlaces) × (columns ≤ sidePlaces) }
-    ensures { out.new ≡ blockOn out.old rows columns (reduced elements.now source t Both combine) }
+    requires { (source < register_count) × SizedType t × (0 < t.rows) × (rows ≤ side_places) × (columns ≤ side_places) }
+    ensures { out.new ≡ block_on out.old rows columns (reduced elements.now source t Both combine) }
 {
     let m = t.rows as usize;
     let n = t.columns as usize;
@@ -82,8 +82,8 @@ fn quad_block(
     rows: usize,
     columns: usize,
 )
-    requires { (source < registerCount) × SizedType t × (rows ≤ sidePlaces) × (columns ≤ sidePlaces) }
-    ensures { out.new ≡ blockOn out.old rows columns (reduced elements.now source t TwoByTwo combine) }
+    requires { (source < register_count) × SizedType t × (rows ≤ side_places) × (columns ≤ side_places) }
+    ensures { out.new ≡ block_on out.old rows columns (reduced elements.now source t TwoByTwo combine) }
 {
     let n = t.columns as usize;
     let kind = t.kind;
@@ -114,8 +114,8 @@ pub fn reduce_block(
     rows: usize,
     columns: usize,
 )
-    requires { (source < registerCount) × SizedType t × (0 < t.rows) × (rows ≤ sidePlaces) × (columns ≤ sidePlaces) }
-    ensures { out.new ≡ blockOn out.old rows columns (reduced elements.now source t mode combine) }
+    requires { (source < register_count) × SizedType t × (0 < t.rows) × (rows ≤ side_places) × (columns ≤ side_places) }
+    ensures { out.new ≡ block_on out.old rows columns (reduced elements.now source t mode combine) }
 {
     match mode {
         ReduceMode::Row => row_block(out, elements, source, t, combine, rows, columns),

@@ -1,7 +1,7 @@
 // The folds of a reduce's parts.
 ghost use Rattle.std.specs.Prelude.{◌≡◌, ℕ, ◌+◌, ◌*◌, ◌^◌, ◌<◌, ◌≤◌};
 ghost use Rattle.numbers.specs.Lists.{line};
-ghost use Rattle.sheet.specs.Sizes.{sidePlaces, matrixPlaces, elementPlaces};
+ghost use Rattle.sheet.specs.Sizes.{side_places, matrix_places, element_places};
 ghost use Rattle.reduces.specs.Parts.{folds, quad};
 
 use sheet::Combine;
@@ -18,7 +18,7 @@ pub fn fold_parts(
     later: usize,
     count: usize,
 ) -> [u32; SIDE]
-    requires { (first ≤ elementPlaces) × (apart ≤ sidePlaces) × (step ≤ sidePlaces) × (later ≤ matrixPlaces) × (count ≤ sidePlaces) }
+    requires { (first ≤ element_places) × (apart ≤ side_places) × (step ≤ side_places) × (later ≤ matrix_places) × (count ≤ side_places) }
     ensures { result ≡ folds elements.now kind combine first apart step later count }
 {
     let mut out = [0u32; SIDE];
@@ -32,7 +32,7 @@ pub fn fold_parts(
 
 // Two elements at a place and the two a row of n below them, combined.
 fn quad(elements: &[u32], kind: u8, combine: Combine, n: usize, first: usize) -> u32
-    requires { (n ≤ sidePlaces) × (first < 2 ^ 16) }
+    requires { (n ≤ side_places) × (first < 2 ^ 16) }
     ensures { result ≡ quad elements.now kind combine n first }
 {
     let top = combines::combine(
@@ -56,7 +56,7 @@ pub fn quad_row(
     first: usize,
     columns: usize,
 )
-    requires { (start + columns ≤ matrixPlaces) × (n ≤ sidePlaces) × (first ≤ 2 * elementPlaces) }
+    requires { (start + columns ≤ matrix_places) × (n ≤ side_places) × (first ≤ 2 * element_places) }
     ensures { out.new ≡ line out.old start (λ (j : ℕ). quad elements.now kind combine n (first + 2 * j)) columns }
 {
     let mut j = 0;

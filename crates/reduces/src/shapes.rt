@@ -1,7 +1,7 @@
 // When a reduce is refused, and the type that it makes.
 ghost use Rattle.std.specs.Prelude.{◌≡◌, ◌*◌, eqb};
 ghost use Rattle.sheet.specs.declared.ReduceMode.TheVariants.{TwoByTwo};
-ghost use Rattle.reduces.specs.Shapes.{reduceAgrees, reduceRefusal, reducedType};
+ghost use Rattle.reduces.specs.Shapes.{reduce_agrees, reduce_refusal, reduced_type};
 
 use refusals::{EMPTY_REGISTER, SHAPES_DISAGREE};
 use registers::MatrixType;
@@ -15,7 +15,7 @@ fn twice(side: u8, half: u8) -> bool
 }
 
 fn halved(t: MatrixType, rows: u8, columns: u8) -> bool
-    ensures { result ≡ reduceAgrees t rows columns TwoByTwo }
+    ensures { result ≡ reduce_agrees t rows columns TwoByTwo }
 {
     if !twice(t.rows, rows) {
         return false;
@@ -24,7 +24,7 @@ fn halved(t: MatrixType, rows: u8, columns: u8) -> bool
 }
 
 fn reduce_agrees(t: MatrixType, rows: u8, columns: u8, mode: ReduceMode) -> bool
-    ensures { result ≡ reduceAgrees t rows columns mode }
+    ensures { result ≡ reduce_agrees t rows columns mode }
 {
     match mode {
         ReduceMode::Row => rows == t.rows,
@@ -35,7 +35,7 @@ fn reduce_agrees(t: MatrixType, rows: u8, columns: u8, mode: ReduceMode) -> bool
 }
 
 pub fn reduce_refusal(t: MatrixType, rows: u8, columns: u8, mode: ReduceMode) -> u8
-    ensures { result ≡ reduceRefusal t rows columns mode }
+    ensures { result ≡ reduce_refusal t rows columns mode }
 {
     if registers::is_empty(t) {
         return EMPTY_REGISTER;
@@ -47,7 +47,7 @@ pub fn reduce_refusal(t: MatrixType, rows: u8, columns: u8, mode: ReduceMode) ->
 }
 
 pub fn reduced_type(t: MatrixType, rows: u8, columns: u8) -> MatrixType
-    ensures { result ≡ reducedType t rows columns }
+    ensures { result ≡ reduced_type t rows columns }
 {
     MatrixType {
         kind: t.kind,

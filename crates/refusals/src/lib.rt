@@ -1,6 +1,6 @@
 // Refusals: the documents' numbers by name, and where one was given. Document 01 has 1 to 19, document 02 the later ones.
 ghost use Rattle.std.specs.Prelude.{◌≡◌};
-ghost use Rattle.refusals.specs.Refusals.{refusalAt, notRefused, stop_at};
+ghost use Rattle.refusals.specs.Refusals.{refusal_at, not_refused, stop_at};
 
 // A field's head or content runs past the end.
 pub const CUT_SHORT: u8 = 1;
@@ -59,7 +59,7 @@ pub struct Refusal {
 }
 
 pub fn refusal_at(number: u8, place: usize, element: usize) -> Refusal
-    ensures { result ≡ refusalAt number place element }
+    ensures { result ≡ refusal_at number place element }
 {
     Refusal {
         number,
@@ -69,7 +69,7 @@ pub fn refusal_at(number: u8, place: usize, element: usize) -> Refusal
 }
 
 pub fn not_refused() -> Refusal
-    ensures { result ≡ notRefused }
+    ensures { result ≡ not_refused }
 {
     refusal_at(0, 0, 0)
 }

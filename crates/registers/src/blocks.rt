@@ -1,8 +1,8 @@
 // The blocks of results: a lent block whose first places are given a matrix; what stands past them does not matter.
 ghost use Rattle.std.specs.Prelude.{◌≡◌, ℕ, ◌+◌, ◌*◌, ◌^◌, ◌<◌, ◌≤◌, get_or};
 ghost use Rattle.numbers.specs.Lists.{line};
-ghost use Rattle.sheet.specs.Sizes.{sidePlaces, matrixPlaces, elementPlaces};
-ghost use Rattle.registers.specs.Grids.{blockOn};
+ghost use Rattle.sheet.specs.Sizes.{side_places, matrix_places, element_places};
+ghost use Rattle.registers.specs.Grids.{block_on};
 
 use sheet::sizes::PLACES;
 
@@ -15,7 +15,7 @@ fn spread_row(
     across: usize,
     columns: usize,
 )
-    requires { (start + columns ≤ matrixPlaces) × (first < 2 ^ 16) × (across ≤ sidePlaces) }
+    requires { (start + columns ≤ matrix_places) × (first < 2 ^ 16) × (across ≤ side_places) }
     ensures { out.new ≡ line out.old start (λ (j : ℕ). get_or from.now (first + j * across) 0) columns }
 {
     let mut j = 0;
@@ -35,8 +35,8 @@ pub fn spread(
     rows: usize,
     columns: usize,
 )
-    requires { (first ≤ elementPlaces) × (down ≤ sidePlaces) × (across ≤ sidePlaces) × (rows ≤ sidePlaces) × (columns ≤ sidePlaces) }
-    ensures { out.new ≡ blockOn out.old rows columns (λ (i j : ℕ). get_or from.now (first + i * down + j * across) 0) }
+    requires { (first ≤ element_places) × (down ≤ side_places) × (across ≤ side_places) × (rows ≤ side_places) × (columns ≤ side_places) }
+    ensures { out.new ≡ block_on out.old rows columns (λ (i j : ℕ). get_or from.now (first + i * down + j * across) 0) }
 {
     let mut i = 0;
     while i < rows {
@@ -47,8 +47,8 @@ pub fn spread(
 
 // A matrix of one value.
 pub fn fill_block(out: &mut [u32; PLACES], value: u32, rows: usize, columns: usize)
-    requires { (rows ≤ sidePlaces) × (columns ≤ sidePlaces) }
-    ensures { out.new ≡ blockOn out.old rows columns (λ (i j : ℕ). value) }
+    requires { (rows ≤ side_places) × (columns ≤ side_places) }
+    ensures { out.new ≡ block_on out.old rows columns (λ (i j : ℕ). value) }
 {
     let one = [value; 1];
     spread(out, &one, 0, 0, 0, rows, columns)

@@ -2,10 +2,10 @@
 pub mod blocks;
 
 ghost use Rattle.std.specs.Prelude.{◌≡◌, ℕ, ◌+◌, ◌-◌, ◌*◌, ◌<◌, ◌≤◌, get_or};
-ghost use Rattle.sheet.specs.Sizes.{registerCount, matrixPlaces};
-ghost use Rattle.registers.specs.Types.{noType, theType, is_empty, withType};
-ghost use Rattle.registers.specs.Registers.{placeOf, elementOf, withElementOf, filledElements, emptyRegisters};
-ghost use Rattle.registers.specs.Past.{writtenTo};
+ghost use Rattle.sheet.specs.Sizes.{register_count, matrix_places};
+ghost use Rattle.registers.specs.Types.{no_type, the_type, is_empty, with_type};
+ghost use Rattle.registers.specs.Registers.{place_of, element_of, with_element_of, filled_elements, empty_registers};
+ghost use Rattle.registers.specs.Past.{written_to};
 ghost use Rattle.registers.specs.Sized.{SizedType};
 
 use sheet::sizes::{ELEMENTS, PLACES, REGISTERS};
@@ -27,7 +27,7 @@ pub struct Registers {
 }
 
 pub fn no_type() -> MatrixType
-    ensures { result ≡ noType }
+    ensures { result ≡ no_type }
 {
     MatrixType {
         kind: 0,
@@ -38,14 +38,14 @@ pub fn no_type() -> MatrixType
 
 // The types of empty registers.
 pub fn empty_types() -> [MatrixType; REGISTERS]
-    ensures { result ≡ emptyRegisters.types }
+    ensures { result ≡ empty_registers.types }
 {
     [no_type(); REGISTERS]
 }
 
 // The elements of empty registers: one array of zeros.
 pub fn empty_elements(elements: &mut [u32; ELEMENTS])
-    ensures { elements.new ≡ emptyRegisters.elements }
+    ensures { elements.new ≡ empty_registers.elements }
 {
     *elements = [0u32; ELEMENTS];
 }
@@ -57,8 +57,8 @@ pub fn is_empty(t: MatrixType) -> bool
 }
 
 pub fn the_type(types: [MatrixType; REGISTERS], register: u8) -> MatrixType
-    requires { register < registerCount }
-    ensures { result ≡ theType types register }
+    requires { register < register_count }
+    ensures { result ≡ the_type types register }
 {
     let at = register as usize;
     types[at]
@@ -69,8 +69,8 @@ pub fn with_type(
     register: u8,
     t: MatrixType,
 ) -> [MatrixType; REGISTERS]
-    requires { register < registerCount }
-    ensures { result ≡ withType types register t }
+    requires { register < register_count }
+    ensures { result ≡ with_type types register t }
 {
     let at = register as usize;
     let mut out = types;
@@ -81,29 +81,29 @@ pub fn with_type(
 // How many elements a matrix has.
 pub fn element_count(t: MatrixType) -> usize
     requires { SizedType t }
-    ensures { (result ≡ t.rows * t.columns) × (result ≤ matrixPlaces) }
+    ensures { (result ≡ t.rows * t.columns) × (result ≤ matrix_places) }
 {
     (t.rows as usize) * (t.columns as usize)
 }
 
 // Where an element of a register stands.
 pub fn place_of(register: u8, element: usize) -> usize
-    requires { (register < registerCount) × (element < matrixPlaces) }
-    ensures { result ≡ placeOf register element }
+    requires { (register < register_count) × (element < matrix_places) }
+    ensures { result ≡ place_of register element }
 {
     PLACES * (register as usize) + element
 }
 
 pub fn element_of(elements: &[u32; ELEMENTS], register: u8, element: usize) -> u32
-    requires { (register < registerCount) × (element < matrixPlaces) }
-    ensures { result ≡ elementOf elements.now register element }
+    requires { (register < register_count) × (element < matrix_places) }
+    ensures { result ≡ element_of elements.now register element }
 {
     elements[place_of(register, element)]
 }
 
 pub fn put_element_of(elements: &mut [u32; ELEMENTS], register: u8, element: usize, x: u32)
-    requires { (register < registerCount) × (element < matrixPlaces) }
-    ensures { elements.new ≡ withElementOf elements.old register element x }
+    requires { (register < register_count) × (element < matrix_places) }
+    ensures { elements.new ≡ with_element_of elements.old register element x }
 {
     elements[place_of(register, element)] = x;
 }
@@ -117,8 +117,8 @@ pub fn put_block(
     count: usize,
     old: usize,
 )
-    requires { (register < registerCount) × (count ≤ matrixPlaces) × (old ≤ matrixPlaces) }
-    ensures { elements.new ≡ writtenTo elements.old register (λ (e : ℕ). get_or block.now e 0) count old }
+    requires { (register < register_count) × (count ≤ matrix_places) × (old ≤ matrix_places) }
+    ensures { elements.new ≡ written_to elements.old register (λ (e : ℕ). get_or block.now e 0) count old }
 {
     let base = place_of(register, 0);
     let mut e = 0;
@@ -137,8 +137,8 @@ pub fn copy_elements(
     count: usize,
     old: usize,
 )
-    requires { (register < registerCount) × (source < registerCount) × (count ≤ matrixPlaces) × (old ≤ matrixPlaces) }
-    ensures { elements.new ≡ writtenTo elements.old register (elementOf elements.old source) count old }
+    requires { (register < register_count) × (source < register_count) × (count ≤ matrix_places) × (old ≤ matrix_places) }
+    ensures { elements.new ≡ written_to elements.old register (element_of elements.old source) count old }
 {
     let to = place_of(register, 0);
     let from = place_of(source, 0);
@@ -152,8 +152,8 @@ pub fn copy_elements(
 
 // Elements of a register from the first on, if it is before the end, made 0.
 fn clear_elements(elements: &mut [u32; ELEMENTS], register: u8, first: usize, end: usize)
-    requires { (register < registerCount) × (first ≤ matrixPlaces) × (end ≤ matrixPlaces) }
-    ensures { elements.new ≡ filledElements elements.old register first (end - first) 0 }
+    requires { (register < register_count) × (first ≤ matrix_places) × (end ≤ matrix_places) }
+    ensures { elements.new ≡ filled_elements elements.old register first (end - first) 0 }
 {
     if first < end {
         fill_elements(elements, register, first, end - first, 0);
@@ -168,8 +168,8 @@ pub fn fill_elements(
     count: usize,
     value: u32,
 )
-    requires { (register < registerCount) × (first + count ≤ matrixPlaces) }
-    ensures { elements.new ≡ filledElements elements.old register first count value }
+    requires { (register < register_count) × (first + count ≤ matrix_places) }
+    ensures { elements.new ≡ filled_elements elements.old register first count value }
 {
     let mut i = 0;
     while i < count {

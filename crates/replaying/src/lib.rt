@@ -1,14 +1,14 @@
 // Replays a card's address trace against a sheet and a memory's length, without a memory.
 ghost use Rattle.std.specs.Prelude.{◌≡◌, ◌+◌, ◌*◌, ◌<◌, ◌≤◌};
-ghost use Rattle.sheet.specs.Sizes.{stepPlaces, matrixPlaces, memoryLimit};
-ghost use Rattle.sheet_reader.specs.Parts.{sheetOf, Outlined};
+ghost use Rattle.sheet.specs.Sizes.{step_places, matrix_places, memory_limit};
+ghost use Rattle.sheet_reader.specs.Parts.{sheet_of, Outlined};
 ghost use Rattle.checking.specs.Checking.{checked};
-ghost use Rattle.traces.specs.Numbered.{eventsIn};
+ghost use Rattle.traces.specs.Numbered.{events_in};
 ghost use Rattle.expected.specs.Expected.{expected};
-ghost use Rattle.expected.specs.Listed.{listedEvents};
-ghost use Rattle.replaying.specs.Verdicts.{verdictAt};
-ghost use Rattle.replaying.specs.Replaying.{replayRefused, replayed};
-ghost use Rattle.replaying.specs.Matching.{matched, goesOn, matchOne, matchAll};
+ghost use Rattle.expected.specs.Listed.{listed_events};
+ghost use Rattle.replaying.specs.Verdicts.{verdict_at};
+ghost use Rattle.replaying.specs.Replaying.{replay_refused, replayed};
+ghost use Rattle.replaying.specs.Matching.{matched, goes_on, match_one, match_all};
 
 use checking::{checks, turns};
 use refusals::Refusal;
@@ -47,7 +47,7 @@ pub struct Compared {
 
 // The trace goes on with an event: all before are in it, and its next is this one.
 fn goes_on(trace: &[u8], m: Matched, e: Event) -> bool
-    ensures { result ≡ goesOn (eventsIn trace.now) m e }
+    ensures { result ≡ goes_on (events_in trace.now) m e }
 {
     let index = m.index;
     if index != m.count {
@@ -60,8 +60,8 @@ fn goes_on(trace: &[u8], m: Matched, e: Event) -> bool
 }
 
 fn match_event(trace: &[u8], m: Matched, e: Event) -> Matched
-    requires { (m.index ≤ m.count) × (m.count < stepPlaces * matrixPlaces) }
-    ensures { result ≡ matchOne (eventsIn trace.now) m e }
+    requires { (m.index ≤ m.count) × (m.count < step_places * matrix_places) }
+    ensures { result ≡ match_one (events_in trace.now) m e }
 {
     if goes_on(trace, m, e) {
         return Matched {
@@ -83,8 +83,8 @@ fn match_events(
     count: usize,
     step: usize,
 ) -> Matched
-    requires { (before.index ≤ before.count) × (before.count + count ≤ stepPlaces * matrixPlaces) × (step < stepPlaces) × (count ≤ matrixPlaces) }
-    ensures { result ≡ matchAll (eventsIn trace.now) before (listedEvents step entries.now count) }
+    requires { (before.index ≤ before.count) × (before.count + count ≤ step_places * matrix_places) × (step < step_places) × (count ≤ matrix_places) }
+    ensures { result ≡ match_all (events_in trace.now) before (listed_events step entries.now count) }
 {
     let mut m = before;
     let mut k: usize = 0;
@@ -105,9 +105,9 @@ fn match_sheet(
     given: Given,
     memory: usize,
 ) -> Compared
-    requires { Outlined s.now parts.now given × (memory ≤ memoryLimit) }
-    ensures refusal_value { result.refusal ≡ (checked (sheetOf s.now) memory).refusal }
-    ensures events_value { result.refusal.number ≡ 0 → result.events ≡ matchAll (eventsIn trace.now) (matched 0 0) (expected (sheetOf s.now) memory) }
+    requires { Outlined s.now parts.now given × (memory ≤ memory_limit) }
+    ensures refusal_value { result.refusal ≡ (checked (sheet_of s.now) memory).refusal }
+    ensures events_value { result.refusal.number ≡ 0 → result.events ≡ match_all (events_in trace.now) (matched 0 0) (expected (sheet_of s.now) memory) }
 {
     let mut entries = accesses::no_entries();
     let mut types = registers::empty_types();
@@ -139,7 +139,7 @@ fn match_sheet(
 
 // The verdict on a trace of so many events.
 fn verdict_at(m: Matched, events: usize) -> Verdict
-    ensures { result ≡ verdictAt m.index m.count events }
+    ensures { result ≡ verdict_at m.index m.count events }
 {
     if m.index != m.count {
         return Verdict::Differs(m.index);
@@ -151,7 +151,7 @@ fn verdict_at(m: Matched, events: usize) -> Verdict
 }
 
 fn replay_refused(refusal: Refusal) -> ReplayAnswer
-    ensures { result ≡ replayRefused refusal }
+    ensures { result ≡ replay_refused refusal }
 {
     ReplayAnswer {
         refusal,

@@ -1,6 +1,6 @@
 // Answers as rows of numbers, as C takes them.
 ghost use Rattle.std.specs.Prelude.{◌≡◌};
-ghost use Rattle.rows.specs.Rows.{answerRow, typesRow, verdictRow, value_of, outcomeRow, capped};
+ghost use Rattle.rows.specs.Rows.{answer_row, types_row, verdict_row, value_of, outcome_row, capped};
 ghost use Rattle.rows.specs.Small.{Small, SmallVerdict, SmallOutcome};
 
 use outcomes::{Explained, Outcome, Outside};
@@ -38,7 +38,7 @@ const ROW_MOST: usize = 4294967295;
 pub fn put_answer(answer: &mut [u32; ANSWER], refusal: Refusal, count: usize) -> u32
     requires { Small refusal count }
     ensures value { result ≡ refusal.number }
-    ensures answer_after { answer.new ≡ answerRow refusal count }
+    ensures answer_after { answer.new ≡ answer_row refusal count }
 {
     let number = refusal.number as u32;
     *answer = [
@@ -51,7 +51,7 @@ pub fn put_answer(answer: &mut [u32; ANSWER], refusal: Refusal, count: usize) ->
 }
 
 pub fn put_types(types: &mut [u8; TYPES], all: [MatrixType; REGISTERS])
-    ensures { types.new ≡ typesRow all }
+    ensures { types.new ≡ types_row all }
 {
     let a = all[0];
     let b = all[1];
@@ -65,7 +65,7 @@ pub fn put_types(types: &mut [u8; TYPES], all: [MatrixType; REGISTERS])
 
 pub fn put_verdict(row: &mut [u32; VERDICT], verdict: Verdict)
     requires { SmallVerdict verdict }
-    ensures { row.new ≡ verdictRow verdict }
+    ensures { row.new ≡ verdict_row verdict }
 {
     match verdict {
         Verdict::Agrees => {
@@ -91,7 +91,7 @@ fn value_of(o: Outcome) -> u32
 
 pub fn put_outcome(row: &mut [u32; OUTCOME], explained: Explained)
     requires { SmallOutcome explained.outcome }
-    ensures { row.new ≡ outcomeRow explained }
+    ensures { row.new ≡ outcome_row explained }
 {
     let o = explained.outcome;
     let sort = expected::sort_of(o) as u32;

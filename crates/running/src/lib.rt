@@ -1,23 +1,23 @@
 // A tape run with its sheet: every record's range first, then the records, which cannot fail.
 ghost use Rattle.std.specs.Prelude.{◌≡◌, true, ℕ, ◌+◌, ◌*◌, ◌<◌, ◌≤◌, ◌^◌, length};
-ghost use Rattle.sheet.specs.Sizes.{matrixPlaces, elementPlaces, recordPlaces};
-ghost use Rattle.sheet_reader.specs.Parts.{sheetOf, Outlined};
+ghost use Rattle.sheet.specs.Sizes.{matrix_places, element_places, record_places};
+ghost use Rattle.sheet_reader.specs.Parts.{sheet_of, Outlined};
 ghost use Rattle.sheet.specs.declared.Tensors.{Tensors};
-ghost use Rattle.registers.specs.Registers.{emptyRegisters};
+ghost use Rattle.registers.specs.Registers.{empty_registers};
 ghost use Rattle.registers.specs.Sized.{Sized};
 ghost use Rattle.registers.specs.Past.{Past};
 ghost use Rattle.counts.specs.declared.Counts.{Counts};
 ghost use Rattle.transfers.specs.Acts.{state};
-ghost use Rattle.carrying.specs.Steps.{machine_of, performedStep};
-ghost use Rattle.carrying.specs.Carrying.{started, answerWith};
-ghost use Rattle.records.specs.Records.{recordLength};
+ghost use Rattle.carrying.specs.Steps.{machine_of, performed_step};
+ghost use Rattle.carrying.specs.Carrying.{started, answer_with};
+ghost use Rattle.records.specs.Records.{record_length};
 ghost use Rattle.records.specs.Ranges.{GoodInRange};
 ghost use Rattle.records.specs.declared.Decoded.TheVariants.{Good};
-ghost use Rattle.judging.specs.Records.{wholeClear, recordOkWith};
-ghost use Rattle.judging.specs.Judging.{tapeRecord, decodedOkWith, rangeRefusal};
+ghost use Rattle.judging.specs.Records.{whole_clear, record_ok_with};
+ghost use Rattle.judging.specs.Judging.{tape_record, decoded_ok_with, range_refusal};
 ghost use Rattle.judging.specs.Laws.Named.{Placed};
-ghost use Rattle.running.specs.Records.{ranRecordWith};
-ghost use Rattle.running.specs.Running.{ranDecodedWith, ran, runTape, ranMemory};
+ghost use Rattle.running.specs.Records.{ran_record_with};
+ghost use Rattle.running.specs.Running.{ran_decoded_with, ran, run_tape, ran_memory};
 
 use carrying::{CarryAnswer, Stepped};
 use counts::Counts;
@@ -35,10 +35,10 @@ fn perform_named(
     memory: &[u8],
     step: Step,
 ) -> [MatrixType; REGISTERS]
-    requires sized { Sized types × ((edition : ℕ) × Placed edition step × (wholeClear edition types (length memory.now) step ≡ true)) }
-    requires past { Past types elements.old × (length elements.old ≡ elementPlaces) × (length block.old ≡ matrixPlaces) }
-    ensures block_len { length block.new ≡ matrixPlaces }
-    ensures c_after { (tensors : Tensors) (c : Counts) → machine_of result (state elements.new memory.now c) ≡ performedStep tensors step (machine_of types (state elements.old memory.now c)) }
+    requires sized { Sized types × ((edition : ℕ) × Placed edition step × (whole_clear edition types (length memory.now) step ≡ true)) }
+    requires past { Past types elements.old × (length elements.old ≡ element_places) × (length block.old ≡ matrix_places) }
+    ensures block_len { length block.new ≡ matrix_places }
+    ensures c_after { (tensors : Tensors) (c : Counts) → machine_of result (state elements.new memory.now c) ≡ performed_step tensors step (machine_of types (state elements.old memory.now c)) }
 {
     match step {
         Step::Nothing => types,
@@ -66,10 +66,10 @@ fn run_record(
     counted: Counts,
 ) -> Stepped
     requires sized { Sized types × GoodInRange (Good r) × (counted.placed < 2 ^ 31) }
-    requires by_index { (edition steps : ℕ) × Placed edition named × (recordOkWith edition steps types (length memory.old) named r ≡ true) }
-    requires past { Past types elements.old × (length elements.old ≡ elementPlaces) × (length block.old ≡ matrixPlaces) }
-    ensures block_len { length block.new ≡ matrixPlaces }
-    ensures counts_after { (tensors : Tensors) → machine_of result.types (state elements.new memory.new result.counts) ≡ ranRecordWith tensors named r (machine_of types (state elements.old memory.old counted)) }
+    requires by_index { (edition steps : ℕ) × Placed edition named × (record_ok_with edition steps types (length memory.old) named r ≡ true) }
+    requires past { Past types elements.old × (length elements.old ≡ element_places) × (length block.old ≡ matrix_places) }
+    ensures block_len { length block.new ≡ matrix_places }
+    ensures counts_after { (tensors : Tensors) → machine_of result.types (state elements.new memory.new result.counts) ≡ ran_record_with tensors named r (machine_of types (state elements.old memory.old counted)) }
 {
     match r {
         Record::Copy { register, object } => {
@@ -143,10 +143,10 @@ fn run_decoded(
     counted: Counts,
 ) -> Stepped
     requires sized { Sized types × GoodInRange d × (counted.placed < 2 ^ 31) }
-    requires by_index { (edition steps : ℕ) × Placed edition named × (decodedOkWith edition steps types (length memory.old) named d ≡ true) }
-    requires past { Past types elements.old × (length elements.old ≡ elementPlaces) × (length block.old ≡ matrixPlaces) }
-    ensures block_len { length block.new ≡ matrixPlaces }
-    ensures counts_after { (tensors : Tensors) → machine_of result.types (state elements.new memory.new result.counts) ≡ ranDecodedWith tensors named d (machine_of types (state elements.old memory.old counted)) }
+    requires by_index { (edition steps : ℕ) × Placed edition named × (decoded_ok_with edition steps types (length memory.old) named d ≡ true) }
+    requires past { Past types elements.old × (length elements.old ≡ element_places) × (length block.old ≡ matrix_places) }
+    ensures block_len { length block.new ≡ matrix_places }
+    ensures counts_after { (tensors : Tensors) → machine_of result.types (state elements.new memory.new result.counts) ≡ ran_decoded_with tensors named d (machine_of types (state elements.old memory.old counted)) }
 {
     match d {
         Decoded::Good(r) => run_record(block, types, elements, memory, named, r, counted),
@@ -167,10 +167,10 @@ fn run_records(
     memory: &mut [u8],
     elements: &mut [u32; ELEMENTS],
 ) -> Stepped
-    requires elements_value { elements.old ≡ emptyRegisters.elements }
-    requires outlined { Outlined s.now parts.now given × (records ≤ recordPlaces) × (records * recordLength ≤ length tape.now) }
-    requires tape_value { (rangeRefusal records (sheetOf s.now) (length memory.old) (tapeRecord tape.now)).number ≡ 0 }
-    ensures { machine_of result.types (state elements.new memory.new result.counts) ≡ ran records (sheetOf s.now) (tapeRecord tape.now) (started memory.old) }
+    requires elements_value { elements.old ≡ empty_registers.elements }
+    requires outlined { Outlined s.now parts.now given × (records ≤ record_places) × (records * record_length ≤ length tape.now) }
+    requires tape_value { (range_refusal records (sheet_of s.now) (length memory.old) (tape_record tape.now)).number ≡ 0 }
+    ensures { machine_of result.types (state elements.new memory.new result.counts) ≡ ran records (sheet_of s.now) (tape_record tape.now) (started memory.old) }
 {
     let mut block = [0u32; PLACES];
     let mut types = registers::empty_types();
@@ -196,8 +196,8 @@ pub fn run_tape(
     memory: &mut [u8],
     elements: &mut [u32; ELEMENTS],
 ) -> CarryAnswer
-    ensures elements_after { answerWith result elements.new ≡ runTape sheet.now tape.now records memory.old }
-    ensures memory_after { memory.new ≡ ranMemory sheet.now tape.now records memory.old }
+    ensures elements_after { answer_with result elements.new ≡ run_tape sheet.now tape.now records memory.old }
+    ensures memory_after { memory.new ≡ ran_memory sheet.now tape.now records memory.old }
 {
     registers::empty_elements(elements);
     let mut parts = sheet_parts::no_parts();

@@ -32,6 +32,6 @@ acts Idle = []
 acts (Bytes first count byte up down) = spread first count byte up down
 acts (Fills first count value) = pour first count value
 
-unfoldable pub actsAll : List Run → List Act
-actsAll [] = []
-actsAll (r ∷ rs) = acts r ++ actsAll rs
+unfoldable pub acts_all : List Run → List Act
+acts_all [] = []
+acts_all (r ∷ rs) = acts r ++ acts_all rs

@@ -2,7 +2,7 @@
 use Rattle.std.specs.Prelude.{ℕ, ◌+◌, ◌≤◌, ◌<◌, ◌≡◌, List, [], ◌∷◌, ℤ, pos}
 use Rattle.outcomes.specs.declared.Outcome.{Outcome}
 use Rattle.outcomes.specs.declared.Outcome.TheVariants.{Skipped, Filled, Discarded, Placed}
-use Rattle.records.specs.Records.{evenByte}
+use Rattle.records.specs.Records.{even_byte}
 
 -- `count` elements from element `first` on: at the bytes byte+i*step, or with the value's bits
 pub data Stretch : Type 0 where
@@ -45,7 +45,7 @@ module _ (f : ℕ → Outcome) (n : ℕ) where
   pub record EvenBytes (first count byte : ℕ) (step : ℤ) : Type 0 where
     pub some : 1 ≤ count
     pub within : first + count ≤ n
-    pub at : (i : ℕ) → i < count → AtByte (f (first + i)) (evenByte byte step i)
+    pub at : (i : ℕ) → i < count → AtByte (f (first + i)) (even_byte byte step i)
     pub lone : count ≡ 1 → step ≡ pos 0
 
   -- fills with the same bits

@@ -2,7 +2,7 @@
 use Rattle.std.specs.Prelude.{ℕ, ◌+◌, ◌-◌, ◌≤◌, ◌<◌, ◌^◌, min, ◌≡◌}
 use Rattle.outcomes.specs.declared.Outcome.{Outcome}
 use Rattle.outcomes.specs.declared.Outcome.TheVariants.{Skipped, Filled, Discarded, Placed}
-use Rattle.sheet.specs.Sizes.{memoryLimit}
+use Rattle.sheet.specs.Sizes.{memory_limit}
 use Rattle.runs.specs.declared.Run.{Run}
 use Rattle.runs.specs.declared.Run.TheVariants.{Idle, Bytes, Fills}
 
@@ -11,15 +11,15 @@ abbrev pub Fitting : Outcome → Type 0
 Fitting Skipped = Unit {0}
 Fitting (Filled v) = v < 2 ^ 32
 Fitting Discarded = Unit {0}
-Fitting (Placed b) = b < memoryLimit
+Fitting (Placed b) = b < memory_limit
 
 -- a run that ends just before element k
 pub record Steady (k e m b u d : ℕ) : Type 0 where
   pub ends : e + m ≡ k
   pub some : 1 ≤ m
-  pub byte : b < memoryLimit
-  pub up : u < memoryLimit
-  pub down : d < memoryLimit
+  pub byte : b < memory_limit
+  pub up : u < memory_limit
+  pub down : d < memory_limit
   pub way : min u d ≡ 0
 
 pub record Full (k e m v : ℕ) : Type 0 where

@@ -20,15 +20,15 @@ abbrev pub lone : ℕ → ℕ → Run
 lone k b = Bytes k 1 b 0 0
 
 -- a run of bytes and the next element's byte b: the second element gives the step, a later one joins at the same step
-unfoldable pub meetByte : ℕ → ℕ → ℕ → ℕ → ℕ → ℕ → ℕ → Progress
-meetByte first count byte up down k b =
+unfoldable pub meet_byte : ℕ → ℕ → ℕ → ℕ → ℕ → ℕ → ℕ → Progress
+meet_byte first count byte up down k b =
     pick (eqb count 1) (progress Idle (Bytes first 2 byte (b - byte) (byte - b)))
     (pick (eqb (b + count * down) (byte + count * up)) (progress Idle (Bytes first (count + 1) byte up down))
     (progress (Bytes first count byte up down) (lone k b)))
 
 -- a run of fills and the next element's fill: it joins with the same bits
-unfoldable pub meetFill : ℕ → ℕ → ℕ → ℕ → ℕ → Progress
-meetFill first count value k v =
+unfoldable pub meet_fill : ℕ → ℕ → ℕ → ℕ → ℕ → Progress
+meet_fill first count value k v =
     pick (eqb v value) (progress Idle (Fills first (count + 1) value)) (progress (Fills first count value) (Fills k 1 v))
 
 -- a run takes the next element k while it is of the same sort and, for bytes, at the same step;
@@ -38,10 +38,10 @@ next r k Skipped = progress r Idle
 next r k Discarded = progress r Idle
 next Idle k (Placed b) = progress Idle (lone k b)
 next (Fills first count value) k (Placed b) = progress (Fills first count value) (lone k b)
-next (Bytes first count byte up down) k (Placed b) = meetByte first count byte up down k b
+next (Bytes first count byte up down) k (Placed b) = meet_byte first count byte up down k b
 next Idle k (Filled v) = progress Idle (Fills k 1 v)
 next (Bytes first count byte up down) k (Filled v) = progress (Bytes first count byte up down) (Fills k 1 v)
-next (Fills first count value) k (Filled v) = meetFill first count value k v
+next (Fills first count value) k (Filled v) = meet_fill first count value k v
 
 -- no run writes nothing
 abbrev pub emit : Run → List Run
@@ -67,14 +67,14 @@ unfoldable pub runs : (ℕ → Outcome) → ℕ → List Run
 runs f n = ended f n ++ emit (held f n)
 
 -- the record of a run: of a load a take, of a store a put
-abbrev pub runRecords : Bool → ℕ → Run → List Record
-runRecords load register Idle = []
-runRecords load register (Bytes first count byte up down) = moved load register first count byte up down ∷ []
-runRecords load register (Fills first count value) = Fill register first count value ∷ []
+abbrev pub run_records : Bool → ℕ → Run → List Record
+run_records load register Idle = []
+run_records load register (Bytes first count byte up down) = moved load register first count byte up down ∷ []
+run_records load register (Fills first count value) = Fill register first count value ∷ []
 
-abbrev pub endedRecords : Bool → ℕ → (ℕ → Outcome) → ℕ → List Record
-endedRecords load register f k = each k (λ (i : ℕ). runRecords load register (ending f i))
+abbrev pub ended_records : Bool → ℕ → (ℕ → Outcome) → ℕ → List Record
+ended_records load register f k = each k (λ (i : ℕ). run_records load register (ending f i))
 
 -- the records of the runs of the first n elements, in order
-unfoldable pub runsRecords : Bool → ℕ → (ℕ → Outcome) → ℕ → List Record
-runsRecords load register f n = endedRecords load register f n ++ runRecords load register (held f n)
+unfoldable pub runs_records : Bool → ℕ → (ℕ → Outcome) → ℕ → List Record
+runs_records load register f n = ended_records load register f n ++ run_records load register (held f n)

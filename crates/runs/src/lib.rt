@@ -1,10 +1,10 @@
 // The longest even runs of a load or a store: its elements' outcomes are joined one after the other.
 ghost use Rattle.std.specs.Prelude.{◌≡◌, ◌+◌, ◌*◌, ◌-◌, ◌<◌, ◌≤◌, length};
 ghost use Rattle.std.proofs.lemmas.List.Edits.{sets};
-ghost use Rattle.sheet.specs.Sizes.{matrixPlaces, memoryLimit};
-ghost use Rattle.records.specs.Records.{recordLength, tapeNumbers};
+ghost use Rattle.sheet.specs.Sizes.{matrix_places, memory_limit};
+ghost use Rattle.records.specs.Records.{record_length, tape_numbers};
 ghost use Rattle.records.specs.Ranges.{AllInRange};
-ghost use Rattle.runs.specs.Runs.{progress, lone, meetByte, meetFill, next, emit, runRecords};
+ghost use Rattle.runs.specs.Runs.{progress, lone, meet_byte, meet_fill, next, emit, run_records};
 ghost use Rattle.runs.specs.Ranges.{Fitting, Steady, SmallRun};
 
 use outcomes::Outcome;
@@ -76,8 +76,8 @@ fn meet_byte(
     b: usize,
 ) -> Progress
     requires steady { Steady k first count byte up down }
-    requires k_lt_matrix_places { (k < matrixPlaces) × (b < memoryLimit) }
-    ensures { result ≡ meetByte first count byte up down k b }
+    requires k_lt_matrix_places { (k < matrix_places) × (b < memory_limit) }
+    ensures { result ≡ meet_byte first count byte up down k b }
 {
     if count == 1 {
         return Progress {
@@ -117,8 +117,8 @@ fn meet_byte(
 
 // A run of fills, and the next element's fill.
 fn meet_fill(first: usize, count: usize, value: u32, k: usize, v: u32) -> Progress
-    requires { (first + count ≡ k) × (k < matrixPlaces) }
-    ensures { result ≡ meetFill first count value k v }
+    requires { (first + count ≡ k) × (k < matrix_places) }
+    ensures { result ≡ meet_fill first count value k v }
 {
     if v == value {
         return Progress {
@@ -142,7 +142,7 @@ fn meet_fill(first: usize, count: usize, value: u32, k: usize, v: u32) -> Progre
 
 fn next_byte(r: Run, k: usize, b: usize) -> Progress
     requires small_run { SmallRun k r }
-    requires k_lt_matrix_places { (k < matrixPlaces) × (b < memoryLimit) }
+    requires k_lt_matrix_places { (k < matrix_places) × (b < memory_limit) }
     ensures { result ≡ next r k (Outcome.Placed b) }
 {
     match r {
@@ -170,7 +170,7 @@ fn next_byte(r: Run, k: usize, b: usize) -> Progress
 
 fn next_fill(r: Run, k: usize, v: u32) -> Progress
     requires small_run { SmallRun k r }
-    requires k_lt_matrix_places { k < matrixPlaces }
+    requires k_lt_matrix_places { k < matrix_places }
     ensures { result ≡ next r k (Outcome.Filled v) }
 {
     match r {
@@ -209,7 +209,7 @@ fn stopped(r: Run) -> Progress
 // The open run and the outcome of the next element k.
 pub fn next_run(r: Run, k: usize, o: Outcome) -> Progress
     requires small_run { SmallRun k r }
-    requires k_lt_matrix_places { (k < matrixPlaces) × Fitting o }
+    requires k_lt_matrix_places { (k < matrix_places) × Fitting o }
     ensures { result ≡ next r k o }
 {
     match o {
@@ -243,9 +243,9 @@ pub fn records_of(r: Run) -> usize
 
 // Writes the record of a run as record `at` of a tape: the next record's number.
 pub fn write_run(tape: &mut [i32], at: usize, load: bool, register: u8, r: Run) -> usize
-    requires record_length_in_bounds { (at + length (emit r)) * recordLength ≤ length tape.old }
-    requires all_in_range { AllInRange (runRecords load register r) }
-    ensures { (result ≡ at + length (emit r)) × (tape.new ≡ sets tape.old (at * recordLength) (tapeNumbers (runRecords load register r))) }
+    requires record_length_in_bounds { (at + length (emit r)) * record_length ≤ length tape.old }
+    requires all_in_range { AllInRange (run_records load register r) }
+    ensures { (result ≡ at + length (emit r)) × (tape.new ≡ sets tape.old (at * record_length) (tape_numbers (run_records load register r))) }
 {
     match r {
         Run::Idle => at,

@@ -16,39 +16,39 @@ use Rattle.sheet.specs.declared.MemoryLayout.{MemoryLayout}
 use Rattle.sheet.specs.declared.MemoryLayout.TheVariants.{RowMajor, ColumnMajor}
 
 -- the tags of fields
-abbrev pub editionTag : ℕ
-editionTag = 0x01
+abbrev pub edition_tag : ℕ
+edition_tag = 0x01
 
-abbrev pub layoutTag : ℕ
-layoutTag = 0x10
+abbrev pub layout_tag : ℕ
+layout_tag = 0x10
 
-abbrev pub viewTag : ℕ
-viewTag = 0x11
+abbrev pub view_tag : ℕ
+view_tag = 0x11
 
-abbrev pub fillTag : ℕ
-fillTag = 0x20
+abbrev pub fill_tag : ℕ
+fill_tag = 0x20
 
-abbrev pub loadTag : ℕ
-loadTag = 0x21
+abbrev pub load_tag : ℕ
+load_tag = 0x21
 
-abbrev pub storeTag : ℕ
-storeTag = 0x22
+abbrev pub store_tag : ℕ
+store_tag = 0x22
 
-abbrev pub reduceTag : ℕ
-reduceTag = 0x23
+abbrev pub reduce_tag : ℕ
+reduce_tag = 0x23
 
-abbrev pub transposeTag : ℕ
-transposeTag = 0x24
+abbrev pub transpose_tag : ℕ
+transpose_tag = 0x24
 
-abbrev pub multiplyTag : ℕ
-multiplyTag = 0x25
+abbrev pub multiply_tag : ℕ
+multiply_tag = 0x25
 
-abbrev pub vectorTag : ℕ
-vectorTag = 0x26
+abbrev pub vector_tag : ℕ
+vector_tag = 0x26
 
 -- the tags of steps are those from fill's to this one
-abbrev pub lastStepTag : ℕ
-lastStepTag = vectorTag
+abbrev pub last_step_tag : ℕ
+last_step_tag = vector_tag
 
 abbrev pub undefined : ClampMode → Bool
 undefined Undefined = true
@@ -57,44 +57,44 @@ undefined ClampToEdge = false
 undefined Repeat = false
 undefined MirrorRepeat = false
 
-abbrev pub clampCode : ClampMode → ℕ
-clampCode Undefined = 0
-clampCode Constant = 1
-clampCode ClampToEdge = 2
-clampCode Repeat = 3
-clampCode MirrorRepeat = 4
+abbrev pub clamp_code : ClampMode → ℕ
+clamp_code Undefined = 0
+clamp_code Constant = 1
+clamp_code ClampToEdge = 2
+clamp_code Repeat = 3
+clamp_code MirrorRepeat = 4
 
-unfoldable pub clampMode : ℕ → ClampMode
-clampMode code =
+unfoldable pub clamp_mode : ℕ → ClampMode
+clamp_mode code =
     pick (eqb code 0) Undefined
     (pick (eqb code 1) Constant
     (pick (eqb code 2) ClampToEdge
     (pick (eqb code 3) Repeat
     MirrorRepeat)))
 
-abbrev pub reduceCode : ReduceMode → ℕ
-reduceCode Row = 1
-reduceCode Column = 2
-reduceCode Both = 3
-reduceCode TwoByTwo = 4
+abbrev pub reduce_code : ReduceMode → ℕ
+reduce_code Row = 1
+reduce_code Column = 2
+reduce_code Both = 3
+reduce_code TwoByTwo = 4
 
-unfoldable pub reduceMode : ℕ → ReduceMode
-reduceMode code =
+unfoldable pub reduce_mode : ℕ → ReduceMode
+reduce_mode code =
     pick (eqb code 1) Row
     (pick (eqb code 2) Column
     (pick (eqb code 3) Both
     TwoByTwo))
 
-abbrev pub combineCode : Combine → ℕ
-combineCode Add = 0
-combineCode Min = 1
-combineCode Max = 2
-combineCode And = 3
-combineCode Or = 4
-combineCode Xor = 5
+abbrev pub combine_code : Combine → ℕ
+combine_code Add = 0
+combine_code Min = 1
+combine_code Max = 2
+combine_code And = 3
+combine_code Or = 4
+combine_code Xor = 5
 
-unfoldable pub combineOf : ℕ → Combine
-combineOf code =
+unfoldable pub combine_of : ℕ → Combine
+combine_of code =
     pick (eqb code 0) Add
     (pick (eqb code 1) Min
     (pick (eqb code 2) Max
@@ -102,12 +102,12 @@ combineOf code =
     (pick (eqb code 4) Or
     Xor))))
 
-abbrev pub memoryLayoutCode : MemoryLayout → ℕ
-memoryLayoutCode RowMajor = 0
-memoryLayoutCode ColumnMajor = 1
+abbrev pub memory_layout_code : MemoryLayout → ℕ
+memory_layout_code RowMajor = 0
+memory_layout_code ColumnMajor = 1
 
-unfoldable pub memoryLayout : ℕ → MemoryLayout
-memoryLayout code = pick (eqb code 0) RowMajor ColumnMajor
+unfoldable pub memory_layout : ℕ → MemoryLayout
+memory_layout code = pick (eqb code 0) RowMajor ColumnMajor
 
 unfoldable pub flag_code : Bool → ℕ
 flag_code flag = pick flag 1 0
@@ -116,18 +116,18 @@ flag_code flag = pick flag 1 0
 abbrev pub none : ℕ
 none = 255
 
-abbrev pub objectCode : Object → ℕ
-objectCode Kept = none
-objectCode Zeros = none
-objectCode (Register register) = register
+abbrev pub object_code : Object → ℕ
+object_code Kept = none
+object_code Zeros = none
+object_code (Register register) = register
 
 -- `absent` is what no object means in the sheet's edition
-unfoldable pub objectOf : Object → ℕ → Object
-objectOf absent code = pick (eqb code none) absent (Register code)
+unfoldable pub object_of : Object → ℕ → Object
+object_of absent code = pick (eqb code none) absent (Register code)
 
-abbrev pub viewingCode : Viewing → ℕ
-viewingCode Plain = none
-viewingCode (Through view) = view
+abbrev pub viewing_code : Viewing → ℕ
+viewing_code Plain = none
+viewing_code (Through view) = view
 
-unfoldable pub viewingOf : ℕ → Viewing
-viewingOf code = pick (eqb code none) Plain (Through code)
+unfoldable pub viewing_of : ℕ → Viewing
+viewing_of code = pick (eqb code none) Plain (Through code)

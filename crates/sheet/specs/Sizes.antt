@@ -3,61 +3,61 @@ use Rattle.std.specs.Prelude.{ℕ, ◌*◌, Bool, true, ltb, leb}
 use Rattle.numbers.specs.Choice.{pick, between}
 
 -- the places that a layout's and a view's dimensions have
-abbrev pub rankPlaces : ℕ
-rankPlaces = 5
+abbrev pub rank_places : ℕ
+rank_places = 5
 
-abbrev pub layoutPlaces : ℕ
-layoutPlaces = 4
+abbrev pub layout_places : ℕ
+layout_places = 4
 
-abbrev pub viewPlaces : ℕ
-viewPlaces = 4
+abbrev pub view_places : ℕ
+view_places = 4
 
-abbrev pub registerCount : ℕ
-registerCount = 4
+abbrev pub register_count : ℕ
+register_count = 4
 
 -- the most rows and columns of a matrix, whatever its edition
-abbrev pub sidePlaces : ℕ
-sidePlaces = 16
+abbrev pub side_places : ℕ
+side_places = 16
 
 -- the places of a register's matrix: side by side
-abbrev pub matrixPlaces : ℕ
-matrixPlaces = sidePlaces * sidePlaces
+abbrev pub matrix_places : ℕ
+matrix_places = side_places * side_places
 
 -- the places of all registers' matrices
-abbrev pub elementPlaces : ℕ
-elementPlaces = registerCount * matrixPlaces
+abbrev pub element_places : ℕ
+element_places = register_count * matrix_places
 
 -- a sheet has places for so many steps, whatever its edition
-abbrev pub stepPlaces : ℕ
-stepPlaces = 32
+abbrev pub step_places : ℕ
+step_places = 32
 
 -- the most records of a tape, whatever its edition
-abbrev pub recordPlaces : ℕ
-recordPlaces = 1024
+abbrev pub record_places : ℕ
+record_places = 1024
 
 -- the largest memory
-abbrev pub memoryLimit : ℕ
-memoryLimit = 65536
+abbrev pub memory_limit : ℕ
+memory_limit = 65536
 
 -- a layout or a view has 1 to 5 dimensions
-abbrev pub rankOk : ℕ → Bool
-rankOk rank = between 1 rankPlaces rank
+abbrev pub rank_ok : ℕ → Bool
+rank_ok rank = between 1 rank_places rank
 
 -- the largest block size, dimension and span
-abbrev pub sizeLimit : ℕ
-sizeLimit = 4096
+abbrev pub size_limit : ℕ
+size_limit = 4096
 
 -- a block size, a dimension or a span is 1 to 4,096
-abbrev pub sizeOk : ℕ → Bool
-sizeOk x = between 1 sizeLimit x
+abbrev pub size_ok : ℕ → Bool
+size_ok x = between 1 size_limit x
 
 -- the 16 bits of the lowest offset, -4,096
-abbrev pub lowestOffset : ℕ
-lowestOffset = 61440
+abbrev pub lowest_offset : ℕ
+lowest_offset = 61440
 
 -- the 16 bits of an offset from -4,096 to 4,095
-unfoldable pub offsetOk : ℕ → Bool
-offsetOk x = pick (ltb x sizeLimit) true (leb lowestOffset x)
+unfoldable pub offset_ok : ℕ → Bool
+offset_ok x = pick (ltb x size_limit) true (leb lowest_offset x)
 
-abbrev pub registerOk : ℕ → Bool
-registerOk register = ltb register registerCount
+abbrev pub register_ok : ℕ → Bool
+register_ok register = ltb register register_count

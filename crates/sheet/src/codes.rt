@@ -1,7 +1,7 @@
 // The numbers by which a sheet names its fields, a clamp mode, a reduce mode, a combine, a memory layout, a flag, an object and a view. A
 // number past a table gives the last entry.
 ghost use Rattle.std.specs.Prelude.{◌≡◌};
-ghost use Rattle.sheet.specs.Codes.{undefined, clampCode, clampMode, reduceCode, reduceMode, combineCode, combineOf, memoryLayoutCode, memoryLayout, flag_code, objectCode, objectOf, viewingCode, viewingOf};
+ghost use Rattle.sheet.specs.Codes.{undefined, clamp_code, clamp_mode, reduce_code, reduce_mode, combine_code, combine_of, memory_layout_code, memory_layout, flag_code, object_code, object_of, viewing_code, viewing_of};
 
 use super::{ClampMode, Combine, MemoryLayout, Object, ReduceMode, Viewing};
 
@@ -45,7 +45,7 @@ pub fn undefined(mode: ClampMode) -> bool
 }
 
 pub fn clamp_code(mode: ClampMode) -> u8
-    ensures { result ≡ clampCode mode }
+    ensures { result ≡ clamp_code mode }
 {
     match mode {
         ClampMode::Undefined => 0,
@@ -57,7 +57,7 @@ pub fn clamp_code(mode: ClampMode) -> u8
 }
 
 pub fn clamp_mode(code: u8) -> ClampMode
-    ensures { result ≡ clampMode code }
+    ensures { result ≡ clamp_mode code }
 {
     match code {
         0 => ClampMode::Undefined,
@@ -69,7 +69,7 @@ pub fn clamp_mode(code: u8) -> ClampMode
 }
 
 pub fn reduce_code(mode: ReduceMode) -> u8
-    ensures { result ≡ reduceCode mode }
+    ensures { result ≡ reduce_code mode }
 {
     match mode {
         ReduceMode::Row => 1,
@@ -80,7 +80,7 @@ pub fn reduce_code(mode: ReduceMode) -> u8
 }
 
 pub fn reduce_mode(code: u8) -> ReduceMode
-    ensures { result ≡ reduceMode code }
+    ensures { result ≡ reduce_mode code }
 {
     match code {
         1 => ReduceMode::Row,
@@ -91,7 +91,7 @@ pub fn reduce_mode(code: u8) -> ReduceMode
 }
 
 pub fn combine_code(combine: Combine) -> u8
-    ensures { result ≡ combineCode combine }
+    ensures { result ≡ combine_code combine }
 {
     match combine {
         Combine::Add => 0,
@@ -104,7 +104,7 @@ pub fn combine_code(combine: Combine) -> u8
 }
 
 pub fn combine_of(code: u8) -> Combine
-    ensures { result ≡ combineOf code }
+    ensures { result ≡ combine_of code }
 {
     match code {
         0 => Combine::Add,
@@ -117,7 +117,7 @@ pub fn combine_of(code: u8) -> Combine
 }
 
 pub fn memory_layout_code(layout: MemoryLayout) -> u8
-    ensures { result ≡ memoryLayoutCode layout }
+    ensures { result ≡ memory_layout_code layout }
 {
     match layout {
         MemoryLayout::RowMajor => 0,
@@ -126,7 +126,7 @@ pub fn memory_layout_code(layout: MemoryLayout) -> u8
 }
 
 pub fn memory_layout(code: u8) -> MemoryLayout
-    ensures { result ≡ memoryLayout code }
+    ensures { result ≡ memory_layout code }
 {
     match code {
         0 => MemoryLayout::RowMajor,
@@ -141,7 +141,7 @@ pub fn flag_code(flag: bool) -> u8
 }
 
 pub fn object_code(object: Object) -> u8
-    ensures { result ≡ objectCode object }
+    ensures { result ≡ object_code object }
 {
     match object {
         Object::Kept => NONE,
@@ -152,7 +152,7 @@ pub fn object_code(object: Object) -> u8
 
 // `absent` is what no object means in the sheet's edition.
 pub fn object_of(absent: Object, code: u8) -> Object
-    ensures { result ≡ objectOf absent code }
+    ensures { result ≡ object_of absent code }
 {
     if code == NONE {
         return absent;
@@ -161,7 +161,7 @@ pub fn object_of(absent: Object, code: u8) -> Object
 }
 
 pub fn viewing_code(view: Viewing) -> u8
-    ensures { result ≡ viewingCode view }
+    ensures { result ≡ viewing_code view }
 {
     match view {
         Viewing::Plain => NONE,
@@ -170,7 +170,7 @@ pub fn viewing_code(view: Viewing) -> u8
 }
 
 pub fn viewing_of(code: u8) -> Viewing
-    ensures { result ≡ viewingOf code }
+    ensures { result ≡ viewing_of code }
 {
     if code == NONE {
         return Viewing::Plain;

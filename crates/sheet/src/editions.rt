@@ -1,6 +1,6 @@
 // Everything that depends on a sheet's edition.
 ghost use Rattle.std.specs.Prelude.{◌≡◌};
-ghost use Rattle.sheet.specs.Editions.{editionOk, hasVectors, objectIsZeros, noObject, tagKnown, limits, sideOk, fillLength};
+ghost use Rattle.sheet.specs.Editions.{edition_ok, has_vectors, object_is_zeros, no_object, tag_known, limits, side_ok, fill_length};
 
 use super::{Object, codes, sizes};
 
@@ -22,26 +22,26 @@ pub struct SizeLimits {
 }
 
 pub fn edition_ok(edition: u8) -> bool
-    ensures { result ≡ editionOk edition }
+    ensures { result ≡ edition_ok edition }
 {
     numbers::between(1, NEWEST_EDITION, edition as usize)
 }
 
 pub fn has_vectors(edition: u8) -> bool
-    ensures { result ≡ hasVectors edition }
+    ensures { result ≡ has_vectors edition }
 {
     VECTOR_EDITION <= edition
 }
 
 pub fn object_is_zeros(edition: u8) -> bool
-    ensures { result ≡ objectIsZeros edition }
+    ensures { result ≡ object_is_zeros edition }
 {
     ZEROS_EDITION <= edition
 }
 
 // What no object means: zeros of the register's own type, or in an older edition the register as it stands.
 pub fn no_object(edition: u8) -> Object
-    ensures { result ≡ noObject edition }
+    ensures { result ≡ no_object edition }
 {
     if object_is_zeros(edition) {
         return Object::Zeros;
@@ -51,7 +51,7 @@ pub fn no_object(edition: u8) -> Object
 
 // A step's tag of a later edition is not known in an older one; before any edition each is, so that the order decides.
 pub fn tag_known(edition: u8, tag: u8) -> bool
-    ensures { result ≡ tagKnown edition tag }
+    ensures { result ≡ tag_known edition tag }
 {
     if edition == 0 {
         return true;
@@ -73,7 +73,7 @@ pub fn limits(edition: u8) -> SizeLimits
 }
 
 pub fn side_ok(edition: u8, x: u8) -> bool
-    ensures { result ≡ sideOk edition x }
+    ensures { result ≡ side_ok edition x }
 {
     let most = limits(edition);
     numbers::between(1, most.side, x as usize)
@@ -81,7 +81,7 @@ pub fn side_ok(edition: u8, x: u8) -> bool
 
 // The bytes of a fill's content.
 pub fn fill_length(edition: u8) -> usize
-    ensures { result ≡ fillLength edition }
+    ensures { result ≡ fill_length edition }
 {
     8
 }

@@ -1,6 +1,6 @@
 // The limits of document 01's Sizes that no edition moves, and the places that arrays have.
 ghost use Rattle.std.specs.Prelude.{◌≡◌, ◌≤◌, ◌<◌};
-ghost use Rattle.sheet.specs.Sizes.{rankOk, sizeOk, offsetOk, registerOk};
+ghost use Rattle.sheet.specs.Sizes.{rank_ok, size_ok, offset_ok, register_ok};
 
 // The places that a layout's and a view's dimensions have.
 pub const RANK: usize = 5;
@@ -37,21 +37,21 @@ const LOWEST_OFFSET: u16 = 61440;
 
 // A layout or a view has 1 to 5 dimensions.
 pub fn rank_ok(rank: u8) -> bool
-    ensures { result ≡ rankOk rank }
+    ensures { result ≡ rank_ok rank }
 {
     numbers::between(1, RANK, rank as usize)
 }
 
 // A block size, a dimension or a span is 1 to 4,096.
 pub fn size_ok(x: u16) -> bool
-    ensures { result ≡ sizeOk x }
+    ensures { result ≡ size_ok x }
 {
     numbers::between(1, SIZE as usize, x as usize)
 }
 
 // The 16 bits of an offset from -4,096 to 4,095.
 pub fn offset_ok(x: u16) -> bool
-    ensures { result ≡ offsetOk x }
+    ensures { result ≡ offset_ok x }
 {
     if x < SIZE {
         return true;
@@ -60,7 +60,7 @@ pub fn offset_ok(x: u16) -> bool
 }
 
 pub fn register_ok(register: u8) -> bool
-    ensures { result ≡ registerOk register }
+    ensures { result ≡ register_ok register }
 {
     (register as usize) < REGISTERS
 }

@@ -1,8 +1,8 @@
 // Layouts: how many bytes one takes, and writing it from a place of `out` on.
 ghost use Rattle.std.specs.Prelude.{◌≡◌, ◌+◌, ◌≤◌, length};
 ghost use Rattle.std.proofs.lemmas.List.Edits.{sets};
-ghost use Rattle.sheet.specs.Sizes.{rankPlaces};
-ghost use Rattle.sheet_bytes.specs.Bytes.{dimensionBytes, dimensionsBytes, layoutBytes, layoutField};
+ghost use Rattle.sheet.specs.Sizes.{rank_places};
+ghost use Rattle.sheet_bytes.specs.Bytes.{dimension_bytes, dimensions_bytes, layout_bytes, layout_field};
 
 use fields::{HEAD, writing};
 use sheet::sizes::RANK;
@@ -14,14 +14,14 @@ const START: usize = 6;
 const DIMENSION: usize = 10;
 
 pub fn layout_len(l: Layout) -> u16
-    ensures { result ≡ length (layoutBytes l) }
+    ensures { result ≡ length (layout_bytes l) }
 {
     (START + l.rank as usize * DIMENSION) as u16
 }
 
 fn put_dimension(out: &mut [u8], at: usize, d: Dimension)
     requires { at + 10 ≤ length out.old }
-    ensures { out.new ≡ sets out.old at (dimensionBytes d) }
+    ensures { out.new ≡ sets out.old at (dimension_bytes d) }
 {
     writing::put_u16s(out, at, d.block, d.size);
     writing::put_u16s(out, at + 4, d.stride, d.offset);
@@ -29,8 +29,8 @@ fn put_dimension(out: &mut [u8], at: usize, d: Dimension)
 }
 
 fn put_dimensions(out: &mut [u8], at: usize, rank: u8, ds: [Dimension; RANK])
-    requires { (rank ≤ rankPlaces) × (at + length (dimensionsBytes rank ds) ≤ length out.old) }
-    ensures { out.new ≡ sets out.old at (dimensionsBytes rank ds) }
+    requires { (rank ≤ rank_places) × (at + length (dimensions_bytes rank ds) ≤ length out.old) }
+    ensures { out.new ≡ sets out.old at (dimensions_bytes rank ds) }
 {
     let n = rank as usize;
     let mut p = at;
@@ -44,8 +44,8 @@ fn put_dimensions(out: &mut [u8], at: usize, rank: u8, ds: [Dimension; RANK])
 }
 
 fn put_layout_content(out: &mut [u8], at: usize, l: Layout)
-    requires { (l.rank ≤ rankPlaces) × (at + length (layoutBytes l) ≤ length out.old) }
-    ensures { out.new ≡ sets out.old at (layoutBytes l) }
+    requires { (l.rank ≤ rank_places) × (at + length (layout_bytes l) ≤ length out.old) }
+    ensures { out.new ≡ sets out.old at (layout_bytes l) }
 {
     let rank = l.rank;
     let mode = l.mode;
@@ -57,8 +57,8 @@ fn put_layout_content(out: &mut [u8], at: usize, l: Layout)
 
 // Returns the place after the field.
 pub fn put_layout(out: &mut [u8], at: usize, l: Layout) -> usize
-    requires { (l.rank ≤ rankPlaces) × (at + length (layoutField l) ≤ length out.old) }
-    ensures { (result ≡ at + length (layoutField l)) × (out.new ≡ sets out.old at (layoutField l)) }
+    requires { (l.rank ≤ rank_places) × (at + length (layout_field l) ≤ length out.old) }
+    ensures { (result ≡ at + length (layout_field l)) × (out.new ≡ sets out.old at (layout_field l)) }
 {
     let content = layout_len(l);
     writing::put_head(out, at, codes::LAYOUT_TAG, content);

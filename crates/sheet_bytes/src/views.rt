@@ -1,8 +1,8 @@
 // Views: how many bytes one takes, and writing it from a place of `out` on.
 ghost use Rattle.std.specs.Prelude.{◌≡◌, ◌++◌, ◌+◌, ◌≤◌, length};
 ghost use Rattle.std.proofs.lemmas.List.Edits.{sets};
-ghost use Rattle.sheet.specs.Sizes.{rankPlaces};
-ghost use Rattle.sheet_bytes.specs.Bytes.{entriesBytes, viewDimensionsBytes, clipBytes, viewBytes, viewField};
+ghost use Rattle.sheet.specs.Sizes.{rank_places};
+ghost use Rattle.sheet_bytes.specs.Bytes.{entries_bytes, view_dimensions_bytes, clip_bytes, view_bytes, view_field};
 
 use fields::{HEAD, writing};
 use sheet::sizes::RANK;
@@ -17,7 +17,7 @@ const DIMENSION: usize = 4;
 const CLIP: usize = 4;
 
 pub fn view_len(v: View) -> u16
-    ensures { result ≡ length (viewBytes v) }
+    ensures { result ≡ length (view_bytes v) }
 {
     let rank = v.rank;
     let own = views::sized_rank(v.sized, rank);
@@ -25,8 +25,8 @@ pub fn view_len(v: View) -> u16
 }
 
 fn put_permutation(out: &mut [u8], at: usize, rank: u8, p: [u8; RANK])
-    requires { (rank ≤ rankPlaces) × (at + length (entriesBytes rank p) ≤ length out.old) }
-    ensures { out.new ≡ sets out.old at (entriesBytes rank p) }
+    requires { (rank ≤ rank_places) × (at + length (entries_bytes rank p) ≤ length out.old) }
+    ensures { out.new ≡ sets out.old at (entries_bytes rank p) }
 {
     let n = rank as usize;
     let mut q = at;
@@ -39,8 +39,8 @@ fn put_permutation(out: &mut [u8], at: usize, rank: u8, p: [u8; RANK])
 }
 
 fn put_view_dimensions(out: &mut [u8], at: usize, count: u8, ds: [ViewDimension; RANK])
-    requires { (count ≤ rankPlaces) × (at + length (viewDimensionsBytes count ds) ≤ length out.old) }
-    ensures { out.new ≡ sets out.old at (viewDimensionsBytes count ds) }
+    requires { (count ≤ rank_places) × (at + length (view_dimensions_bytes count ds) ≤ length out.old) }
+    ensures { out.new ≡ sets out.old at (view_dimensions_bytes count ds) }
 {
     let n = count as usize;
     let mut p = at;
@@ -55,15 +55,15 @@ fn put_view_dimensions(out: &mut [u8], at: usize, count: u8, ds: [ViewDimension;
 
 fn put_clips(out: &mut [u8], at: usize, rows: Clip, columns: Clip)
     requires { at + 8 ≤ length out.old }
-    ensures { out.new ≡ sets out.old at (clipBytes rows ++ clipBytes columns) }
+    ensures { out.new ≡ sets out.old at (clip_bytes rows ++ clip_bytes columns) }
 {
     writing::put_u16s(out, at, rows.offset, rows.span);
     writing::put_u16s(out, at + CLIP, columns.offset, columns.span);
 }
 
 fn put_view_content(out: &mut [u8], at: usize, v: View)
-    requires { (v.rank ≤ rankPlaces) × (at + length (viewBytes v) ≤ length out.old) }
-    ensures { out.new ≡ sets out.old at (viewBytes v) }
+    requires { (v.rank ≤ rank_places) × (at + length (view_bytes v) ≤ length out.old) }
+    ensures { out.new ≡ sets out.old at (view_bytes v) }
 {
     let rank = v.rank;
     let own = views::sized_rank(v.sized, rank);
@@ -80,8 +80,8 @@ fn put_view_content(out: &mut [u8], at: usize, v: View)
 
 // Returns the place after the field.
 pub fn put_view(out: &mut [u8], at: usize, v: View) -> usize
-    requires { (v.rank ≤ rankPlaces) × (at + length (viewField v) ≤ length out.old) }
-    ensures { (result ≡ at + length (viewField v)) × (out.new ≡ sets out.old at (viewField v)) }
+    requires { (v.rank ≤ rank_places) × (at + length (view_field v) ≤ length out.old) }
+    ensures { (result ≡ at + length (view_field v)) × (out.new ≡ sets out.old at (view_field v)) }
 {
     let content = view_len(v);
     writing::put_head(out, at, codes::VIEW_TAG, content);

@@ -1,8 +1,8 @@
 -- The places for steps before any is given.
 use Rattle.std.specs.Prelude.{List, replicate}
-use Rattle.sheet.specs.Sizes.{stepPlaces}
+use Rattle.sheet.specs.Sizes.{step_places}
 use Rattle.sheet.specs.declared.Cell.{Cell}
-use Rattle.sheet_ranges.specs.Steps.{noCell}
+use Rattle.sheet_ranges.specs.Steps.{no_cell}
 
-unfoldable pub noCells : List Cell
-noCells = replicate stepPlaces noCell
+unfoldable pub no_cells : List Cell
+no_cells = replicate step_places no_cell

@@ -1,12 +1,12 @@
 // The parts of a sheet, taken from its bytes where reading found them; and the whole sheet, put together of them.
 ghost use Rattle.std.specs.Prelude.{◌≡◌, ◌<◌, length};
-ghost use Rattle.tensor_ranges.specs.Layouts.{theLayout};
-ghost use Rattle.tensor_ranges.specs.Views.{theView};
-ghost use Rattle.sheet_ranges.specs.Steps.{theStep};
-ghost use Rattle.sheet_reader.specs.Reading.{readSheet};
-ghost use Rattle.sheet_reader.specs.Parts.{partPlaces, sheetOf, Outlined};
+ghost use Rattle.tensor_ranges.specs.Layouts.{the_layout};
+ghost use Rattle.tensor_ranges.specs.Views.{the_view};
+ghost use Rattle.sheet_ranges.specs.Steps.{the_step};
+ghost use Rattle.sheet_reader.specs.Reading.{read_sheet};
+ghost use Rattle.sheet_reader.specs.Parts.{part_places, sheet_of, Outlined};
 ghost use Rattle.sheet_reader.specs.declared.Given.{Given};
-ghost use Rattle.sheet_parts.specs.Cells.{noCells};
+ghost use Rattle.sheet_parts.specs.Cells.{no_cells};
 
 use fields::{Cursor, Field};
 use sheet::sizes::{LAYOUTS, STEPS, VIEWS};
@@ -17,15 +17,15 @@ use tensor_ranges::{layouts, views};
 
 // Room for where the parts of a sheet stand.
 pub fn no_parts() -> [usize; PARTS]
-    ensures { length result ≡ partPlaces }
+    ensures { length result ≡ part_places }
 {
     [0usize; PARTS]
 }
 
 // Layout number k.
 pub fn layout_in(s: &[u8], parts: &[usize; PARTS], k: usize) -> Layout
-    requires { ((g : Given) × Outlined s.now parts.now g) × (k < (sheetOf s.now).tensors.layouts) }
-    ensures { result ≡ theLayout (sheetOf s.now).tensors.layout k }
+    requires { ((g : Given) × Outlined s.now parts.now g) × (k < (sheet_of s.now).tensors.layouts) }
+    ensures { result ≡ the_layout (sheet_of s.now).tensors.layout k }
 {
     let c = Cursor { at: parts[k] };
     let Field::Whole {
@@ -42,8 +42,8 @@ pub fn layout_in(s: &[u8], parts: &[usize; PARTS], k: usize) -> Layout
 
 // View number k.
 pub fn view_in(s: &[u8], parts: &[usize; PARTS], k: usize) -> View
-    requires { ((g : Given) × Outlined s.now parts.now g) × (k < (sheetOf s.now).tensors.views) }
-    ensures { result ≡ theView (sheetOf s.now).tensors.view k }
+    requires { ((g : Given) × Outlined s.now parts.now g) × (k < (sheet_of s.now).tensors.views) }
+    ensures { result ≡ the_view (sheet_of s.now).tensors.view k }
 {
     let c = Cursor {
         at: parts[FIRST_VIEW + k],
@@ -63,7 +63,7 @@ pub fn view_in(s: &[u8], parts: &[usize; PARTS], k: usize) -> View
 // Step number k.
 pub fn step_in(s: &[u8], parts: &[usize; PARTS], given: Given, k: usize) -> Step
     requires { Outlined s.now parts.now given × (k < given.steps) }
-    ensures { result ≡ theStep (sheetOf s.now).step k }
+    ensures { result ≡ the_step (sheet_of s.now).step k }
 {
     let c = Cursor {
         at: parts[FIRST_STEP + k],
@@ -81,8 +81,8 @@ pub fn step_in(s: &[u8], parts: &[usize; PARTS], given: Given, k: usize) -> Step
 }
 
 fn all_layouts(s: &[u8], parts: &[usize; PARTS], count: usize) -> [Layout; LAYOUTS]
-    requires { ((g : Given) × Outlined s.now parts.now g) × (count ≡ (sheetOf s.now).tensors.layouts) }
-    ensures { result ≡ (sheetOf s.now).tensors.layout }
+    requires { ((g : Given) × Outlined s.now parts.now g) × (count ≡ (sheet_of s.now).tensors.layouts) }
+    ensures { result ≡ (sheet_of s.now).tensors.layout }
 {
     let none = layouts::no_layout();
     let mut all = [none; LAYOUTS];
@@ -95,8 +95,8 @@ fn all_layouts(s: &[u8], parts: &[usize; PARTS], count: usize) -> [Layout; LAYOU
 }
 
 fn all_views(s: &[u8], parts: &[usize; PARTS], count: usize) -> [View; VIEWS]
-    requires { ((g : Given) × Outlined s.now parts.now g) × (count ≡ (sheetOf s.now).tensors.views) }
-    ensures { result ≡ (sheetOf s.now).tensors.view }
+    requires { ((g : Given) × Outlined s.now parts.now g) × (count ≡ (sheet_of s.now).tensors.views) }
+    ensures { result ≡ (sheet_of s.now).tensors.view }
 {
     let none = views::no_view();
     let mut all = [none; VIEWS];
@@ -109,7 +109,7 @@ fn all_views(s: &[u8], parts: &[usize; PARTS], count: usize) -> [View; VIEWS]
 }
 
 fn no_cells() -> [Cell; STEPS]
-    ensures { result ≡ noCells }
+    ensures { result ≡ no_cells }
 {
     let none = steps::no_cell();
     [none; STEPS]
@@ -117,7 +117,7 @@ fn no_cells() -> [Cell; STEPS]
 
 fn all_steps(s: &[u8], parts: &[usize; PARTS], given: Given) -> [Cell; STEPS]
     requires { Outlined s.now parts.now given }
-    ensures { result ≡ (sheetOf s.now).step }
+    ensures { result ≡ (sheet_of s.now).step }
 {
     let mut all = no_cells();
     let mut k = 0;
@@ -131,7 +131,7 @@ fn all_steps(s: &[u8], parts: &[usize; PARTS], given: Given) -> [Cell; STEPS]
 
 // The sheet that the bytes are, or the number and the place of the first refusal with an empty sheet.
 pub fn read_sheet(s: &[u8]) -> ReadAnswer
-    ensures { result ≡ readSheet s.now }
+    ensures { result ≡ read_sheet s.now }
 {
     let mut parts = no_parts();
     let read = sheet_reader::outline_sheet(s, &mut parts);

@@ -1,10 +1,10 @@
 -- What a step must keep to, in a sheet of an edition with so many layouts and views.
 use Rattle.std.specs.Prelude.{ℕ, List, get_or, Bool, true, false, not, ltb, eqb}
 use Rattle.numbers.specs.Choice.{pick, both}
-use Rattle.kinds.specs.Widths.{kindOk, wordKind, fits}
-use Rattle.kinds.specs.Interpretations.{interpretationOk}
-use Rattle.sheet.specs.Sizes.{registerOk}
-use Rattle.sheet.specs.Editions.{hasVectors, objectIsZeros, sideOk}
+use Rattle.kinds.specs.Widths.{kind_ok, word_kind, fits}
+use Rattle.kinds.specs.Interpretations.{interpretation_ok}
+use Rattle.sheet.specs.Sizes.{register_ok}
+use Rattle.sheet.specs.Editions.{has_vectors, object_is_zeros, side_ok}
 use Rattle.sheet.specs.declared.Object.{Object}
 use Rattle.sheet.specs.declared.Object.TheVariants.{Kept, Zeros, Register}
 use Rattle.sheet.specs.declared.Viewing.{Viewing}
@@ -18,83 +18,83 @@ use Rattle.sheet.specs.declared.VectorStep.{VectorStep}
 use Rattle.sheet.specs.declared.Cell.{Cell}
 
 -- the place of a step that is not given
-abbrev pub noCell : Cell
-noCell = record { step = Nothing }
+abbrev pub no_cell : Cell
+no_cell = record { step = Nothing }
 
-abbrev pub theStep : List Cell → ℕ → Step
-theStep cs k = (get_or cs k noCell).step
+abbrev pub the_step : List Cell → ℕ → Step
+the_step cs k = (get_or cs k no_cell).step
 
 -- rows, columns, kind and value
-unfoldable pub fillOk : ℕ → ℕ → ℕ → ℕ → ℕ → ℕ → Bool
-fillOk edition register rows columns kind value =
-    both (registerOk register)
-    (both (sideOk edition rows)
-    (both (sideOk edition columns)
-    (both (kindOk kind)
+unfoldable pub fill_ok : ℕ → ℕ → ℕ → ℕ → ℕ → ℕ → Bool
+fill_ok edition register rows columns kind value =
+    both (register_ok register)
+    (both (side_ok edition rows)
+    (both (side_ok edition columns)
+    (both (kind_ok kind)
     (fits kind value))))
 
 -- a register, or what no object means in the edition
-abbrev pub objectOk : ℕ → Object → Bool
-objectOk edition Kept = not (objectIsZeros edition)
-objectOk edition Zeros = objectIsZeros edition
-objectOk edition (Register register) = registerOk register
+abbrev pub object_ok : ℕ → Object → Bool
+object_ok edition Kept = not (object_is_zeros edition)
+object_ok edition Zeros = object_is_zeros edition
+object_ok edition (Register register) = register_ok register
 
-abbrev pub viewingOk : ℕ → Viewing → Bool
-viewingOk views Plain = true
-viewingOk views (Through view) = ltb view views
+abbrev pub viewing_ok : ℕ → Viewing → Bool
+viewing_ok views Plain = true
+viewing_ok views (Through view) = ltb view views
 
 -- a layout and a view that are given; any base of 32 bits is within Sizes
-unfoldable pub windowOk : ℕ → ℕ → Window → Bool
-windowOk layouts views w = both (ltb w.layout layouts) (viewingOk views w.view)
+unfoldable pub window_ok : ℕ → ℕ → Window → Bool
+window_ok layouts views w = both (ltb w.layout layouts) (viewing_ok views w.view)
 
-unfoldable pub loadOk : ℕ → ℕ → ℕ → ℕ → Object → Window → Bool
-loadOk edition layouts views register object window =
-    both (registerOk register) (both (objectOk edition object) (windowOk layouts views window))
+unfoldable pub load_ok : ℕ → ℕ → ℕ → ℕ → Object → Window → Bool
+load_ok edition layouts views register object window =
+    both (register_ok register) (both (object_ok edition object) (window_ok layouts views window))
 
-unfoldable pub storeOk : ℕ → ℕ → ℕ → Window → Bool
-storeOk layouts views register window = both (registerOk register) (windowOk layouts views window)
+unfoldable pub store_ok : ℕ → ℕ → ℕ → Window → Bool
+store_ok layouts views register window = both (register_ok register) (window_ok layouts views window)
 
-unfoldable pub reduceOk : ℕ → ℕ → ℕ → ℕ → ℕ → Bool
-reduceOk edition result source rows columns =
-    both (registerOk result) (both (registerOk source) (both (sideOk edition rows) (sideOk edition columns)))
+unfoldable pub reduce_ok : ℕ → ℕ → ℕ → ℕ → ℕ → Bool
+reduce_ok edition result source rows columns =
+    both (register_ok result) (both (register_ok source) (both (side_ok edition rows) (side_ok edition columns)))
 
-unfoldable pub transposeOk : ℕ → ℕ → Bool
-transposeOk result source = both (registerOk result) (registerOk source)
+unfoldable pub transpose_ok : ℕ → ℕ → Bool
+transpose_ok result source = both (register_ok result) (register_ok source)
 
-unfoldable pub multiplyOk : ℕ → ℕ → ℕ → ℕ → Bool
-multiplyOk result a b c = both (registerOk result) (both (registerOk a) (both (registerOk b) (registerOk c)))
+unfoldable pub multiply_ok : ℕ → ℕ → ℕ → ℕ → Bool
+multiply_ok result a b c = both (register_ok result) (both (register_ok a) (both (register_ok b) (register_ok c)))
 
 -- without a bias there is no bias offset
-unfoldable pub biasOk : VectorStep → Bool
-biasOk v = pick v.biased true (eqb v.bias 0)
+unfoldable pub bias_ok : VectorStep → Bool
+bias_ok v = pick v.biased true (eqb v.bias 0)
 
-unfoldable pub vectorOk : ℕ → VectorStep → Bool
-vectorOk edition v =
-    both (hasVectors edition)
-    (both (registerOk v.result)
-    (both (wordKind v.kind)
-    (both (registerOk v.input)
-    (both (interpretationOk v.interpretation)
-    (both (kindOk v.matrix)
-    (both (sideOk edition v.rows)
-    (both (sideOk edition v.columns)
-    (biasOk v))))))))
+unfoldable pub vector_ok : ℕ → VectorStep → Bool
+vector_ok edition v =
+    both (has_vectors edition)
+    (both (register_ok v.result)
+    (both (word_kind v.kind)
+    (both (register_ok v.input)
+    (both (interpretation_ok v.interpretation)
+    (both (kind_ok v.matrix)
+    (both (side_ok edition v.rows)
+    (both (side_ok edition v.columns)
+    (bias_ok v))))))))
 
-abbrev pub wholeOk : ℕ → WholeStep → Bool
-wholeOk edition (Fill register rows columns kind value) = fillOk edition register rows columns kind value
-wholeOk edition (Reduce result source rows columns mode combine) = reduceOk edition result source rows columns
-wholeOk edition (Transpose result source) = transposeOk result source
-wholeOk edition (MultiplyAdd result a b c) = multiplyOk result a b c
-wholeOk edition (Vector v) = vectorOk edition v
+abbrev pub whole_ok : ℕ → WholeStep → Bool
+whole_ok edition (Fill register rows columns kind value) = fill_ok edition register rows columns kind value
+whole_ok edition (Reduce result source rows columns mode combine) = reduce_ok edition result source rows columns
+whole_ok edition (Transpose result source) = transpose_ok result source
+whole_ok edition (MultiplyAdd result a b c) = multiply_ok result a b c
+whole_ok edition (Vector v) = vector_ok edition v
 
-abbrev pub stepOk : ℕ → ℕ → ℕ → Step → Bool
-stepOk edition layouts views Nothing = false
-stepOk edition layouts views (Load register object window) = loadOk edition layouts views register object window
-stepOk edition layouts views (Store register window) = storeOk layouts views register window
-stepOk edition layouts views (Whole whole) = wholeOk edition whole
+abbrev pub step_ok : ℕ → ℕ → ℕ → Step → Bool
+step_ok edition layouts views Nothing = false
+step_ok edition layouts views (Load register object window) = load_ok edition layouts views register object window
+step_ok edition layouts views (Store register window) = store_ok layouts views register window
+step_ok edition layouts views (Whole whole) = whole_ok edition whole
 
-abbrev pub stepUnused : Step → Bool
-stepUnused Nothing = true
-stepUnused (Load register object window) = false
-stepUnused (Store register window) = false
-stepUnused (Whole whole) = false
+abbrev pub step_unused : Step → Bool
+step_unused Nothing = true
+step_unused (Load register object window) = false
+step_unused (Store register window) = false
+step_unused (Whole whole) = false

@@ -1,8 +1,8 @@
 // Sheets: the empty one, and what a whole sheet must keep to.
 ghost use Rattle.std.specs.Prelude.{◌≡◌, ◌≤◌, ◌<◌};
 ghost use Rattle.numbers.specs.All.{all};
-ghost use Rattle.sheet.specs.Sizes.{layoutPlaces, viewPlaces, stepPlaces};
-ghost use Rattle.sheet_ranges.specs.Sheets.{noTensors, emptySheet, layoutAtOk, viewAtOk, stepAtOk, tensorsOk, stepsOk, writable};
+ghost use Rattle.sheet.specs.Sizes.{layout_places, view_places, step_places};
+ghost use Rattle.sheet_ranges.specs.Sheets.{no_tensors, empty_sheet, layout_at_ok, view_at_ok, step_at_ok, tensors_ok, steps_ok, writable};
 
 use super::steps;
 use sheet::sizes::{LAYOUTS, STEPS, VIEWS};
@@ -10,7 +10,7 @@ use sheet::{Cell, Layout, Sheet, Tensors, View, editions};
 use tensor_ranges::{layouts, views};
 
 pub fn no_tensors() -> Tensors
-    ensures { result ≡ noTensors }
+    ensures { result ≡ no_tensors }
 {
     let l = layouts::no_layout();
     let v = views::no_view();
@@ -23,7 +23,7 @@ pub fn no_tensors() -> Tensors
 }
 
 pub fn empty_sheet() -> Sheet
-    ensures { result ≡ emptySheet }
+    ensures { result ≡ empty_sheet }
 {
     let tensors = no_tensors();
     let c = steps::no_cell();
@@ -36,8 +36,8 @@ pub fn empty_sheet() -> Sheet
 }
 
 fn layout_at_ok(count: usize, ls: [Layout; LAYOUTS], k: usize) -> bool
-    requires { k < layoutPlaces }
-    ensures { result ≡ layoutAtOk count ls k }
+    requires { k < layout_places }
+    ensures { result ≡ layout_at_ok count ls k }
 {
     let l = ls[k];
     if k < count {
@@ -48,7 +48,7 @@ fn layout_at_ok(count: usize, ls: [Layout; LAYOUTS], k: usize) -> bool
 }
 
 fn layouts_ok(count: usize, ls: [Layout; LAYOUTS]) -> bool
-    ensures { result ≡ all layoutPlaces (layoutAtOk count ls) }
+    ensures { result ≡ all layout_places (layout_at_ok count ls) }
 {
     let mut k = 0;
     while k < LAYOUTS {
@@ -61,8 +61,8 @@ fn layouts_ok(count: usize, ls: [Layout; LAYOUTS]) -> bool
 }
 
 fn view_at_ok(count: usize, vs: [View; VIEWS], k: usize) -> bool
-    requires { k < viewPlaces }
-    ensures { result ≡ viewAtOk count vs k }
+    requires { k < view_places }
+    ensures { result ≡ view_at_ok count vs k }
 {
     let v = vs[k];
     if k < count {
@@ -73,7 +73,7 @@ fn view_at_ok(count: usize, vs: [View; VIEWS], k: usize) -> bool
 }
 
 fn views_ok(count: usize, vs: [View; VIEWS]) -> bool
-    ensures { result ≡ all viewPlaces (viewAtOk count vs) }
+    ensures { result ≡ all view_places (view_at_ok count vs) }
 {
     let mut k = 0;
     while k < VIEWS {
@@ -86,7 +86,7 @@ fn views_ok(count: usize, vs: [View; VIEWS]) -> bool
 }
 
 fn tensors_ok(t: Tensors) -> bool
-    ensures { result ≡ tensorsOk t }
+    ensures { result ≡ tensors_ok t }
 {
     if LAYOUTS < t.layouts {
         return false;
@@ -110,8 +110,8 @@ fn step_at_ok(
     cs: [Cell; STEPS],
     k: usize,
 ) -> bool
-    requires { k < stepPlaces }
-    ensures { result ≡ stepAtOk edition layouts views count cs k }
+    requires { k < step_places }
+    ensures { result ≡ step_at_ok edition layouts views count cs k }
 {
     let c = cs[k];
     let s = c.step;
@@ -123,7 +123,7 @@ fn step_at_ok(
 }
 
 fn cells_ok(edition: u8, layouts: usize, views: usize, count: usize, cs: [Cell; STEPS]) -> bool
-    ensures { result ≡ all stepPlaces (stepAtOk edition layouts views count cs) }
+    ensures { result ≡ all step_places (step_at_ok edition layouts views count cs) }
 {
     let mut k = 0;
     while k < STEPS {
@@ -136,7 +136,7 @@ fn cells_ok(edition: u8, layouts: usize, views: usize, count: usize, cs: [Cell; 
 }
 
 fn steps_ok(edition: u8, layouts: usize, views: usize, count: usize, cs: [Cell; STEPS]) -> bool
-    ensures { result ≡ stepsOk edition layouts views count cs }
+    ensures { result ≡ steps_ok edition layouts views count cs }
 {
     let most = editions::limits(edition);
     if most.steps < count {

@@ -1,11 +1,11 @@
 // Steps: what a step must keep to, in a sheet of an edition with so many layouts and views.
 ghost use Rattle.std.specs.Prelude.{◌≡◌, ◌≤◌, ◌<◌};
-ghost use Rattle.sheet_ranges.specs.Steps.{noCell, fillOk, objectOk, viewingOk, windowOk, loadOk, storeOk, reduceOk, transposeOk, multiplyOk, biasOk, vectorOk, wholeOk, stepOk, stepUnused};
+ghost use Rattle.sheet_ranges.specs.Steps.{no_cell, fill_ok, object_ok, viewing_ok, window_ok, load_ok, store_ok, reduce_ok, transpose_ok, multiply_ok, bias_ok, vector_ok, whole_ok, step_ok, step_unused};
 
 use sheet::{Cell, Object, Step, VectorStep, Viewing, WholeStep, Window, editions, sizes};
 
 pub fn no_cell() -> Cell
-    ensures { result ≡ noCell }
+    ensures { result ≡ no_cell }
 {
     Cell {
         step: Step::Nothing,
@@ -13,7 +13,7 @@ pub fn no_cell() -> Cell
 }
 
 pub fn fill_ok(edition: u8, register: u8, rows: u8, columns: u8, kind: u8, value: u32) -> bool
-    ensures { result ≡ fillOk edition register rows columns kind value }
+    ensures { result ≡ fill_ok edition register rows columns kind value }
 {
     if !sizes::register_ok(register) {
         return false;
@@ -32,7 +32,7 @@ pub fn fill_ok(edition: u8, register: u8, rows: u8, columns: u8, kind: u8, value
 
 // A register, or what no object means in the edition.
 fn object_ok(edition: u8, object: Object) -> bool
-    ensures { result ≡ objectOk edition object }
+    ensures { result ≡ object_ok edition object }
 {
     match object {
         Object::Kept => !editions::object_is_zeros(edition),
@@ -42,7 +42,7 @@ fn object_ok(edition: u8, object: Object) -> bool
 }
 
 fn viewing_ok(views: usize, view: Viewing) -> bool
-    ensures { result ≡ viewingOk views view }
+    ensures { result ≡ viewing_ok views view }
 {
     match view {
         Viewing::Plain => true,
@@ -52,7 +52,7 @@ fn viewing_ok(views: usize, view: Viewing) -> bool
 
 // Any base of 32 bits is within Sizes.
 fn window_ok(layouts: usize, views: usize, window: Window) -> bool
-    ensures { result ≡ windowOk layouts views window }
+    ensures { result ≡ window_ok layouts views window }
 {
     if layouts <= window.layout as usize {
         return false;
@@ -69,7 +69,7 @@ pub fn load_ok(
     object: Object,
     window: Window,
 ) -> bool
-    ensures { result ≡ loadOk edition layouts views register object window }
+    ensures { result ≡ load_ok edition layouts views register object window }
 {
     if !sizes::register_ok(register) {
         return false;
@@ -81,7 +81,7 @@ pub fn load_ok(
 }
 
 pub fn store_ok(layouts: usize, views: usize, register: u8, window: Window) -> bool
-    ensures { result ≡ storeOk layouts views register window }
+    ensures { result ≡ store_ok layouts views register window }
 {
     if !sizes::register_ok(register) {
         return false;
@@ -90,7 +90,7 @@ pub fn store_ok(layouts: usize, views: usize, register: u8, window: Window) -> b
 }
 
 pub fn reduce_ok(edition: u8, res: u8, source: u8, rows: u8, columns: u8) -> bool
-    ensures { result ≡ reduceOk edition res source rows columns }
+    ensures { result ≡ reduce_ok edition res source rows columns }
 {
     if !sizes::register_ok(res) {
         return false;
@@ -105,7 +105,7 @@ pub fn reduce_ok(edition: u8, res: u8, source: u8, rows: u8, columns: u8) -> boo
 }
 
 pub fn transpose_ok(res: u8, source: u8) -> bool
-    ensures { result ≡ transposeOk res source }
+    ensures { result ≡ transpose_ok res source }
 {
     if !sizes::register_ok(res) {
         return false;
@@ -114,7 +114,7 @@ pub fn transpose_ok(res: u8, source: u8) -> bool
 }
 
 pub fn multiply_ok(res: u8, a: u8, b: u8, c: u8) -> bool
-    ensures { result ≡ multiplyOk res a b c }
+    ensures { result ≡ multiply_ok res a b c }
 {
     if !sizes::register_ok(res) {
         return false;
@@ -130,7 +130,7 @@ pub fn multiply_ok(res: u8, a: u8, b: u8, c: u8) -> bool
 
 // Without a bias there is no bias offset.
 fn bias_ok(v: VectorStep) -> bool
-    ensures { result ≡ biasOk v }
+    ensures { result ≡ bias_ok v }
 {
     if v.biased {
         return true;
@@ -139,7 +139,7 @@ fn bias_ok(v: VectorStep) -> bool
 }
 
 pub fn vector_ok(edition: u8, v: VectorStep) -> bool
-    ensures { result ≡ vectorOk edition v }
+    ensures { result ≡ vector_ok edition v }
 {
     if !editions::has_vectors(edition) {
         return false;
@@ -169,7 +169,7 @@ pub fn vector_ok(edition: u8, v: VectorStep) -> bool
 }
 
 fn whole_ok(edition: u8, step: WholeStep) -> bool
-    ensures { result ≡ wholeOk edition step }
+    ensures { result ≡ whole_ok edition step }
 {
     match step {
         WholeStep::Fill {
@@ -194,7 +194,7 @@ fn whole_ok(edition: u8, step: WholeStep) -> bool
 }
 
 pub fn step_ok(edition: u8, layouts: usize, views: usize, step: Step) -> bool
-    ensures { result ≡ stepOk edition layouts views step }
+    ensures { result ≡ step_ok edition layouts views step }
 {
     match step {
         Step::Nothing => false,
@@ -209,7 +209,7 @@ pub fn step_ok(edition: u8, layouts: usize, views: usize, step: Step) -> bool
 }
 
 pub fn step_unused(step: Step) -> bool
-    ensures { result ≡ stepUnused step }
+    ensures { result ≡ step_unused step }
 {
     match step {
         Step::Nothing => true,

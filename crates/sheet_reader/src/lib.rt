@@ -1,8 +1,8 @@
 // Reads a sheet: fields of a tag, a length and content. A sheet is not copied out of its bytes: reading finds where its parts stand.
 ghost use Rattle.std.specs.Prelude.{◌≡◌, ◌+◌, ◌≤◌, length, get_or, set};
-ghost use Rattle.sheet_ranges.specs.Sheets.{emptySheet};
-ghost use Rattle.sheet_reader.specs.Reading.{given_of, layoutMayCome, viewMayCome, stepMayCome, editionRefusal, layoutRefusal, viewRefusal, stepRefusal, fieldRefusal, refusedRead, readSheet};
-ghost use Rattle.sheet_reader.specs.Parts.{partPlaces, firstView, firstStep, givenEdition, givenLayout, givenView, givenStep, moreGiven, moreParts, outlineOf, Outlined};
+ghost use Rattle.sheet_ranges.specs.Sheets.{empty_sheet};
+ghost use Rattle.sheet_reader.specs.Reading.{given_of, layout_may_come, view_may_come, step_may_come, edition_refusal, layout_refusal, view_refusal, step_refusal, field_refusal, refused_read, read_sheet};
+ghost use Rattle.sheet_reader.specs.Parts.{part_places, first_view, first_step, given_edition, given_layout, given_view, given_step, more_given, more_parts, outline_of, Outlined};
 
 use fields::{Cursor, Field};
 use refusals::{
@@ -51,7 +51,7 @@ pub struct FieldRead {
 
 // Refusal 3: a layout after the edition and before any view or step, and not too many.
 fn layout_may_come(given: Given) -> bool
-    ensures { result ≡ layoutMayCome given }
+    ensures { result ≡ layout_may_come given }
 {
     if given.edition < 1 {
         return false;
@@ -66,7 +66,7 @@ fn layout_may_come(given: Given) -> bool
 }
 
 fn view_may_come(given: Given) -> bool
-    ensures { result ≡ viewMayCome given }
+    ensures { result ≡ view_may_come given }
 {
     if given.edition < 1 {
         return false;
@@ -78,7 +78,7 @@ fn view_may_come(given: Given) -> bool
 }
 
 fn step_may_come(given: Given) -> bool
-    ensures { result ≡ stepMayCome given }
+    ensures { result ≡ step_may_come given }
 {
     if given.edition < 1 {
         return false;
@@ -89,7 +89,7 @@ fn step_may_come(given: Given) -> bool
 
 fn edition_refusal(s: &[u8], start: usize, len: usize, given: Given) -> u8
     requires { start + len ≤ length s.now }
-    ensures { result ≡ editionRefusal s.now start len given }
+    ensures { result ≡ edition_refusal s.now start len given }
 {
     if 0 < given.edition {
         return OUT_OF_ORDER;
@@ -105,7 +105,7 @@ fn edition_refusal(s: &[u8], start: usize, len: usize, given: Given) -> u8
 
 fn layout_refusal(s: &[u8], start: usize, len: usize, given: Given) -> u8
     requires { start + len ≤ length s.now }
-    ensures { result ≡ layoutRefusal s.now start len given }
+    ensures { result ≡ layout_refusal s.now start len given }
 {
     if !layout_may_come(given) {
         return OUT_OF_ORDER;
@@ -125,7 +125,7 @@ fn layout_refusal(s: &[u8], start: usize, len: usize, given: Given) -> u8
 
 fn view_refusal(s: &[u8], start: usize, len: usize, given: Given) -> u8
     requires { start + len ≤ length s.now }
-    ensures { result ≡ viewRefusal s.now start len given }
+    ensures { result ≡ view_refusal s.now start len given }
 {
     if !view_may_come(given) {
         return OUT_OF_ORDER;
@@ -145,7 +145,7 @@ fn view_refusal(s: &[u8], start: usize, len: usize, given: Given) -> u8
 
 fn step_refusal(s: &[u8], tag: u8, start: usize, len: usize, given: Given) -> u8
     requires { start + len ≤ length s.now }
-    ensures { result ≡ stepRefusal s.now tag start len given }
+    ensures { result ≡ step_refusal s.now tag start len given }
 {
     let edition = given.edition;
     if !editions::tag_known(edition, tag) {
@@ -166,8 +166,8 @@ fn step_refusal(s: &[u8], tag: u8, start: usize, len: usize, given: Given) -> u8
 
 fn read_edition(s: &[u8], start: usize, len: usize, given: Given) -> FieldRead
     requires { start + len ≤ length s.now }
-    ensures number_value { result.number ≡ editionRefusal s.now start len given }
-    ensures given_value { result.number ≡ 0 → result.given ≡ givenEdition (get_or s.now start 0) given }
+    ensures number_value { result.number ≡ edition_refusal s.now start len given }
+    ensures given_value { result.number ≡ 0 → result.given ≡ given_edition (get_or s.now start 0) given }
 {
     let number = edition_refusal(s, start, len, given);
     if 0 < number {
@@ -193,8 +193,8 @@ fn read_layout(
     given: Given,
 ) -> FieldRead
     requires { start + len ≤ length s.now }
-    ensures number_value { result.number ≡ layoutRefusal s.now start len given }
-    ensures given_value { result.number ≡ 0 → (result.given ≡ givenLayout given) × (parts.new ≡ set parts.old given.layouts at) }
+    ensures number_value { result.number ≡ layout_refusal s.now start len given }
+    ensures given_value { result.number ≡ 0 → (result.given ≡ given_layout given) × (parts.new ≡ set parts.old given.layouts at) }
 {
     let number = layout_refusal(s, start, len, given);
     if 0 < number {
@@ -222,8 +222,8 @@ fn read_view(
     given: Given,
 ) -> FieldRead
     requires { start + len ≤ length s.now }
-    ensures number_value { result.number ≡ viewRefusal s.now start len given }
-    ensures given_value { result.number ≡ 0 → (result.given ≡ givenView given) × (parts.new ≡ set parts.old (firstView + given.views) at) }
+    ensures number_value { result.number ≡ view_refusal s.now start len given }
+    ensures given_value { result.number ≡ 0 → (result.given ≡ given_view given) × (parts.new ≡ set parts.old (first_view + given.views) at) }
 {
     let number = view_refusal(s, start, len, given);
     if 0 < number {
@@ -252,8 +252,8 @@ fn read_step(
     given: Given,
 ) -> FieldRead
     requires { start + len ≤ length s.now }
-    ensures number_value { result.number ≡ stepRefusal s.now tag start len given }
-    ensures given_value { result.number ≡ 0 → (result.given ≡ givenStep given) × (parts.new ≡ set parts.old (firstStep + given.steps) at) }
+    ensures number_value { result.number ≡ step_refusal s.now tag start len given }
+    ensures given_value { result.number ≡ 0 → (result.given ≡ given_step given) × (parts.new ≡ set parts.old (first_step + given.steps) at) }
 {
     let number = step_refusal(s, tag, start, len, given);
     if 0 < number {
@@ -283,8 +283,8 @@ fn read_field(
     given: Given,
 ) -> FieldRead
     requires { start + len ≤ length s.now }
-    ensures number_value { result.number ≡ fieldRefusal s.now tag start len given }
-    ensures given_value { result.number ≡ 0 → (result.given ≡ moreGiven s.now tag start given) × (parts.new ≡ moreParts tag at given parts.old) }
+    ensures number_value { result.number ≡ field_refusal s.now tag start len given }
+    ensures given_value { result.number ≡ 0 → (result.given ≡ more_given s.now tag start given) × (parts.new ≡ more_parts tag at given parts.old) }
 {
     match tag {
         codes::EDITION_TAG => read_edition(s, start, len, given),
@@ -301,7 +301,7 @@ fn read_field(
 }
 
 pub fn nothing_given() -> Given
-    ensures { result ≡ given_of emptySheet }
+    ensures { result ≡ given_of empty_sheet }
 {
     Given {
         edition: 0,
@@ -312,7 +312,7 @@ pub fn nothing_given() -> Given
 }
 
 fn refuse(number: u8, place: usize) -> Outline
-    ensures { result ≡ outlineOf (refusedRead number place) }
+    ensures { result ≡ outline_of (refused_read number place) }
 {
     Outline {
         refusal: refusals::refusal_at(number, place, 0),
@@ -323,8 +323,8 @@ fn refuse(number: u8, place: usize) -> Outline
 // Reads the sheet that the bytes are, or gives the number and the place of the first refusal. The lent places are told where its parts
 // stand, so that nothing of the sheet's size is copied: a pass takes each part from the bytes when it comes to it.
 pub fn outline_sheet(s: &[u8], parts: &mut [usize; PARTS]) -> Outline
-    requires { length parts.old ≡ partPlaces }
-    ensures value { result ≡ outlineOf (readSheet s.now) }
+    requires { length parts.old ≡ part_places }
+    ensures value { result ≡ outline_of (read_sheet s.now) }
     ensures outlined { result.refusal.number ≡ 0 → Outlined s.now parts.new result.given }
 {
     let mut c = Cursor { at: 0 };

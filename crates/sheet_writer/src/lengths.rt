@@ -1,8 +1,8 @@
 // How many bytes the parts of a sheet take.
 ghost use Rattle.std.specs.Prelude.{◌≡◌, true, ◌*◌, ◌≤◌, length};
-ghost use Rattle.sheet.specs.Sizes.{layoutPlaces, viewPlaces, stepPlaces};
+ghost use Rattle.sheet.specs.Sizes.{layout_places, view_places, step_places};
 ghost use Rattle.sheet_ranges.specs.Sheets.{writable};
-ghost use Rattle.sheet_writer.specs.Bytes.{layoutsBytes, viewsBytes, stepsBytes, sheetBytes};
+ghost use Rattle.sheet_writer.specs.Bytes.{layouts_bytes, views_bytes, steps_bytes, sheet_bytes};
 
 use fields::writing;
 use sheet::sizes::{LAYOUTS, STEPS, VIEWS};
@@ -11,8 +11,8 @@ use sheet_bytes::edition::EDITION_LEN;
 use sheet_bytes::{layouts, views};
 
 fn layouts_len(count: usize, ls: [Layout; LAYOUTS]) -> usize
-    requires { count ≤ layoutPlaces }
-    ensures { (result ≡ length (layoutsBytes count ls)) × (result ≤ count * 65538) }
+    requires { count ≤ layout_places }
+    ensures { (result ≡ length (layouts_bytes count ls)) × (result ≤ count * 65538) }
 {
     let mut total = 0;
     let mut k = 0;
@@ -25,8 +25,8 @@ fn layouts_len(count: usize, ls: [Layout; LAYOUTS]) -> usize
 }
 
 fn views_len(count: usize, vs: [View; VIEWS]) -> usize
-    requires { count ≤ viewPlaces }
-    ensures { (result ≡ length (viewsBytes count vs)) × (result ≤ count * 65538) }
+    requires { count ≤ view_places }
+    ensures { (result ≡ length (views_bytes count vs)) × (result ≤ count * 65538) }
 {
     let mut total = 0;
     let mut k = 0;
@@ -39,8 +39,8 @@ fn views_len(count: usize, vs: [View; VIEWS]) -> usize
 }
 
 fn steps_len(edition: u8, count: usize, cs: [Cell; STEPS]) -> usize
-    requires { count ≤ stepPlaces }
-    ensures { (result ≡ length (stepsBytes edition count cs)) × (result ≤ count * 65538) }
+    requires { count ≤ step_places }
+    ensures { (result ≡ length (steps_bytes edition count cs)) × (result ≤ count * 65538) }
 {
     let mut total = 0;
     let mut k = 0;
@@ -55,7 +55,7 @@ fn steps_len(edition: u8, count: usize, cs: [Cell; STEPS]) -> usize
 
 pub fn sheet_len(model: Sheet) -> usize
     requires { writable model ≡ true }
-    ensures { result ≡ length (sheetBytes model) }
+    ensures { result ≡ length (sheet_bytes model) }
 {
     let t = model.tensors;
     let ls = t.layout;

@@ -1,11 +1,11 @@
 // Writes a sheet: the bytes that read as it.
 ghost use Rattle.std.specs.Prelude.{◌≡◌, true, ◌+◌, ◌≤◌, length};
 ghost use Rattle.std.proofs.lemmas.List.Edits.{sets};
-ghost use Rattle.sheet.specs.Sizes.{layoutPlaces, viewPlaces, stepPlaces};
+ghost use Rattle.sheet.specs.Sizes.{layout_places, view_places, step_places};
 ghost use Rattle.sheet_ranges.specs.Sheets.{writable};
 ghost use Rattle.sheet_ranges.specs.Laws.Within.{LayoutsHeld, ViewsHeld};
-ghost use Rattle.sheet_writer.specs.Bytes.{layoutsBytes, viewsBytes, stepsBytes, sheetBytes};
-ghost use Rattle.sheet_writer.specs.Writing.{writeAnswer, written, writtenRoom};
+ghost use Rattle.sheet_writer.specs.Bytes.{layouts_bytes, views_bytes, steps_bytes, sheet_bytes};
+ghost use Rattle.sheet_writer.specs.Writing.{write_answer, written, written_room};
 
 use refusals::Refusal;
 use sheet::sizes::{LAYOUTS, STEPS, VIEWS};
@@ -23,7 +23,7 @@ pub struct WriteAnswer {
 }
 
 fn answer(number: u8, bytes: usize) -> WriteAnswer
-    ensures { result ≡ writeAnswer number bytes }
+    ensures { result ≡ write_answer number bytes }
 {
     let refusal = refusals::refusal_at(number, 0, 0);
     WriteAnswer { refusal, bytes }
@@ -31,8 +31,8 @@ fn answer(number: u8, bytes: usize) -> WriteAnswer
 
 // Returns the place after the last field, as do the next two.
 fn put_layouts(out: &mut [u8], at: usize, count: usize, ls: [Layout; LAYOUTS]) -> usize
-    requires { (count ≤ layoutPlaces) × LayoutsHeld count ls × (at + length (layoutsBytes count ls) ≤ length out.old) }
-    ensures { (result ≡ at + length (layoutsBytes count ls)) × (out.new ≡ sets out.old at (layoutsBytes count ls)) }
+    requires { (count ≤ layout_places) × LayoutsHeld count ls × (at + length (layouts_bytes count ls) ≤ length out.old) }
+    ensures { (result ≡ at + length (layouts_bytes count ls)) × (out.new ≡ sets out.old at (layouts_bytes count ls)) }
 {
     let mut p = at;
     let mut k = 0;
@@ -45,8 +45,8 @@ fn put_layouts(out: &mut [u8], at: usize, count: usize, ls: [Layout; LAYOUTS]) -
 }
 
 fn put_views(out: &mut [u8], at: usize, count: usize, vs: [View; VIEWS]) -> usize
-    requires { (count ≤ viewPlaces) × ViewsHeld count vs × (at + length (viewsBytes count vs) ≤ length out.old) }
-    ensures { (result ≡ at + length (viewsBytes count vs)) × (out.new ≡ sets out.old at (viewsBytes count vs)) }
+    requires { (count ≤ view_places) × ViewsHeld count vs × (at + length (views_bytes count vs) ≤ length out.old) }
+    ensures { (result ≡ at + length (views_bytes count vs)) × (out.new ≡ sets out.old at (views_bytes count vs)) }
 {
     let mut p = at;
     let mut k = 0;
@@ -59,8 +59,8 @@ fn put_views(out: &mut [u8], at: usize, count: usize, vs: [View; VIEWS]) -> usiz
 }
 
 fn put_steps(out: &mut [u8], at: usize, edition: u8, count: usize, cs: [Cell; STEPS]) -> usize
-    requires { (count ≤ stepPlaces) × (at + length (stepsBytes edition count cs) ≤ length out.old) }
-    ensures { (result ≡ at + length (stepsBytes edition count cs)) × (out.new ≡ sets out.old at (stepsBytes edition count cs)) }
+    requires { (count ≤ step_places) × (at + length (steps_bytes edition count cs) ≤ length out.old) }
+    ensures { (result ≡ at + length (steps_bytes edition count cs)) × (out.new ≡ sets out.old at (steps_bytes edition count cs)) }
 {
     let mut p = at;
     let mut k = 0;
@@ -75,8 +75,8 @@ fn put_steps(out: &mut [u8], at: usize, edition: u8, count: usize, cs: [Cell; ST
 
 // Returns how many bytes it wrote.
 fn put_sheet(out: &mut [u8], model: Sheet) -> usize
-    requires { (writable model ≡ true) × (length (sheetBytes model) ≤ length out.old) }
-    ensures { (result ≡ length (sheetBytes model)) × (out.new ≡ sets out.old 0 (sheetBytes model)) }
+    requires { (writable model ≡ true) × (length (sheet_bytes model) ≤ length out.old) }
+    ensures { (result ≡ length (sheet_bytes model)) × (out.new ≡ sets out.old 0 (sheet_bytes model)) }
 {
     let t = model.tensors;
     let ls = t.layout;
@@ -89,7 +89,7 @@ fn put_sheet(out: &mut [u8], model: Sheet) -> usize
 }
 
 pub fn write_sheet(model: Sheet, out: &mut [u8]) -> WriteAnswer
-    ensures { (result ≡ written model (length out.old)) × (out.new ≡ writtenRoom model out.old) }
+    ensures { (result ≡ written model (length out.old)) × (out.new ≡ written_room model out.old) }
 {
     if !sheets::writable(model) {
         return answer(refusals::BEYOND_SIZES, 0);

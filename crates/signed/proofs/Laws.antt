@@ -16,8 +16,8 @@ use Rattle.signed.specs.Laws.Numbers.{minus}
 pub back : (x : ℤ) → mag x < 2 ^ 31 → to_z w32 (of_z w32 x) ≡ x
 back x h = to_z-of_z (record { sfits = h })
 
-pub minus-below : (k a b : ℕ) → a < k → b < k → mag (pos a -ℤ pos b) < k
-minus-below k a b p q = rw (minus a b) (by (ltb a b) refl)
+pub minus_below : (k a b : ℕ) → a < k → b < k → mag (pos a -ℤ pos b) < k
+minus_below k a b p q = rw (minus a b) (by (ltb a b) refl)
   where
     by : (t : Bool) → ltb a b ≡ t → mag (cond t (negsuc (b - suc a)) (pos (a - b))) < k
     by true e = omega (arith, ltb-true a b e)

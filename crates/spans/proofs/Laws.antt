@@ -8,74 +8,74 @@ use lib.Dec.{ltb}
 use lib.ListN.{length, set, replicate, length-set}
 use borrow.Author.Tests.{lt-ltb, le-ltb, ltb-true, ltb-false}
 use Rattle.numbers.specs.Choice.{pick, both}
-use Rattle.numbers.specs.Laws.Choice.{by-test, both_true}
-use Rattle.sheet.specs.Sizes.{rankPlaces}
+use Rattle.numbers.specs.Laws.Choice.{by_test, both_true}
+use Rattle.sheet.specs.Sizes.{rank_places}
 use Rattle.sheet.specs.declared.Layout.{Layout}
 use Rattle.view_indices.specs.Indices.{span_of}
 use Rattle.spans.specs.declared.Split.{Split}
 use Rattle.spans.specs.declared.Divided.{Divided}
-use Rattle.spans.specs.Spans.{divides, undivided, splitBy, withSplit, dividedFrom, divided}
-use Rattle.spans.specs.Laws.Splits.{split-most}
+use Rattle.spans.specs.Spans.{divides, undivided, split_by, with_split, divided_from, divided}
+use Rattle.spans.specs.Laws.Splits.{split_most}
 
 module _ (span index : ℕ) where
-  divided-there : 1 < span → 0 < index → splitBy span index ≡ record { rest = index % span; quotient = index / span; divisions = 1 }
-  unfolding splitBy divides pick
-  divided-there s i = rw (both_true (ltb 1 span) (ltb 0 index) (lt-ltb 1 span s) (lt-ltb 0 index i))
+  divided_there : 1 < span → 0 < index → split_by span index ≡ record { rest = index % span; quotient = index / span; divisions = 1 }
+  unfolding split_by divides pick
+  divided_there s i = rw (both_true (ltb 1 span) (ltb 0 index) (lt-ltb 1 span s) (lt-ltb 0 index i))
 
-  pub split_one : span ≤ 1 → splitBy span index ≡ undivided index
-  unfolding splitBy divides both pick
+  pub split_one : span ≤ 1 → split_by span index ≡ undivided index
+  unfolding split_by divides both pick
   split_one s = rw (le-ltb 1 span s)
 
   abbrev below : Split
   below = record { rest = index; quotient = 0; divisions = pick (ltb 0 index) 1 0 }
 
-  below-some : index < span → 0 < index → below ≡ splitBy span index
+  below_some : index < span → 0 < index → below ≡ split_by span index
   unfolding pick
-  below-some h i = rw (divided-there (omega arith) i, mod-eq_of_lt h, div-eq_of_lt h, lt-ltb 0 index i)
+  below_some h i = rw (divided_there (omega arith) i, mod-eq_of_lt h, div-eq_of_lt h, lt-ltb 0 index i)
 
-  below_none : index ≡ 0 → below ≡ splitBy span index
-  unfolding splitBy divides both pick
-  below_none z = by-test (ltb 1 span) (λ s. rw (z, s)) (λ s. rw (z, s))
+  below_none : index ≡ 0 → below ≡ split_by span index
+  unfolding split_by divides both pick
+  below_none z = by_test (ltb 1 span) (λ s. rw (z, s)) (λ s. rw (z, s))
 
-  pub split_below : index < span → below ≡ splitBy span index
-  split_below h = by-test (ltb 0 index) (λ t. below-some h (ltb-true 0 index t)) (λ t. below_none (omega (arith, ltb-false 0 index t)))
+  pub split_below : index < span → below ≡ split_by span index
+  split_below h = by_test (ltb 0 index) (λ t. below_some h (ltb-true 0 index t)) (λ t. below_none (omega (arith, ltb-false 0 index t)))
 
-  pub split-above : span ≤ index → 1 < span → record { rest = index % span; quotient = index / span; divisions = 1 } ≡ splitBy span index
-  split-above h s = sym (divided-there s (omega arith))
+  pub split_above : span ≤ index → 1 < span → record { rest = index % span; quotient = index / span; divisions = 1 } ≡ split_by span index
+  split_above h s = sym (divided_there s (omega arith))
 
 module _ (span : ℕ → ℕ) where
-  divided-last : (d left : ℕ) (r : Divided) → 0 < d
-      → dividedFrom span (d - 1) (splitBy (span (d - 1)) left).quotient (withSplit r (d - 1) (splitBy (span (d - 1)) left)) ≡ dividedFrom span d left r
-  unfolding dividedFrom
-  divided-last zero left r h = absurd (not-suc-le-zero h)
-  divided-last (suc d) left r h = let e : suc d - 1 ≡ d = omega arith in rw e refl
+  divided_last : (d left : ℕ) (r : Divided) → 0 < d
+      → divided_from span (d - 1) (split_by (span (d - 1)) left).quotient (with_split r (d - 1) (split_by (span (d - 1)) left)) ≡ divided_from span d left r
+  unfolding divided_from
+  divided_last zero left r h = absurd (not-suc-le-zero h)
+  divided_last (suc d) left r h = let e : suc d - 1 ≡ d = omega arith in rw e refl
 
-  divided-end : (d left : ℕ) (r : Divided) → d ≤ 0 → r ≡ dividedFrom span d left r
-  unfolding dividedFrom
-  divided-end zero left r h = refl
-  divided-end (suc d) left r h = absurd (not-suc-le-zero h)
+  divided_end : (d left : ℕ) (r : Divided) → d ≤ 0 → r ≡ divided_from span d left r
+  unfolding divided_from
+  divided_end zero left r h = refl
+  divided_end (suc d) left r h = absurd (not-suc-le-zero h)
 
 -- The loop over the dimensions: those from d on are done; `left` is what is left of the index.
 pub record Dividing (span : ℕ → ℕ) (whole : Divided) (coordinates : List ℕ) (divisions left d : ℕ) : Type 0 where
-  pub few : d ≤ rankPlaces
-  pub seldom : divisions + d ≤ rankPlaces
-  pub long : length coordinates ≡ rankPlaces
-  pub goes : dividedFrom span d left (record { coordinates = coordinates; divisions = divisions }) ≡ whole
+  pub few : d ≤ rank_places
+  pub seldom : divisions + d ≤ rank_places
+  pub long : length coordinates ≡ rank_places
+  pub goes : divided_from span d left (record { coordinates = coordinates; divisions = divisions }) ≡ whole
 
 module _ (span : ℕ → ℕ) (whole : Divided) (coordinates : List ℕ) (divisions left d : ℕ) where
-  pub dividing-more : Dividing span whole coordinates divisions left d → 0 < d
-      → Dividing span whole (set coordinates (d - 1) (splitBy (span (d - 1)) left).rest) (divisions + (splitBy (span (d - 1)) left).divisions) (splitBy (span (d - 1)) left).quotient (d - 1)
-  dividing-more w h =
+  pub dividing_more : Dividing span whole coordinates divisions left d → 0 < d
+      → Dividing span whole (set coordinates (d - 1) (split_by (span (d - 1)) left).rest) (divisions + (split_by (span (d - 1)) left).divisions) (split_by (span (d - 1)) left).quotient (d - 1)
+  dividing_more w h =
       record {
         few = omega (arith, w.few);
-        seldom = omega (arith, w.seldom, split-most (span (d - 1)) left);
-        long = length-set coordinates (d - 1) (splitBy (span (d - 1)) left).rest ∙ w.long;
-        goes = divided-last span d left (record { coordinates = coordinates; divisions = divisions }) h ∙ w.goes;
+        seldom = omega (arith, w.seldom, split_most (span (d - 1)) left);
+        long = length-set coordinates (d - 1) (split_by (span (d - 1)) left).rest ∙ w.long;
+        goes = divided_last span d left (record { coordinates = coordinates; divisions = divisions }) h ∙ w.goes;
       }
 
-  pub dividing-end : Dividing span whole coordinates divisions left d → d ≤ 0 → record { coordinates = coordinates; divisions = divisions } ≡ whole
-  dividing-end w h = divided-end span d left _ h ∙ w.goes
+  pub dividing_end : Dividing span whole coordinates divisions left d → d ≤ 0 → record { coordinates = coordinates; divisions = divisions } ≡ whole
+  dividing_end w h = divided_end span d left _ h ∙ w.goes
 
-pub dividing-start : (l : Layout) (index : ℕ) → Dividing (span_of l) (divided l index) (replicate rankPlaces 0) 0 index (min l.rank rankPlaces)
+pub dividing_start : (l : Layout) (index : ℕ) → Dividing (span_of l) (divided l index) (replicate rank_places 0) 0 index (min l.rank rank_places)
 unfolding divided
-dividing-start l index = record { few = min-le_right l.rank rankPlaces; seldom = omega (arith, min-le_right l.rank rankPlaces); long = refl; goes = refl }
+dividing_start l index = record { few = min-le_right l.rank rank_places; seldom = omega (arith, min-le_right l.rank rank_places); long = refl; goes = refl }

@@ -5,8 +5,8 @@ use Rattle.sheet.specs.declared.ClampMode.TheVariants.{Undefined}
 use Rattle.sheet.specs.declared.Dimension.{Dimension}
 use Rattle.sheet.specs.declared.Layout.{Layout}
 use Rattle.view_indices.specs.Indices.{coordinates}
-use Rattle.spans.specs.Spans.{spanCoordinates, divides, splitBy, dividedFrom, divided}
-use Rattle.spans.specs.Needed.{howMany, index_at, neededDivisions}
+use Rattle.spans.specs.Spans.{span_coordinates, divides, split_by, divided_from, divided}
+use Rattle.spans.specs.Needed.{how_many, index_at, needed_divisions}
 
 abbrev dimension : ℕ → Dimension
 dimension span = record { block = 1; size = 16; stride = 1; offset = 0; span = span }
@@ -21,25 +21,25 @@ layout =
     }
 
 -- 37 is 5 past 4 times 8, and 4 is 0 past 1 times 4: two divisions; what is left, 1, meets spans of 1
-both-spans : divided layout 37 ≡ record { coordinates = 0 ∷ 0 ∷ 0 ∷ 0 ∷ 5 ∷ []; divisions = 2 }
-unfolding divided dividedFrom splitBy divides pick both
-both-spans = refl
+both_spans : divided layout 37 ≡ record { coordinates = 0 ∷ 0 ∷ 0 ∷ 0 ∷ 5 ∷ []; divisions = 2 }
+unfolding divided divided_from split_by divides pick both
+both_spans = refl
 
 -- 5 is below 8: one division, and the index is 0
-last-span : divided layout 5 ≡ record { coordinates = 0 ∷ 0 ∷ 0 ∷ 0 ∷ 5 ∷ []; divisions = 1 }
-unfolding divided dividedFrom splitBy divides pick both
-last-span = refl
+last_span : divided layout 5 ≡ record { coordinates = 0 ∷ 0 ∷ 0 ∷ 0 ∷ 5 ∷ []; divisions = 1 }
+unfolding divided divided_from split_by divides pick both
+last_span = refl
 
 -- an index of 0 takes none
 no_span : divided layout 0 ≡ record { coordinates = 0 ∷ 0 ∷ 0 ∷ 0 ∷ 0 ∷ []; divisions = 0 }
-unfolding divided dividedFrom splitBy divides pick both
+unfolding divided divided_from split_by divides pick both
 no_span = refl
 
 -- the plain rule, and the count by the sentence's own words
-plain : spanCoordinates layout 29 ≡ 0 ∷ 0 ∷ 3 ∷ 0 ∷ 5 ∷ []
-unfolding spanCoordinates coordinates
+plain : span_coordinates layout 29 ≡ 0 ∷ 0 ∷ 3 ∷ 0 ∷ 5 ∷ []
+unfolding span_coordinates coordinates
 plain = refl
 
-needed : neededDivisions layout 37 ≡ 2
-unfolding howMany index_at pick both
+needed : needed_divisions layout 37 ≡ 2
+unfolding how_many index_at pick both
 needed = refl

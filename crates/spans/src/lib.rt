@@ -1,8 +1,8 @@
 // Rule 3: the span coordinates of an index (document 01, "Where an element goes"), and the divisions that they take.
 ghost use Rattle.std.specs.Prelude.{◌≡◌, min, ltb};
 ghost use Rattle.numbers.specs.Choice.{pick};
-ghost use Rattle.sheet.specs.Sizes.{rankPlaces};
-ghost use Rattle.spans.specs.Spans.{splitBy, divided};
+ghost use Rattle.sheet.specs.Sizes.{rank_places};
+ghost use Rattle.spans.specs.Spans.{split_by, divided};
 
 use sheet::Layout;
 use sheet::sizes::RANK;
@@ -31,7 +31,7 @@ fn one_unless_zero(index: u32) -> u32
 
 // A division is the slowest part of an element: there is none by 1 and none of 0, and where the index is below the span a comparison stands in for it.
 pub fn split_by(index: u32, span: u32) -> Split
-    ensures { result ≡ splitBy span index }
+    ensures { result ≡ split_by span index }
 {
     if index < span {
         return Split {
@@ -55,7 +55,7 @@ pub fn split_by(index: u32, span: u32) -> Split
 }
 
 fn dimensions_of(l: Layout) -> usize
-    ensures { result ≡ min l.rank rankPlaces }
+    ensures { result ≡ min l.rank rank_places }
 {
     let rank = l.rank as usize;
     if rank <= RANK { rank } else { RANK }

@@ -1,15 +1,15 @@
 // Steps: how many bytes one takes, and writing it from a place of `out` on.
 ghost use Rattle.std.specs.Prelude.{◌≡◌, [], ◌∷◌, ◌++◌, ◌+◌, ◌≤◌, length};
 ghost use Rattle.std.proofs.lemmas.List.Edits.{sets};
-ghost use Rattle.numbers.specs.Little.{u32Bytes};
-ghost use Rattle.sheet.specs.Codes.{reduceCode, combineCode, objectCode};
-ghost use Rattle.step_bytes.specs.Bytes.{wholeTag, stepTag, windowBytes, vectorOperands, vectorPlaces, vectorBytes, wholeBytes, stepBytes, stepField};
+ghost use Rattle.numbers.specs.Little.{u32_bytes};
+ghost use Rattle.sheet.specs.Codes.{reduce_code, combine_code, object_code};
+ghost use Rattle.step_bytes.specs.Bytes.{whole_tag, step_tag, window_bytes, vector_operands, vector_places, vector_bytes, whole_bytes, step_bytes, step_field};
 
 use fields::{HEAD, writing};
 use sheet::{Combine, Object, ReduceMode, Step, VectorStep, WholeStep, Window, codes, editions};
 
 fn whole_tag(s: WholeStep) -> u8
-    ensures { result ≡ wholeTag s }
+    ensures { result ≡ whole_tag s }
 {
     match s {
         WholeStep::Fill {
@@ -43,7 +43,7 @@ fn whole_tag(s: WholeStep) -> u8
 
 // An unused place has none of the table's tags.
 fn step_tag(s: Step) -> u8
-    ensures { result ≡ stepTag s }
+    ensures { result ≡ step_tag s }
 {
     match s {
         Step::Nothing => 0,
@@ -62,7 +62,7 @@ fn step_tag(s: Step) -> u8
 
 // By the table of "The sheet".
 fn whole_len(edition: u8, s: WholeStep) -> u16
-    ensures { result ≡ length (wholeBytes edition s) }
+    ensures { result ≡ length (whole_bytes edition s) }
 {
     match s {
         WholeStep::Fill {
@@ -95,7 +95,7 @@ fn whole_len(edition: u8, s: WholeStep) -> u16
 }
 
 pub fn step_len(edition: u8, s: Step) -> u16
-    ensures { result ≡ length (stepBytes edition s) }
+    ensures { result ≡ length (step_bytes edition s) }
 {
     match s {
         Step::Nothing => 0,
@@ -122,7 +122,7 @@ fn put_four(out: &mut [u8], at: usize, a: u8, b: u8, c: u8, d: u8)
 
 fn put_fill(out: &mut [u8], at: usize, register: u8, rows: u8, columns: u8, kind: u8, value: u32)
     requires { at + 8 ≤ length out.old }
-    ensures { out.new ≡ sets out.old at ((register ∷ rows ∷ columns ∷ kind ∷ []) ++ u32Bytes value) }
+    ensures { out.new ≡ sets out.old at ((register ∷ rows ∷ columns ∷ kind ∷ []) ++ u32_bytes value) }
 {
     put_four(out, at, register, rows, columns, kind);
     numbers::put_u32(out, at + 4, value);
@@ -130,7 +130,7 @@ fn put_fill(out: &mut [u8], at: usize, register: u8, rows: u8, columns: u8, kind
 
 fn put_window(out: &mut [u8], at: usize, w: Window)
     requires { at + 6 ≤ length out.old }
-    ensures { out.new ≡ sets out.old at (windowBytes w) }
+    ensures { out.new ≡ sets out.old at (window_bytes w) }
 {
     let view = w.view;
     writing::put_pair(out, at, w.layout, codes::viewing_code(view));
@@ -139,7 +139,7 @@ fn put_window(out: &mut [u8], at: usize, w: Window)
 
 fn put_load(out: &mut [u8], at: usize, register: u8, object: Object, window: Window)
     requires { at + 8 ≤ length out.old }
-    ensures { out.new ≡ sets out.old at ((register ∷ objectCode object ∷ []) ++ windowBytes window) }
+    ensures { out.new ≡ sets out.old at ((register ∷ object_code object ∷ []) ++ window_bytes window) }
 {
     writing::put_pair(out, at, register, codes::object_code(object));
     put_window(out, at + 2, window);
@@ -147,7 +147,7 @@ fn put_load(out: &mut [u8], at: usize, register: u8, object: Object, window: Win
 
 fn put_store(out: &mut [u8], at: usize, register: u8, window: Window)
     requires { at + 7 ≤ length out.old }
-    ensures { out.new ≡ sets out.old at ((register ∷ []) ++ windowBytes window) }
+    ensures { out.new ≡ sets out.old at ((register ∷ []) ++ window_bytes window) }
 {
     writing::put_byte(out, at, register);
     put_window(out, at + 1, window);
@@ -164,7 +164,7 @@ fn put_reduce(
     combine: Combine,
 )
     requires { at + 6 ≤ length out.old }
-    ensures { out.new ≡ sets out.old at (res ∷ source ∷ rows ∷ columns ∷ reduceCode mode ∷ combineCode combine ∷ []) }
+    ensures { out.new ≡ sets out.old at (res ∷ source ∷ rows ∷ columns ∷ reduce_code mode ∷ combine_code combine ∷ []) }
 {
     put_four(out, at, res, source, rows, columns);
     writing::put_pair(
@@ -178,7 +178,7 @@ fn put_reduce(
 // The registers and the matrix's shape.
 fn put_vector_operands(out: &mut [u8], at: usize, v: VectorStep)
     requires { at + 8 ≤ length out.old }
-    ensures { out.new ≡ sets out.old at (vectorOperands v) }
+    ensures { out.new ≡ sets out.old at (vector_operands v) }
 {
     let layout = v.layout;
     put_four(out, at, v.result, v.kind, v.input, v.interpretation);
@@ -195,7 +195,7 @@ fn put_vector_operands(out: &mut [u8], at: usize, v: VectorStep)
 // Where the matrix and the bias lie.
 fn put_vector_places(out: &mut [u8], at: usize, v: VectorStep)
     requires { at + 11 ≤ length out.old }
-    ensures { out.new ≡ sets out.old at (vectorPlaces v) }
+    ensures { out.new ≡ sets out.old at (vector_places v) }
 {
     numbers::put_u16(out, at, v.stride);
     numbers::put_u32(out, at + 2, v.offset);
@@ -205,15 +205,15 @@ fn put_vector_places(out: &mut [u8], at: usize, v: VectorStep)
 
 fn put_vector(out: &mut [u8], at: usize, v: VectorStep)
     requires { at + 19 ≤ length out.old }
-    ensures { out.new ≡ sets out.old at (vectorBytes v) }
+    ensures { out.new ≡ sets out.old at (vector_bytes v) }
 {
     put_vector_operands(out, at, v);
     put_vector_places(out, at + 8, v);
 }
 
 fn put_whole_content(out: &mut [u8], at: usize, edition: u8, s: WholeStep)
-    requires { at + length (wholeBytes edition s) ≤ length out.old }
-    ensures { out.new ≡ sets out.old at (wholeBytes edition s) }
+    requires { at + length (whole_bytes edition s) ≤ length out.old }
+    ensures { out.new ≡ sets out.old at (whole_bytes edition s) }
 {
     match s {
         WholeStep::Fill {
@@ -238,8 +238,8 @@ fn put_whole_content(out: &mut [u8], at: usize, edition: u8, s: WholeStep)
 }
 
 fn put_step_content(out: &mut [u8], at: usize, edition: u8, s: Step)
-    requires { at + length (stepBytes edition s) ≤ length out.old }
-    ensures { out.new ≡ sets out.old at (stepBytes edition s) }
+    requires { at + length (step_bytes edition s) ≤ length out.old }
+    ensures { out.new ≡ sets out.old at (step_bytes edition s) }
 {
     match s {
         Step::Nothing => {}
@@ -255,8 +255,8 @@ fn put_step_content(out: &mut [u8], at: usize, edition: u8, s: Step)
 
 // Returns the place after the field.
 pub fn put_step(out: &mut [u8], at: usize, edition: u8, s: Step) -> usize
-    requires { at + length (stepField edition s) ≤ length out.old }
-    ensures { (result ≡ at + length (stepField edition s)) × (out.new ≡ sets out.old at (stepField edition s)) }
+    requires { at + length (step_field edition s) ≤ length out.old }
+    ensures { (result ≡ at + length (step_field edition s)) × (out.new ≡ sets out.old at (step_field edition s)) }
 {
     let content = step_len(edition, s);
     writing::put_head(out, at, step_tag(s), content);

@@ -1,7 +1,7 @@
 // What the content of a step's field says. A step is judged by its fields as they are read, so that it is not taken apart again, and is nothing
 // where it is beyond Sizes.
 ghost use Rattle.std.specs.Prelude.{◌≡◌, ℕ, ◌+◌, ◌≤◌, length};
-ghost use Rattle.step_contents.specs.Contents.{fillAt, windowAt, loadAt, storeAt, reduceAt, transposeAt, multiplyAt, vectorNumbers, vectorAt, stepAt, stepLength};
+ghost use Rattle.step_contents.specs.Contents.{fill_at, window_at, load_at, store_at, reduce_at, transpose_at, multiply_at, vector_numbers, vector_at, step_at, step_length};
 ghost use Rattle.step_contents.specs.Judged.{judged};
 
 use numbers::{u16_at, u32_at, wide};
@@ -10,7 +10,7 @@ use sheet_ranges::steps;
 
 fn fill_at(s: &[u8], edition: u8, p: usize) -> Step
     requires { p + 8 ≤ length s.now }
-    ensures { (layouts views : ℕ) → result ≡ judged edition layouts views (fillAt s.now p) }
+    ensures { (layouts views : ℕ) → result ≡ judged edition layouts views (fill_at s.now p) }
 {
     let register = s[p];
     let rows = s[p + 1];
@@ -32,7 +32,7 @@ fn fill_at(s: &[u8], edition: u8, p: usize) -> Step
 
 fn window_at(s: &[u8], p: usize) -> Window
     requires { p + 6 ≤ length s.now }
-    ensures { result ≡ windowAt s.now p }
+    ensures { result ≡ window_at s.now p }
 {
     let view = codes::viewing_of(s[p + 1]);
     Window {
@@ -44,7 +44,7 @@ fn window_at(s: &[u8], p: usize) -> Window
 
 fn load_at(s: &[u8], edition: u8, p: usize, layouts: usize, views: usize) -> Step
     requires { p + 8 ≤ length s.now }
-    ensures { result ≡ judged edition layouts views (loadAt edition s.now p) }
+    ensures { result ≡ judged edition layouts views (load_at edition s.now p) }
 {
     let register = s[p];
     let absent = editions::no_object(edition);
@@ -62,7 +62,7 @@ fn load_at(s: &[u8], edition: u8, p: usize, layouts: usize, views: usize) -> Ste
 
 fn store_at(s: &[u8], p: usize, layouts: usize, views: usize) -> Step
     requires { p + 7 ≤ length s.now }
-    ensures { (edition : ℕ) → result ≡ judged edition layouts views (storeAt s.now p) }
+    ensures { (edition : ℕ) → result ≡ judged edition layouts views (store_at s.now p) }
 {
     let register = s[p];
     let window = window_at(s, p + 1);
@@ -75,7 +75,7 @@ fn store_at(s: &[u8], p: usize, layouts: usize, views: usize) -> Step
 // A reduce whose mode or combine is not in the table is no step.
 fn reduce_at(s: &[u8], edition: u8, p: usize) -> Step
     requires { p + 6 ≤ length s.now }
-    ensures { (layouts views : ℕ) → result ≡ judged edition layouts views (reduceAt s.now p) }
+    ensures { (layouts views : ℕ) → result ≡ judged edition layouts views (reduce_at s.now p) }
 {
     let mode = s[p + 4];
     let combine = s[p + 5];
@@ -107,7 +107,7 @@ fn reduce_at(s: &[u8], edition: u8, p: usize) -> Step
 
 fn transpose_at(s: &[u8], p: usize) -> Step
     requires { p + 2 ≤ length s.now }
-    ensures { (edition layouts views : ℕ) → result ≡ judged edition layouts views (transposeAt s.now p) }
+    ensures { (edition layouts views : ℕ) → result ≡ judged edition layouts views (transpose_at s.now p) }
 {
     let result = s[p];
     let source = s[p + 1];
@@ -120,7 +120,7 @@ fn transpose_at(s: &[u8], p: usize) -> Step
 
 fn multiply_at(s: &[u8], p: usize) -> Step
     requires { p + 4 ≤ length s.now }
-    ensures { (edition layouts views : ℕ) → result ≡ judged edition layouts views (multiplyAt s.now p) }
+    ensures { (edition layouts views : ℕ) → result ≡ judged edition layouts views (multiply_at s.now p) }
 {
     let result = s[p];
     let a = s[p + 1];
@@ -135,7 +135,7 @@ fn multiply_at(s: &[u8], p: usize) -> Step
 
 fn vector_numbers(s: &[u8], p: usize) -> VectorStep
     requires { p + 19 ≤ length s.now }
-    ensures { result ≡ vectorNumbers s.now p }
+    ensures { result ≡ vector_numbers s.now p }
 {
     let layout = codes::memory_layout(s[p + 7]);
     VectorStep {
@@ -157,7 +157,7 @@ fn vector_numbers(s: &[u8], p: usize) -> VectorStep
 // A vector step whose memory layout is not in the table, or whose bias is neither 0 nor 1, is no step.
 fn vector_at(s: &[u8], edition: u8, p: usize) -> Step
     requires { p + 19 ≤ length s.now }
-    ensures { (layouts views : ℕ) → result ≡ judged edition layouts views (vectorAt s.now p) }
+    ensures { (layouts views : ℕ) → result ≡ judged edition layouts views (vector_at s.now p) }
 {
     if 1 < s[p + 7] {
         return Step::Nothing;
@@ -175,8 +175,8 @@ fn vector_at(s: &[u8], edition: u8, p: usize) -> Step
 
 // The step whose content starts at p and has its tag's length, in a sheet of so many layouts and views.
 pub fn step_at(s: &[u8], edition: u8, tag: u8, p: usize, layouts: usize, views: usize) -> Step
-    requires { p + stepLength edition tag ≤ length s.now }
-    ensures { result ≡ judged edition layouts views (stepAt edition s.now tag p) }
+    requires { p + step_length edition tag ≤ length s.now }
+    ensures { result ≡ judged edition layouts views (step_at edition s.now tag p) }
 {
     match tag {
         codes::FILL_TAG => fill_at(s, edition, p),
@@ -190,7 +190,7 @@ pub fn step_at(s: &[u8], edition: u8, tag: u8, p: usize, layouts: usize, views: 
 }
 
 pub fn step_length(edition: u8, tag: u8) -> usize
-    ensures { result ≡ stepLength edition tag }
+    ensures { result ≡ step_length edition tag }
 {
     match tag {
         codes::FILL_TAG => editions::fill_length(edition),

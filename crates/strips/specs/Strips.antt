@@ -5,13 +5,13 @@ use Rattle.std.proofs.Common.{ap₂}
 use Rattle.numbers.specs.Choice.{pick, both, between}
 use Rattle.numbers.specs.All.{all}
 use Rattle.numbers.specs.Lists.{line}
-use Rattle.numbers.specs.First.{firstFrom}
+use Rattle.numbers.specs.First.{first_from}
 use Rattle.numbers.specs.Little
 use Rattle.kinds.specs.Widths.{width, bytes_of, fits}
 use Rattle.kinds.specs.Values.{negative, taken, value}
-use Rattle.kinds.specs.Interpretations.{interpretationOk}
-use Rattle.kinds.specs.Sums.{sumZ}
-use Rattle.refusals.specs.Refusals.{indexTooLarge, outsideUndefined, byteTwice, refusalAt}
+use Rattle.kinds.specs.Interpretations.{interpretation_ok}
+use Rattle.kinds.specs.Sums.{sum_z}
+use Rattle.refusals.specs.Refusals.{index_too_large, outside_undefined, byte_twice, refusal_at}
 use Rattle.refusals.specs.declared.Refusal.{Refusal}
 use Rattle.sheet.specs.Sizes
 use Rattle.sheet.specs.Editions
@@ -24,8 +24,8 @@ use Rattle.fields.specs.Fields
 use Rattle.contents.specs.Contents
 use Rattle.step_contents.specs.Contents as stepContents
 use Rattle.sheet_reader.specs.Reading
-use Rattle.memory.specs.Elements.{elementAt, withElement}
-use Rattle.registers.specs.Registers.{emptyRegisters, elementOf}
+use Rattle.memory.specs.Elements.{element_at, with_element}
+use Rattle.registers.specs.Registers.{empty_registers, element_of}
 use Rattle.combines.specs.Combining
 use Rattle.registers.specs.Grids
 use Rattle.reduces.specs.Reducing
@@ -43,9 +43,9 @@ use Rattle.clashes.specs.Clashes as clashes
 use Rattle.accesses.specs.Refusals as accesses
 use Rattle.transfers.specs.Transfers.{transferred}
 use Rattle.checking.specs.Steps as checks
-use Rattle.checking.specs.Checking.{checkedFrom, checked, checkedSheet}
+use Rattle.checking.specs.Checking.{checked_from, checked, checked_sheet}
 use Rattle.carrying.specs.Steps as steps
-use Rattle.carrying.specs.Carrying.{performedFrom, performed, carried, carriedMemory}
+use Rattle.carrying.specs.Carrying.{performed_from, performed, carried, carried_memory}
 
 -- what is asked of an accepted sheet: the first n elements of a register, or the bytes of memory afterwards
 pub data Question : Type 0 where
@@ -69,7 +69,7 @@ listed g k zero = []
 listed g k (suc n) = g k ∷ listed g (suc k) n
 
 abbrev pub asked : Question → List ℕ → List ℕ → List ℕ
-asked (elements register n) es memory = listed (elementOf es register) 0 n
+asked (elements register n) es memory = listed (element_of es register) 0 n
 asked bytes es memory = memory
 
 -- The fields of a sheet: a tag, a length, a content; numbers of two and of four bytes. Here no length is above 255.
@@ -82,11 +82,11 @@ long x = word x ++ 0 ∷ 0 ∷ []
 field : ℕ → List ℕ → List ℕ
 field tag content = tag ∷ length content ∷ 0 ∷ content
 
-editionOf : ℕ → List ℕ
-editionOf number = field 0x01 (number ∷ [])
+edition_of : ℕ → List ℕ
+edition_of number = field 0x01 (number ∷ [])
 
 edition : List ℕ
-edition = editionOf 1
+edition = edition_of 1
 
 -- a layout of a clamp mode, a clamp value and dimensions
 layout : ℕ → ℕ → List (List ℕ) → List ℕ
@@ -137,15 +137,15 @@ MirrorRepeat : ℕ
 MirrorRepeat = 4
 
 -- 64 bytes of which byte i holds i, as those from k on are
-countingFrom : ℕ → ℕ → List ℕ
-countingFrom k n = listed (λ (i : ℕ). i) k n
+counting_from : ℕ → ℕ → List ℕ
+counting_from k n = listed (λ (i : ℕ). i) k n
 
 counting : List ℕ
-counting = countingFrom 0 64
+counting = counting_from 0 64
 
 -- register 0 is filled, register 1 is loaded with object 0 from byte 0, and n of its elements are asked
-loadStrip : List ℕ → List ℕ → ℕ → ℕ → ℕ → ℕ → Answer → Strip
-loadStrip layouts views through rows columns n wanted =
+load_strip : List ℕ → List ℕ → ℕ → ℕ → ℕ → ℕ → Answer → Strip
+load_strip layouts views through rows columns n wanted =
     record {
       sheet = edition ++ layouts ++ views ++ fill rows columns 100 ++ load 0 through 0;
       memory = counting;
@@ -154,8 +154,8 @@ loadStrip layouts views through rows columns n wanted =
     }
 
 -- register 0 is filled and stored at byte 0
-storeStrip : List ℕ → ℕ → ℕ → Answer → Strip
-storeStrip layouts rows columns wanted =
+store_strip : List ℕ → ℕ → ℕ → Answer → Strip
+store_strip layouts rows columns wanted =
     record { sheet = edition ++ layouts ++ fill rows columns 100 ++ store 0; memory = counting; question = bytes; wanted = wanted }
 
 -- strips 1 to 6: one layout of n, stride 1, block 1, offset -2, span 8
@@ -163,18 +163,18 @@ edged : ℕ → ℕ → ℕ → List ℕ
 edged mode clamp n = layout mode clamp (dimension 1 n 1 65534 8 ∷ [])
 
 -- a 1 by 8 load
-edgeStrip : List ℕ → Answer → Strip
-edgeStrip layouts wanted = loadStrip layouts [] 255 1 8 8 wanted
+edge_strip : List ℕ → Answer → Strip
+edge_strip layouts wanted = load_strip layouts [] 255 1 8 8 wanted
 
 -- one dimension of n, offset 0
 plain : ℕ → ℕ → List ℕ
 plain n stride = layout Undefined 0 (dimension 1 n stride 0 n ∷ [])
 
 -- in a sheet of an edition, register 0 is a matrix of 2 by 4 hundreds, and is loaded without an object from byte 16, its columns from 2 on
-noObjectStrip : ℕ → Answer → Strip
-noObjectStrip number wanted =
+no_object_strip : ℕ → Answer → Strip
+no_object_strip number wanted =
     record {
-      sheet = editionOf number ++ plain 8 1 ++ view (0 ∷ []) 2 ++ fill 2 4 100 ++ field 0x21 (0 ∷ 255 ∷ 0 ∷ 0 ∷ long 16);
+      sheet = edition_of number ++ plain 8 1 ++ view (0 ∷ []) 2 ++ fill 2 4 100 ++ field 0x21 (0 ∷ 255 ∷ 0 ∷ 0 ∷ long 16);
       memory = counting;
       question = elements 0 8;
       wanted = wanted;
@@ -198,71 +198,71 @@ network =
 -- 1: Constant 9
 pub constant : Strip
 constant =
-    edgeStrip (edged Constant 9 4) (accepted (9 ∷ 9 ∷ 0 ∷ 1 ∷ 2 ∷ 3 ∷ 9 ∷ 9 ∷ []))
+    edge_strip (edged Constant 9 4) (accepted (9 ∷ 9 ∷ 0 ∷ 1 ∷ 2 ∷ 3 ∷ 9 ∷ 9 ∷ []))
 
 -- 2: ClampToEdge
-pub clampToEdge : Strip
-clampToEdge =
-    edgeStrip (edged ClampToEdge 0 4) (accepted (0 ∷ 0 ∷ 0 ∷ 1 ∷ 2 ∷ 3 ∷ 3 ∷ 3 ∷ []))
+pub clamp_to_edge : Strip
+clamp_to_edge =
+    edge_strip (edged ClampToEdge 0 4) (accepted (0 ∷ 0 ∷ 0 ∷ 1 ∷ 2 ∷ 3 ∷ 3 ∷ 3 ∷ []))
 
 -- 3: Repeat
 pub repeated : Strip
 repeated =
-    edgeStrip (edged Repeat 0 4) (accepted (2 ∷ 3 ∷ 0 ∷ 1 ∷ 2 ∷ 3 ∷ 0 ∷ 1 ∷ []))
+    edge_strip (edged Repeat 0 4) (accepted (2 ∷ 3 ∷ 0 ∷ 1 ∷ 2 ∷ 3 ∷ 0 ∷ 1 ∷ []))
 
 -- 4: MirrorRepeat, and with n 1
 pub mirrored : Strip
 mirrored =
-    edgeStrip (edged MirrorRepeat 0 4) (accepted (2 ∷ 1 ∷ 0 ∷ 1 ∷ 2 ∷ 3 ∷ 2 ∷ 1 ∷ []))
+    edge_strip (edged MirrorRepeat 0 4) (accepted (2 ∷ 1 ∷ 0 ∷ 1 ∷ 2 ∷ 3 ∷ 2 ∷ 1 ∷ []))
 
-pub mirroredOfOne : Strip
-mirroredOfOne =
-    edgeStrip (edged MirrorRepeat 0 1) (accepted (0 ∷ 0 ∷ 0 ∷ 0 ∷ 0 ∷ 0 ∷ 0 ∷ 0 ∷ []))
+pub mirrored_of_one : Strip
+mirrored_of_one =
+    edge_strip (edged MirrorRepeat 0 1) (accepted (0 ∷ 0 ∷ 0 ∷ 0 ∷ 0 ∷ 0 ∷ 0 ∷ 0 ∷ []))
 
 -- 5: Undefined, step 1 at element 0
 pub undefined : Strip
 undefined =
-    edgeStrip (edged Undefined 0 4) (refused (refusalAt outsideUndefined 1 0))
+    edge_strip (edged Undefined 0 4) (refused (refusal_at outside_undefined 1 0))
 
 -- 6: ClampToEdge store of a register that was loaded with 16 to 23: its elements 2 to 5 go to bytes 0 to 3, no other byte changes
-pub clampedStore : Strip
-clampedStore =
+pub clamped_store : Strip
+clamped_store =
     record {
       sheet = edition ++ edged ClampToEdge 0 4 ++ plain 8 1 ++ fill 1 8 100 ++ load 1 255 16 ++ store 1;
       memory = counting;
       question = bytes;
-      wanted = accepted (18 ∷ 19 ∷ 20 ∷ 21 ∷ countingFrom 4 60);
+      wanted = accepted (18 ∷ 19 ∷ 20 ∷ 21 ∷ counting_from 4 60);
     }
 
 -- 7: a layout of 2 by 3 through a permutation, as 3 by 2
 pub permuted : Strip
 permuted =
-    loadStrip (layout Undefined 0 (dimension 1 2 3 0 2 ∷ dimension 1 3 1 0 3 ∷ [])) (view (1 ∷ 0 ∷ []) 0) 0 3 2 6
+    load_strip (layout Undefined 0 (dimension 1 2 3 0 2 ∷ dimension 1 3 1 0 3 ∷ [])) (view (1 ∷ 0 ∷ []) 0) 0 3 2 6
     (accepted (0 ∷ 3 ∷ 1 ∷ 4 ∷ 2 ∷ 5 ∷ []))
 
 -- 8: clip column offset 2: elements (0,2) (0,3) (1,2) (1,3) of 2 by 4 get bytes 0 1 4 5, the rest is kept
 pub clipped : Strip
 clipped =
-    loadStrip (plain 8 1) (view (0 ∷ []) 2) 0 2 4 8 (accepted (100 ∷ 100 ∷ 0 ∷ 1 ∷ 100 ∷ 100 ∷ 4 ∷ 5 ∷ []))
+    load_strip (plain 8 1) (view (0 ∷ []) 2) 0 2 4 8 (accepted (100 ∷ 100 ∷ 0 ∷ 1 ∷ 100 ∷ 100 ∷ 4 ∷ 5 ∷ []))
 
 -- 9: five spans of 4,096 and a permutation: step 1 gets 12 at element 1
-pub largeIndex : Strip
-largeIndex =
-    loadStrip (layout Undefined 0 (replicate 5 (dimension 1 4096 0 0 4096))) (view (1 ∷ 2 ∷ 3 ∷ 4 ∷ 0 ∷ []) 0) 0 1 2 2
-    (refused (refusalAt indexTooLarge 1 1))
+pub large_index : Strip
+large_index =
+    load_strip (layout Undefined 0 (replicate 5 (dimension 1 4096 0 0 4096))) (view (1 ∷ 2 ∷ 3 ∷ 4 ∷ 0 ∷ []) 0) 0 1 2 2
+    (refused (refusal_at index_too_large 1 1))
 
 -- 10: stride 0 store: 1 by 1 is accepted, 1 by 2 gets 15 in step 1 at element 1
-pub strideZeroSingle : Strip
-strideZeroSingle =
-    storeStrip (plain 8 0) 1 1 (accepted (100 ∷ countingFrom 1 63))
+pub stride_zero_single : Strip
+stride_zero_single =
+    store_strip (plain 8 0) 1 1 (accepted (100 ∷ counting_from 1 63))
 
-pub strideZeroPair : Strip
-strideZeroPair =
-    storeStrip (plain 8 0) 1 2 (refused (refusalAt byteTwice 1 1))
+pub stride_zero_pair : Strip
+stride_zero_pair =
+    store_strip (plain 8 0) 1 2 (refused (refusal_at byte_twice 1 1))
 
 -- 11: 2x2 add of a loaded u8 matrix
-pub twoByTwo : Strip
-twoByTwo =
+pub two_by_two : Strip
+two_by_two =
     record {
       sheet = edition ++ plain 4 1 ++ fill 2 2 0 ++ load 0 255 0 ++ field 0x23 (2 ∷ 1 ∷ 1 ∷ 1 ∷ 4 ∷ 0 ∷ []);
       memory = 200 ∷ 100 ∷ 1 ∷ 2 ∷ [];
@@ -271,16 +271,16 @@ twoByTwo =
     }
 
 -- beside document 01's: blocks of 2, each coordinate divided and rounded down
-pub blocksOfTwo : Strip
-blocksOfTwo =
-    loadStrip (layout Undefined 0 (dimension 2 8 1 0 8 ∷ [])) [] 255 1 8 8 (accepted (0 ∷ 0 ∷ 1 ∷ 1 ∷ 2 ∷ 2 ∷ 3 ∷ 3 ∷ []))
+pub blocks_of_two : Strip
+blocks_of_two =
+    load_strip (layout Undefined 0 (dimension 2 8 1 0 8 ∷ [])) [] 255 1 8 8 (accepted (0 ∷ 0 ∷ 1 ∷ 1 ∷ 2 ∷ 2 ∷ 3 ∷ 3 ∷ []))
 
 -- document 02's T-01: a network of two layers, worked by hand in strips/13-two-layer-network
-pub twoLayers : Strip
-twoLayers =
+pub two_layers : Strip
+two_layers =
     record {
       sheet =
-          editionOf 2 ++ layout Undefined 0 (dimension 1 3 1 0 3 ∷ [])
+          edition_of 2 ++ layout Undefined 0 (dimension 1 3 1 0 3 ∷ [])
           ++ field 0x20 (0 ∷ 2 ∷ 1 ∷ 4 ∷ long 0)
           ++ field 0x21 (0 ∷ 255 ∷ 0 ∷ 255 ∷ long 0)
           ++ vector (1 ∷ 5 ∷ 0 ∷ 9 ∷ 1 ∷ 4 ∷ 6 ∷ 1 ∷ []) 4 8 0 0
@@ -291,134 +291,134 @@ twoLayers =
     }
 
 -- document 02's T-03: what is skipped of a load without an object is kept in edition 2, and 0 in edition 3
-pub noObjectKept : Strip
-noObjectKept =
-    noObjectStrip 2 (accepted (100 ∷ 100 ∷ 16 ∷ 17 ∷ 100 ∷ 100 ∷ 20 ∷ 21 ∷ []))
+pub no_object_kept : Strip
+no_object_kept =
+    no_object_strip 2 (accepted (100 ∷ 100 ∷ 16 ∷ 17 ∷ 100 ∷ 100 ∷ 20 ∷ 21 ∷ []))
 
-pub noObjectZeros : Strip
-noObjectZeros =
-    noObjectStrip 3 (accepted (0 ∷ 0 ∷ 16 ∷ 17 ∷ 0 ∷ 0 ∷ 20 ∷ 21 ∷ []))
+pub no_object_zeros : Strip
+no_object_zeros =
+    no_object_strip 3 (accepted (0 ∷ 0 ∷ 16 ∷ 17 ∷ 0 ∷ 0 ∷ 20 ∷ 21 ∷ []))
 
 pub strips : List Strip
 strips =
     constant
-    ∷ clampToEdge
+    ∷ clamp_to_edge
     ∷ repeated
     ∷ mirrored
-    ∷ mirroredOfOne
+    ∷ mirrored_of_one
     ∷ undefined
-    ∷ clampedStore
+    ∷ clamped_store
     ∷ permuted
     ∷ clipped
-    ∷ largeIndex
-    ∷ strideZeroSingle
-    ∷ strideZeroPair
-    ∷ twoByTwo
-    ∷ blocksOfTwo
-    ∷ twoLayers
-    ∷ noObjectKept
-    ∷ noObjectZeros
+    ∷ large_index
+    ∷ stride_zero_single
+    ∷ stride_zero_pair
+    ∷ two_by_two
+    ∷ blocks_of_two
+    ∷ two_layers
+    ∷ no_object_kept
+    ∷ no_object_zeros
     ∷ []
 
 -- what carrying out gives for a strip; to unfold it is to unfold all that a strip is made of and all that carrying out rests on
 pub found : Strip → Answer
-unfolding word long field editionOf edition layout dimension view fill load store vector noObjectStrip network Undefined Constant ClampToEdge Repeat MirrorRepeat countingFrom counting loadStrip storeStrip edged edgeStrip plain pick both between all line Little.u16At Little.u32_at width bytes_of fits elementAt withElement Editions.noObject Editions.tagKnown Editions.limits Editions.fillLength Sizes.offsetOk Codes.clampMode Codes.reduceMode Codes.combineOf Codes.memoryLayout Codes.objectOf Codes.viewingOf Layouts.no_layout Layouts.dimensionOk Layouts.dimensionUnused Layouts.dimensionAtOk Layouts.layoutOk Layouts.layoutUnused Views.no_view Views.fresh Views.entryOk Views.viewDimensionUnused Views.viewDimensionAtOk Views.sizedRank Views.viewOk Views.clipUnused Views.viewUnused model.fillOk model.windowOk model.loadOk model.storeOk model.reduceOk model.transposeOk model.multiplyOk model.biasOk model.vectorOk interpretationOk Sheets.noTensors Sheets.emptySheet Fields.field_at Contents.dimensionAt Contents.dimensionsAt Contents.layoutAt Contents.layoutLengthOk Contents.layoutHeadOk Contents.permutationAt Contents.viewDimensionAt Contents.viewDimensionsAt Contents.clipAt Contents.view_of Contents.viewAt Contents.viewLengthOk Contents.viewHeadOk stepContents.fillAt stepContents.windowAt stepContents.loadAt stepContents.storeAt stepContents.reduceAt stepContents.transposeAt stepContents.multiplyAt stepContents.vectorNumbers stepContents.vectorAt stepContents.stepAt stepContents.stepLength Reading.layoutMayCome Reading.viewMayCome Reading.stepMayCome Reading.editionRefusal Reading.layoutRefusal Reading.viewRefusal Reading.stepRefusal Reading.fieldRefusal Reading.withField Reading.refusedRead Reading.acceptedRead Reading.endRead Reading.turnField Reading.turn Reading.after_turn Reading.readFrom Reading.readSheet emptyRegisters Combining.folded Rules.outsideClip Rules.outsideView Rules.indexed Indices.rowMajor Indices.viewSizes Indices.viewStrides Indices.coordinates Indices.viewCoordinates Indices.weighted Indices.viewIndex Spans.spanCoordinates value taken negative Clamps.turnedBack Clamps.mirrored Clamps.outside Clamps.clamped Rules.part Rules.tensorIndex Rules.addressed Rules.reached Rules.located accesses.elementOutcome accesses.otherRank accesses.blocksOne accesses.storeBlocked accesses.firstRefused clashes.meets clashes.clashFrom accesses.clashRefusal accesses.elementsRefusal accesses.accessRefusal accesses.placedCount accesses.checkedElements Grids.blank Grids.block Reducing.reduced shapes.reduceRefusal firstFrom sumZ Places.rowStep Places.columnStep Places.elementsOf Places.end_of vectors.inputAgrees vectors.memoryRefusal vectors.vectorRefusal Saturation.below Saturation.above Saturation.saturated Components.packedKind Components.componentAt Results.biasAt Results.result_at transferred checks.accessCheck checks.checkedStep steps.withObject steps.loadDone steps.storeDone steps.performedStep checkedFrom checked checkedSheet performedFrom performed carried carriedMemory
+unfolding word long field edition_of edition layout dimension view fill load store vector no_object_strip network Undefined Constant ClampToEdge Repeat MirrorRepeat counting_from counting load_strip store_strip edged edge_strip plain pick both between all line Little.u16_at Little.u32_at width bytes_of fits element_at with_element Editions.no_object Editions.tag_known Editions.limits Editions.fill_length Sizes.offset_ok Codes.clamp_mode Codes.reduce_mode Codes.combine_of Codes.memory_layout Codes.object_of Codes.viewing_of Layouts.no_layout Layouts.dimension_ok Layouts.dimension_unused Layouts.dimension_at_ok Layouts.layout_ok Layouts.layout_unused Views.no_view Views.fresh Views.entry_ok Views.view_dimension_unused Views.view_dimension_at_ok Views.sized_rank Views.view_ok Views.clip_unused Views.view_unused model.fill_ok model.window_ok model.load_ok model.store_ok model.reduce_ok model.transpose_ok model.multiply_ok model.bias_ok model.vector_ok interpretation_ok Sheets.no_tensors Sheets.empty_sheet Fields.field_at Contents.dimension_at Contents.dimensions_at Contents.layout_at Contents.layout_length_ok Contents.layout_head_ok Contents.permutation_at Contents.view_dimension_at Contents.view_dimensions_at Contents.clip_at Contents.view_of Contents.view_at Contents.view_length_ok Contents.view_head_ok stepContents.fill_at stepContents.window_at stepContents.load_at stepContents.store_at stepContents.reduce_at stepContents.transpose_at stepContents.multiply_at stepContents.vector_numbers stepContents.vector_at stepContents.step_at stepContents.step_length Reading.layout_may_come Reading.view_may_come Reading.step_may_come Reading.edition_refusal Reading.layout_refusal Reading.view_refusal Reading.step_refusal Reading.field_refusal Reading.with_field Reading.refused_read Reading.accepted_read Reading.end_read Reading.turn_field Reading.turn Reading.after_turn Reading.read_from Reading.read_sheet empty_registers Combining.folded Rules.outside_clip Rules.outside_view Rules.indexed Indices.row_major Indices.view_sizes Indices.view_strides Indices.coordinates Indices.view_coordinates Indices.weighted Indices.view_index Spans.span_coordinates value taken negative Clamps.turned_back Clamps.mirrored Clamps.outside Clamps.clamped Rules.part Rules.tensor_index Rules.addressed Rules.reached Rules.located accesses.element_outcome accesses.other_rank accesses.blocks_one accesses.store_blocked accesses.first_refused clashes.meets clashes.clash_from accesses.clash_refusal accesses.elements_refusal accesses.access_refusal accesses.placed_count accesses.checked_elements Grids.blank Grids.block Reducing.reduced shapes.reduce_refusal first_from sum_z Places.row_step Places.column_step Places.elements_of Places.end_of vectors.input_agrees vectors.memory_refusal vectors.vector_refusal Saturation.below Saturation.above Saturation.saturated Components.packed_kind Components.component_at Results.bias_at Results.result_at transferred checks.access_check checks.checked_step steps.with_object steps.load_done steps.store_done steps.performed_step checked_from checked checked_sheet performed_from performed carried carried_memory
 found s =
     let r = carried s.sheet s.memory in
     pick (eqb r.refusal.number 0)
-    (accepted (asked s.question r.registers.elements (carriedMemory s.sheet s.memory)))
+    (accepted (asked s.question r.registers.elements (carried_memory s.sheet s.memory)))
     (refused r.refusal)
 
 -- each strip gives what is wanted, by computation
-constant-right : found constant ≡ constant.wanted
+constant_right : found constant ≡ constant.wanted
 unfolding found constant
-constant-right = refl
+constant_right = refl
 
-clamp-to-edge-right : found clampToEdge ≡ clampToEdge.wanted
-unfolding found clampToEdge
-clamp-to-edge-right = refl
+clamp_to_edge_right : found clamp_to_edge ≡ clamp_to_edge.wanted
+unfolding found clamp_to_edge
+clamp_to_edge_right = refl
 
-repeated-right : found repeated ≡ repeated.wanted
+repeated_right : found repeated ≡ repeated.wanted
 unfolding found repeated
-repeated-right = refl
+repeated_right = refl
 
-mirrored-right : found mirrored ≡ mirrored.wanted
+mirrored_right : found mirrored ≡ mirrored.wanted
 unfolding found mirrored
-mirrored-right = refl
+mirrored_right = refl
 
-mirrored-of-one-right : found mirroredOfOne ≡ mirroredOfOne.wanted
-unfolding found mirroredOfOne
-mirrored-of-one-right = refl
+mirrored_of_one_right : found mirrored_of_one ≡ mirrored_of_one.wanted
+unfolding found mirrored_of_one
+mirrored_of_one_right = refl
 
-undefined-right : found undefined ≡ undefined.wanted
+undefined_right : found undefined ≡ undefined.wanted
 unfolding found undefined
-undefined-right = refl
+undefined_right = refl
 
-clamped-store-right : found clampedStore ≡ clampedStore.wanted
-unfolding found clampedStore
-clamped-store-right = refl
+clamped_store_right : found clamped_store ≡ clamped_store.wanted
+unfolding found clamped_store
+clamped_store_right = refl
 
-permuted-right : found permuted ≡ permuted.wanted
+permuted_right : found permuted ≡ permuted.wanted
 unfolding found permuted
-permuted-right = refl
+permuted_right = refl
 
-clipped-right : found clipped ≡ clipped.wanted
+clipped_right : found clipped ≡ clipped.wanted
 unfolding found clipped
-clipped-right = refl
+clipped_right = refl
 
-large-index-right : found largeIndex ≡ largeIndex.wanted
-unfolding found largeIndex
-large-index-right = refl
+large_index_right : found large_index ≡ large_index.wanted
+unfolding found large_index
+large_index_right = refl
 
-stride-zero-single-right : found strideZeroSingle ≡ strideZeroSingle.wanted
-unfolding found strideZeroSingle
-stride-zero-single-right = refl
+stride_zero_single_right : found stride_zero_single ≡ stride_zero_single.wanted
+unfolding found stride_zero_single
+stride_zero_single_right = refl
 
-stride-zero-pair-right : found strideZeroPair ≡ strideZeroPair.wanted
-unfolding found strideZeroPair
-stride-zero-pair-right = refl
+stride_zero_pair_right : found stride_zero_pair ≡ stride_zero_pair.wanted
+unfolding found stride_zero_pair
+stride_zero_pair_right = refl
 
-two-by-two-right : found twoByTwo ≡ twoByTwo.wanted
-unfolding found twoByTwo
-two-by-two-right = refl
+two_by_two_right : found two_by_two ≡ two_by_two.wanted
+unfolding found two_by_two
+two_by_two_right = refl
 
-blocks-of-two-right : found blocksOfTwo ≡ blocksOfTwo.wanted
-unfolding found blocksOfTwo
-blocks-of-two-right = refl
+blocks_of_two_right : found blocks_of_two ≡ blocks_of_two.wanted
+unfolding found blocks_of_two
+blocks_of_two_right = refl
 
-two-layers-right : found twoLayers ≡ twoLayers.wanted
-unfolding found twoLayers
-two-layers-right = refl
+two_layers_right : found two_layers ≡ two_layers.wanted
+unfolding found two_layers
+two_layers_right = refl
 
-no-object-kept-right : found noObjectKept ≡ noObjectKept.wanted
-unfolding found noObjectKept
-no-object-kept-right = refl
+no_object_kept_right : found no_object_kept ≡ no_object_kept.wanted
+unfolding found no_object_kept
+no_object_kept_right = refl
 
-no-object-zeros-right : found noObjectZeros ≡ noObjectZeros.wanted
-unfolding found noObjectZeros
-no-object-zeros-right = refl
+no_object_zeros_right : found no_object_zeros ≡ no_object_zeros.wanted
+unfolding found no_object_zeros
+no_object_zeros_right = refl
 
 -- so all of them do
 also : {x y : Answer} {xs ys : List Answer} → x ≡ y → xs ≡ ys → x ∷ xs ≡ y ∷ ys
 also p q = ap₂ ◌∷◌ p q
 
-pub strips-right : map found strips ≡ map (λ (s : Strip). s.wanted) strips
+pub strips_right : map found strips ≡ map (λ (s : Strip). s.wanted) strips
 unfolding strips
-strips-right =
-    (also constant-right
-    (also clamp-to-edge-right
-    (also repeated-right
-    (also mirrored-right
-    (also mirrored-of-one-right
-    (also undefined-right
-    (also clamped-store-right
-    (also permuted-right
-    (also clipped-right
-    (also large-index-right
-    (also stride-zero-single-right
-    (also stride-zero-pair-right
-    (also two-by-two-right
-    (also blocks-of-two-right
-    (also two-layers-right
-    (also no-object-kept-right
-    (also no-object-zeros-right refl)))))))))))))))))
+strips_right =
+    (also constant_right
+    (also clamp_to_edge_right
+    (also repeated_right
+    (also mirrored_right
+    (also mirrored_of_one_right
+    (also undefined_right
+    (also clamped_store_right
+    (also permuted_right
+    (also clipped_right
+    (also large_index_right
+    (also stride_zero_single_right
+    (also stride_zero_pair_right
+    (also two_by_two_right
+    (also blocks_of_two_right
+    (also two_layers_right
+    (also no_object_kept_right
+    (also no_object_zeros_right refl)))))))))))))))))

@@ -1,13 +1,13 @@
 // Layouts: the unused one, and what a layout must keep to.
 ghost use Rattle.std.specs.Prelude.{◌≡◌, ◌≤◌, ◌<◌};
-ghost use Rattle.sheet.specs.Sizes.{rankPlaces};
-ghost use Rattle.tensor_ranges.specs.Layouts.{noDimension, no_layout, dimensionOk, dimensionUnused, dimensionAtOk, dimensionsOk, layoutOk, layoutUnused};
+ghost use Rattle.sheet.specs.Sizes.{rank_places};
+ghost use Rattle.tensor_ranges.specs.Layouts.{no_dimension, no_layout, dimension_ok, dimension_unused, dimension_at_ok, dimensions_ok, layout_ok, layout_unused};
 
 use sheet::sizes::RANK;
 use sheet::{ClampMode, Dimension, Layout, codes, sizes};
 
 pub fn no_dimension() -> Dimension
-    ensures { result ≡ noDimension }
+    ensures { result ≡ no_dimension }
 {
     Dimension {
         block: 0,
@@ -32,7 +32,7 @@ pub fn no_layout() -> Layout
 
 // Any stride of 16 bits is within Sizes.
 fn dimension_ok(d: Dimension) -> bool
-    ensures { result ≡ dimensionOk d }
+    ensures { result ≡ dimension_ok d }
 {
     if !sizes::size_ok(d.block) {
         return false;
@@ -47,7 +47,7 @@ fn dimension_ok(d: Dimension) -> bool
 }
 
 fn dimension_unused(d: Dimension) -> bool
-    ensures { result ≡ dimensionUnused d }
+    ensures { result ≡ dimension_unused d }
 {
     if d.block != 0 {
         return false;
@@ -65,8 +65,8 @@ fn dimension_unused(d: Dimension) -> bool
 }
 
 fn dimension_at_ok(rank: u8, ds: [Dimension; RANK], k: usize) -> bool
-    requires { k < rankPlaces }
-    ensures { result ≡ dimensionAtOk rank ds k }
+    requires { k < rank_places }
+    ensures { result ≡ dimension_at_ok rank ds k }
 {
     let d = ds[k];
     if k < rank as usize {
@@ -78,7 +78,7 @@ fn dimension_at_ok(rank: u8, ds: [Dimension; RANK], k: usize) -> bool
 
 // Of the places the first `rank` hold a dimension, the others nothing.
 fn dimensions_ok(rank: u8, ds: [Dimension; RANK]) -> bool
-    ensures { result ≡ dimensionsOk rank ds }
+    ensures { result ≡ dimensions_ok rank ds }
 {
     let mut k = 0;
     while k < RANK {
@@ -91,7 +91,7 @@ fn dimensions_ok(rank: u8, ds: [Dimension; RANK]) -> bool
 }
 
 pub fn layout_ok(l: Layout) -> bool
-    ensures { result ≡ layoutOk l }
+    ensures { result ≡ layout_ok l }
 {
     let rank = l.rank;
     if !sizes::rank_ok(rank) {
@@ -102,7 +102,7 @@ pub fn layout_ok(l: Layout) -> bool
 }
 
 pub fn layout_unused(l: Layout) -> bool
-    ensures { result ≡ layoutUnused l }
+    ensures { result ≡ layout_unused l }
 {
     if l.rank != 0 {
         return false;

@@ -1,19 +1,19 @@
 // Views: the unused one, and what a view must keep to.
 ghost use Rattle.std.specs.Prelude.{◌≡◌, ◌≤◌, ◌<◌};
-ghost use Rattle.sheet.specs.Sizes.{rankPlaces};
-ghost use Rattle.tensor_ranges.specs.Views.{noViewDimension, noClip, no_view, fresh, entryOk, permutationOk, viewDimensionUnused, viewDimensionAtOk, viewDimensionsOk, sizedRank, viewOk, clipUnused, viewUnused};
+ghost use Rattle.sheet.specs.Sizes.{rank_places};
+ghost use Rattle.tensor_ranges.specs.Views.{no_view_dimension, no_clip, no_view, fresh, entry_ok, permutation_ok, view_dimension_unused, view_dimension_at_ok, view_dimensions_ok, sized_rank, view_ok, clip_unused, view_unused};
 
 use sheet::sizes::RANK;
 use sheet::{Clip, View, ViewDimension, sizes};
 
 pub fn no_view_dimension() -> ViewDimension
-    ensures { result ≡ noViewDimension }
+    ensures { result ≡ no_view_dimension }
 {
     ViewDimension { size: 0, stride: 0 }
 }
 
 fn no_clip() -> Clip
-    ensures { result ≡ noClip }
+    ensures { result ≡ no_clip }
 {
     Clip { offset: 0, span: 0 }
 }
@@ -35,7 +35,7 @@ pub fn no_view() -> View
 
 // Entry k differs from each one before it.
 fn fresh(p: [u8; RANK], k: usize) -> bool
-    requires { k < rankPlaces }
+    requires { k < rank_places }
     ensures { result ≡ fresh p k }
 {
     let mut j = 0;
@@ -49,8 +49,8 @@ fn fresh(p: [u8; RANK], k: usize) -> bool
 }
 
 fn entry_ok(rank: u8, p: [u8; RANK], k: usize) -> bool
-    requires { k < rankPlaces }
-    ensures { result ≡ entryOk rank p k }
+    requires { k < rank_places }
+    ensures { result ≡ entry_ok rank p k }
 {
     let e = p[k];
     if k < rank as usize {
@@ -64,7 +64,7 @@ fn entry_ok(rank: u8, p: [u8; RANK], k: usize) -> bool
 
 // Of the places the first `rank` hold each number below it once, the others 0.
 fn permutation_ok(rank: u8, p: [u8; RANK]) -> bool
-    ensures { result ≡ permutationOk rank p }
+    ensures { result ≡ permutation_ok rank p }
 {
     let mut k = 0;
     while k < RANK {
@@ -77,7 +77,7 @@ fn permutation_ok(rank: u8, p: [u8; RANK]) -> bool
 }
 
 fn view_dimension_unused(d: ViewDimension) -> bool
-    ensures { result ≡ viewDimensionUnused d }
+    ensures { result ≡ view_dimension_unused d }
 {
     if d.size != 0 {
         return false;
@@ -87,8 +87,8 @@ fn view_dimension_unused(d: ViewDimension) -> bool
 
 // Any stride of 16 bits is within Sizes.
 fn view_dimension_at_ok(count: u8, ds: [ViewDimension; RANK], k: usize) -> bool
-    requires { k < rankPlaces }
-    ensures { result ≡ viewDimensionAtOk count ds k }
+    requires { k < rank_places }
+    ensures { result ≡ view_dimension_at_ok count ds k }
 {
     let d = ds[k];
     if k < count as usize {
@@ -100,7 +100,7 @@ fn view_dimension_at_ok(count: u8, ds: [ViewDimension; RANK], k: usize) -> bool
 
 // Of the places the first `count` hold a view dimension, the others nothing.
 fn view_dimensions_ok(count: u8, ds: [ViewDimension; RANK]) -> bool
-    ensures { result ≡ viewDimensionsOk count ds }
+    ensures { result ≡ view_dimensions_ok count ds }
 {
     let mut k = 0;
     while k < RANK {
@@ -114,14 +114,14 @@ fn view_dimensions_ok(count: u8, ds: [ViewDimension; RANK]) -> bool
 
 // How many dimensions and strides of its own a view has.
 pub fn sized_rank(sized: bool, rank: u8) -> u8
-    ensures { result ≡ sizedRank sized rank }
+    ensures { result ≡ sized_rank sized rank }
 {
     if sized { rank } else { 0 }
 }
 
 // Any clip of four 16-bit numbers is within Sizes.
 pub fn view_ok(v: View) -> bool
-    ensures { result ≡ viewOk v }
+    ensures { result ≡ view_ok v }
 {
     let rank = v.rank;
     if !sizes::rank_ok(rank) {
@@ -136,7 +136,7 @@ pub fn view_ok(v: View) -> bool
 }
 
 fn clip_unused(c: Clip) -> bool
-    ensures { result ≡ clipUnused c }
+    ensures { result ≡ clip_unused c }
 {
     if c.offset != 0 {
         return false;
@@ -145,7 +145,7 @@ fn clip_unused(c: Clip) -> bool
 }
 
 pub fn view_unused(v: View) -> bool
-    ensures { result ≡ viewUnused v }
+    ensures { result ≡ view_unused v }
 {
     if v.rank != 0 {
         return false;

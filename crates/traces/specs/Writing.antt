@@ -1,17 +1,17 @@
 -- The bytes of a trace: a field for each event.
 use Rattle.std.specs.Prelude.{ℕ, List, [], ◌∷◌, ◌++◌}
-use Rattle.numbers.specs.Little.{u16Bytes, u32Bytes}
-use Rattle.fields.specs.Bytes.{fieldBytes}
-use Rattle.traces.specs.Events.{eventTag}
+use Rattle.numbers.specs.Little.{u16_bytes, u32_bytes}
+use Rattle.fields.specs.Bytes.{field_bytes}
+use Rattle.traces.specs.Events.{event_tag}
 use Rattle.traces.specs.declared.Event.{Event}
 
 -- step 2, element 2, sort 1, byte 4
-abbrev pub contentBytes : Event → List ℕ
-contentBytes e = u16Bytes e.step ++ u16Bytes e.element ++ (e.sort ∷ []) ++ u32Bytes e.byte
+abbrev pub content_bytes : Event → List ℕ
+content_bytes e = u16_bytes e.step ++ u16_bytes e.element ++ (e.sort ∷ []) ++ u32_bytes e.byte
 
-unfoldable pub eventBytes : Event → List ℕ
-eventBytes e = fieldBytes eventTag (contentBytes e)
+unfoldable pub event_bytes : Event → List ℕ
+event_bytes e = field_bytes event_tag (content_bytes e)
 
-unfoldable pub traceBytes : List Event → List ℕ
-traceBytes [] = []
-traceBytes (e ∷ es) = eventBytes e ++ traceBytes es
+unfoldable pub trace_bytes : List Event → List ℕ
+trace_bytes [] = []
+trace_bytes (e ∷ es) = event_bytes e ++ trace_bytes es

@@ -1,10 +1,10 @@
 // A card's address trace in tagged fields: one field for each element of a load or a store.
 ghost use Rattle.std.specs.Prelude.{◌≡◌, ◌+◌, ◌/◌, ◌≤◌, ◌<◌, length};
 ghost use Rattle.std.proofs.lemmas.List.Edits.{sets};
-ghost use Rattle.traces.specs.Events.{contentLength, eventLength, eventAt, eventOk, isAfter, sameEvent};
-ghost use Rattle.traces.specs.Reading.{fieldRefusal, readTrace};
-ghost use Rattle.traces.specs.Writing.{eventBytes};
-ghost use Rattle.traces.specs.Numbered.{eventIn};
+ghost use Rattle.traces.specs.Events.{content_length, event_length, event_at, event_ok, is_after, same_event};
+ghost use Rattle.traces.specs.Reading.{field_refusal, read_trace};
+ghost use Rattle.traces.specs.Writing.{event_bytes};
+ghost use Rattle.traces.specs.Numbered.{event_in};
 
 use fields::{Cursor, Field, HEAD, writing};
 use refusals::{BEYOND_SIZES, CUT_SHORT, NOT_AFTER, Refusal, UNKNOWN_TAG, WRONG_LENGTH};
@@ -43,8 +43,8 @@ pub enum Previous {
 
 // The event that a field's content says.
 fn event_at(s: &[u8], p: usize) -> Event
-    requires { p + contentLength ≤ length s.now }
-    ensures { result ≡ eventAt s.now p }
+    requires { p + content_length ≤ length s.now }
+    ensures { result ≡ event_at s.now p }
 {
     Event {
         step: numbers::u16_at(s, p),
@@ -55,7 +55,7 @@ fn event_at(s: &[u8], p: usize) -> Event
 }
 
 fn event_ok(e: Event) -> bool
-    ensures { result ≡ eventOk e }
+    ensures { result ≡ event_ok e }
 {
     if e.sort == BYTE {
         return true;
@@ -68,7 +68,7 @@ fn event_ok(e: Event) -> bool
 
 // By step, then by element.
 fn is_after(previous: Previous, e: Event) -> bool
-    ensures { result ≡ isAfter previous e }
+    ensures { result ≡ is_after previous e }
 {
     match previous {
         Previous::None => true,
@@ -83,7 +83,7 @@ fn is_after(previous: Previous, e: Event) -> bool
 }
 
 pub fn same_event(x: Event, y: Event) -> bool
-    ensures { result ≡ sameEvent x y }
+    ensures { result ≡ same_event x y }
 {
     if x.step != y.step {
         return false;
@@ -100,7 +100,7 @@ pub fn same_event(x: Event, y: Event) -> bool
 // The number of a field's refusal, 0 for none.
 fn field_refusal(s: &[u8], tag: u8, start: usize, len: usize, previous: Previous) -> u8
     requires { start + len ≤ length s.now }
-    ensures { result ≡ fieldRefusal s.now tag start len previous }
+    ensures { result ≡ field_refusal s.now tag start len previous }
 {
     if tag != EVENT_TAG {
         return UNKNOWN_TAG;
@@ -120,7 +120,7 @@ fn field_refusal(s: &[u8], tag: u8, start: usize, len: usize, previous: Previous
 
 // The refusal of the first field that is refused. A trace is judged to its end before it is compared.
 pub fn judge_trace(s: &[u8]) -> Refusal
-    ensures { result ≡ (readTrace s.now).refusal }
+    ensures { result ≡ (read_trace s.now).refusal }
 {
     let mut c = Cursor { at: 0 };
     let mut previous = Previous::None;
@@ -147,16 +147,16 @@ pub fn judge_trace(s: &[u8]) -> Refusal
 
 // Event i of a trace that is not refused, each field of which has the same length.
 pub fn event_in(s: &[u8], i: usize) -> Event
-    requires { i < length s.now / eventLength }
-    ensures { result ≡ eventIn s.now i }
+    requires { i < length s.now / event_length }
+    ensures { result ≡ event_in s.now i }
 {
     event_at(s, i * EVENT_LEN + HEAD)
 }
 
 // Writes an event's field from byte `at` on.
 pub fn put_event(out: &mut [u8], at: usize, e: Event)
-    requires { at + eventLength ≤ length out.old }
-    ensures { out.new ≡ sets out.old at (eventBytes e) }
+    requires { at + event_length ≤ length out.old }
+    ensures { out.new ≡ sets out.old at (event_bytes e) }
 {
     writing::put_head(out, at, EVENT_TAG, CONTENT_LEN as u16);
     writing::put_u16s(out, at + HEAD, e.step, e.element);

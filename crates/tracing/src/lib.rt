@@ -1,14 +1,14 @@
 // Writes the trace that a sheet makes: the check, the number of events, then their fields.
 ghost use Rattle.std.specs.Prelude.{◌≡◌, ◌+◌, ◌*◌, ◌<◌, ◌≤◌, length};
 ghost use Rattle.std.proofs.lemmas.List.Edits.{sets};
-ghost use Rattle.sheet.specs.Sizes.{stepPlaces, matrixPlaces, memoryLimit};
-ghost use Rattle.sheet_reader.specs.Parts.{sheetOf, Outlined};
+ghost use Rattle.sheet.specs.Sizes.{step_places, matrix_places, memory_limit};
+ghost use Rattle.sheet_reader.specs.Parts.{sheet_of, Outlined};
 ghost use Rattle.checking.specs.Checking.{checked};
-ghost use Rattle.traces.specs.Events.{eventLength};
-ghost use Rattle.traces.specs.Writing.{traceBytes};
+ghost use Rattle.traces.specs.Events.{event_length};
+ghost use Rattle.traces.specs.Writing.{trace_bytes};
 ghost use Rattle.expected.specs.Expected.{expected};
-ghost use Rattle.expected.specs.Listed.{listedEvents};
-ghost use Rattle.tracing.specs.Tracing.{traceAnswer, traced, tracedRoom};
+ghost use Rattle.expected.specs.Listed.{listed_events};
+ghost use Rattle.tracing.specs.Tracing.{trace_answer, traced, traced_room};
 
 use checking::{checks, turns};
 use refusals::{ROOM_TOO_SHORT, Refusal};
@@ -25,8 +25,8 @@ pub struct TraceAnswer {
 
 // How many events an accepted sheet has.
 fn count_trace(s: &[u8], parts: &[usize; PARTS], given: Given, memory: usize) -> usize
-    requires { Outlined s.now parts.now given × (memory ≤ memoryLimit) × ((checked (sheetOf s.now) memory).refusal.number ≡ 0) }
-    ensures { (result ≡ length (expected (sheetOf s.now) memory)) × (result ≤ stepPlaces * matrixPlaces) }
+    requires { Outlined s.now parts.now given × (memory ≤ memory_limit) × ((checked (sheet_of s.now) memory).refusal.number ≡ 0) }
+    ensures { (result ≡ length (expected (sheet_of s.now) memory)) × (result ≤ step_places * matrix_places) }
 {
     let mut types = registers::empty_types();
     let mut count: usize = 0;
@@ -45,8 +45,8 @@ fn count_trace(s: &[u8], parts: &[usize; PARTS], given: Given, memory: usize) ->
 
 // Writes the fields of a step's events from byte `at` on.
 fn write_events(out: &mut [u8], at: usize, entries: &[u32; PLACES], count: usize, step: usize)
-    requires { (at + count * eventLength ≤ length out.old) × (step < stepPlaces) × (count ≤ matrixPlaces) }
-    ensures { out.new ≡ sets out.old at (traceBytes (listedEvents step entries.now count)) }
+    requires { (at + count * event_length ≤ length out.old) × (step < step_places) × (count ≤ matrix_places) }
+    ensures { out.new ≡ sets out.old at (trace_bytes (listed_events step entries.now count)) }
 {
     let mut k: usize = 0;
     while k < count {
@@ -58,9 +58,9 @@ fn write_events(out: &mut [u8], at: usize, entries: &[u32; PLACES], count: usize
 
 // The steps in order, from empty registers and the start of the room.
 fn write_trace(out: &mut [u8], s: &[u8], parts: &[usize; PARTS], given: Given, memory: usize)
-    requires outlined { Outlined s.now parts.now given × (memory ≤ memoryLimit) × ((checked (sheetOf s.now) memory).refusal.number ≡ 0) }
-    requires event_length_in_bounds { length (expected (sheetOf s.now) memory) * eventLength ≤ length out.old }
-    ensures { out.new ≡ sets out.old 0 (traceBytes (expected (sheetOf s.now) memory)) }
+    requires outlined { Outlined s.now parts.now given × (memory ≤ memory_limit) × ((checked (sheet_of s.now) memory).refusal.number ≡ 0) }
+    requires event_length_in_bounds { length (expected (sheet_of s.now) memory) * event_length ≤ length out.old }
+    ensures { out.new ≡ sets out.old 0 (trace_bytes (expected (sheet_of s.now) memory)) }
 {
     let mut entries = accesses::no_entries();
     let mut types = registers::empty_types();
@@ -80,7 +80,7 @@ fn write_trace(out: &mut [u8], s: &[u8], parts: &[usize; PARTS], given: Given, m
 }
 
 fn trace_refused(refusal: Refusal) -> TraceAnswer
-    ensures { result ≡ traceAnswer refusal 0 }
+    ensures { result ≡ trace_answer refusal 0 }
 {
     TraceAnswer { refusal, bytes: 0 }
 }
@@ -88,7 +88,7 @@ fn trace_refused(refusal: Refusal) -> TraceAnswer
 // Writes what a card should record of a sheet in a memory of a length. Refused: the room is unchanged.
 pub fn trace(sheet: &[u8], memory_len: usize, out: &mut [u8]) -> TraceAnswer
     ensures value { result ≡ traced sheet.now memory_len (length out.old) }
-    ensures out_after { out.new ≡ tracedRoom sheet.now memory_len out.old }
+    ensures out_after { out.new ≡ traced_room sheet.now memory_len out.old }
 {
     let mut parts = sheet_parts::no_parts();
     let judged = checking::judge(sheet, &mut parts, memory_len);

@@ -2,9 +2,9 @@
 use Rattle.std.specs.Prelude.{ℕ, ◌+◌, ◌<◌, ◌≤◌, List}
 use Rattle.outcomes.specs.declared.Outcome.{Outcome}
 use Rattle.outcomes.specs.declared.Outcome.TheVariants.{Skipped, Filled, Discarded, Placed}
-use Rattle.memory.specs.Elements.{elementAt, withElement}
-use Rattle.registers.specs.Registers.{elementOf, withElementOf}
-use Rattle.counts.specs.Counts.{onePlaced}
+use Rattle.memory.specs.Elements.{element_at, with_element}
+use Rattle.registers.specs.Registers.{element_of, with_element_of}
+use Rattle.counts.specs.Counts.{one_placed}
 use Rattle.counts.specs.declared.Counts.{Counts}
 
 -- what elements move between, and what is counted
@@ -20,21 +20,21 @@ state elements memory counts = record { elements = elements; memory = memory; co
 abbrev pub took : ℕ → ℕ → ℕ → ℕ → State → State
 took size register element byte s =
     record {
-      elements = withElementOf s.elements register element (elementAt s.memory byte size);
+      elements = with_element_of s.elements register element (element_at s.memory byte size);
       memory = s.memory;
-      counts = onePlaced s.counts;
+      counts = one_placed s.counts;
     }
 
 abbrev pub gave : ℕ → ℕ → ℕ → State → State
 gave register element bits s =
-    record { elements = withElementOf s.elements register element bits; memory = s.memory; counts = s.counts }
+    record { elements = with_element_of s.elements register element bits; memory = s.memory; counts = s.counts }
 
 abbrev pub put : ℕ → ℕ → ℕ → ℕ → State → State
 put size register element byte s =
     record {
       elements = s.elements;
-      memory = withElement s.memory byte size (elementOf s.elements register element);
-      counts = onePlaced s.counts;
+      memory = with_element s.memory byte size (element_of s.elements register element);
+      counts = one_placed s.counts;
     }
 
 -- on a load a skipped element keeps the object's, which the register holds already

@@ -1,13 +1,13 @@
 // Elements between registers and memory.
 ghost use Rattle.std.specs.Prelude.{◌≡◌, ◌<◌, ◌^◌, length};
-ghost use Rattle.sheet.specs.Sizes.{registerCount, matrixPlaces};
+ghost use Rattle.sheet.specs.Sizes.{register_count, matrix_places};
 ghost use Rattle.addressing.specs.Valid.{Planned};
 ghost use Rattle.kinds.specs.Laws.Widths.{ElementSize};
-ghost use Rattle.accesses.specs.Refusals.{accessRefusal};
-ghost use Rattle.counts.specs.Counts.{morePlaced};
+ghost use Rattle.accesses.specs.Refusals.{access_refusal};
+ghost use Rattle.counts.specs.Counts.{more_placed};
 ghost use Rattle.counts.specs.declared.Counts.{Counts};
 ghost use Rattle.transfers.specs.Acts.{state, loaded, stored, Inside};
-ghost use Rattle.transfers.specs.Transfers.{loadedElements, storedElements};
+ghost use Rattle.transfers.specs.Transfers.{loaded_elements, stored_elements};
 
 use addressing::Plan;
 use counts::Counts;
@@ -24,9 +24,9 @@ pub fn load_element(
     o: Outcome,
     placed: usize,
 ) -> usize
-    requires register_lt_register_count { (register < registerCount) × (element < matrixPlaces) × (placed < 2 ^ 32) × ElementSize size }
+    requires register_lt_register_count { (register < register_count) × (element < matrix_places) × (placed < 2 ^ 32) × ElementSize size }
     requires inside { Inside size (length memory.now) o }
-    ensures { (c : Counts) → state elements.new memory.now (morePlaced c result) ≡ loaded size register element o (state elements.old memory.now (morePlaced c placed)) }
+    ensures { (c : Counts) → state elements.new memory.now (more_placed c result) ≡ loaded size register element o (state elements.old memory.now (more_placed c placed)) }
 {
     match o {
         Outcome::Skipped => placed,
@@ -53,9 +53,9 @@ pub fn store_element(
     o: Outcome,
     placed: usize,
 ) -> usize
-    requires register_lt_register_count { (register < registerCount) × (element < matrixPlaces) × (placed < 2 ^ 32) × ElementSize size }
+    requires register_lt_register_count { (register < register_count) × (element < matrix_places) × (placed < 2 ^ 32) × ElementSize size }
     requires inside { Inside size (length memory.old) o }
-    ensures { (c : Counts) → state elements.now memory.new (morePlaced c result) ≡ stored size register element o (state elements.now memory.old (morePlaced c placed)) }
+    ensures { (c : Counts) → state elements.now memory.new (more_placed c result) ≡ stored size register element o (state elements.now memory.old (more_placed c placed)) }
 {
     match o {
         Outcome::Skipped => placed,
@@ -78,10 +78,10 @@ pub fn load_elements(
     register: u8,
     counted: Counts,
 ) -> Counts
-    requires planned { Planned p × ((accessRefusal p.access).number ≡ 0) × (p.access.memory ≡ length memory.now) }
-    requires register_lt_register_count { (register < registerCount) × (counted.placed < 2 ^ 31) × (length entries.old ≡ matrixPlaces) }
-    ensures entries_len { length entries.new ≡ matrixPlaces }
-    ensures result_after { state elements.new memory.now result ≡ loadedElements p.access register (state elements.old memory.now counted) }
+    requires planned { Planned p × ((access_refusal p.access).number ≡ 0) × (p.access.memory ≡ length memory.now) }
+    requires register_lt_register_count { (register < register_count) × (counted.placed < 2 ^ 31) × (length entries.old ≡ matrix_places) }
+    ensures entries_len { length entries.new ≡ matrix_places }
+    ensures result_after { state elements.new memory.now result ≡ loaded_elements p.access register (state elements.old memory.now counted) }
 {
     let size = p.access.size;
     let fill = p.fill;
@@ -106,10 +106,10 @@ pub fn store_elements(
     register: u8,
     counted: Counts,
 ) -> Counts
-    requires planned { Planned p × ((accessRefusal p.access).number ≡ 0) × (p.access.memory ≡ length memory.old) }
-    requires register_lt_register_count { (register < registerCount) × (counted.placed < 2 ^ 31) × (length entries.old ≡ matrixPlaces) }
-    ensures entries_len { length entries.new ≡ matrixPlaces }
-    ensures result_after { state elements.now memory.new result ≡ storedElements p.access register (state elements.now memory.old counted) }
+    requires planned { Planned p × ((access_refusal p.access).number ≡ 0) × (p.access.memory ≡ length memory.old) }
+    requires register_lt_register_count { (register < register_count) × (counted.placed < 2 ^ 31) × (length entries.old ≡ matrix_places) }
+    ensures entries_len { length entries.new ≡ matrix_places }
+    ensures result_after { state elements.now memory.new result ≡ stored_elements p.access register (state elements.now memory.old counted) }
 {
     let size = p.access.size;
     let fill = p.fill;

@@ -2,28 +2,28 @@
 ghost use Rattle.std.specs.Prelude.{◌≡◌, true, [], ◌∷◌, ℕ, ◌*◌, ◌<◌, ◌≤◌, leb, length};
 ghost use Rattle.std.proofs.lemmas.List.Edits.{sets};
 ghost use Rattle.numbers.specs.Choice.{both};
-ghost use Rattle.sheet.specs.Sizes.{registerCount, stepPlaces, matrixPlaces, memoryLimit};
-ghost use Rattle.sheet_ranges.specs.Steps.{stepOk};
-ghost use Rattle.sheet_reader.specs.Parts.{sheetOf, Outlined};
+ghost use Rattle.sheet.specs.Sizes.{register_count, step_places, matrix_places, memory_limit};
+ghost use Rattle.sheet_ranges.specs.Steps.{step_ok};
+ghost use Rattle.sheet_reader.specs.Parts.{sheet_of, Outlined};
 ghost use Rattle.sheet_reader.specs.declared.Given.{Given};
 ghost use Rattle.registers.specs.declared.MatrixType.{MatrixType};
-ghost use Rattle.addressing.specs.Rules.{elementsOf};
+ghost use Rattle.addressing.specs.Rules.{elements_of};
 ghost use Rattle.addressing.specs.declared.Access.{Access};
 ghost use Rattle.accesses.specs.Entries.{Told};
-ghost use Rattle.checking.specs.Steps.{objectRegister};
-ghost use Rattle.checking.specs.Turns.{stepAccess};
+ghost use Rattle.checking.specs.Steps.{object_register};
+ghost use Rattle.checking.specs.Turns.{step_access};
 ghost use Rattle.checking.specs.Checking.{checked};
-ghost use Rattle.records.specs.Records.{recordLength, tapeNumbers};
+ghost use Rattle.records.specs.Records.{record_length, tape_numbers};
 ghost use Rattle.records.specs.Ranges.{InRange};
 ghost use Rattle.records.specs.declared.Record.TheVariants.{Whole};
-ghost use Rattle.access_tapes.specs.Accesses.{accessOutcomes};
+ghost use Rattle.access_tapes.specs.Accesses.{access_outcomes};
 ghost use Rattle.access_tapes.specs.Writing.{Room, Wrote};
-ghost use Rattle.records.specs.Room.{recordsFit};
-ghost use Rattle.masks.specs.Masks.{maskArea, maskPlace, bit_of, mask_of};
-ghost use Rattle.translating.specs.Tapes.{objectRecords, tapeOf};
-ghost use Rattle.translating.specs.Turns.{matrixOf, apartRecords, movedRegister, turnRecords, recordsMost, ClearTurn};
-ghost use Rattle.translating.specs.Masks.{sheetMasks};
-ghost use Rattle.translating.specs.Translating.{translateAnswer, translated, translatedRoom, translatedMasks};
+ghost use Rattle.records.specs.Room.{records_fit};
+ghost use Rattle.masks.specs.Masks.{mask_area, mask_place, bit_of, mask_of};
+ghost use Rattle.translating.specs.Tapes.{object_records, tape_of};
+ghost use Rattle.translating.specs.Turns.{matrix_of, apart_records, moved_register, turn_records, records_most, ClearTurn};
+ghost use Rattle.translating.specs.Masks.{sheet_masks};
+ghost use Rattle.translating.specs.Translating.{translate_answer, translated, translated_room, translated_masks};
 
 use addressing::Access;
 use checking::{checks, turns};
@@ -62,7 +62,7 @@ fn write_record(tape: &mut [i32], at: usize, r: Record) -> usize
 
 // The record that gives a load's register its object: a copy, a fill of 0 over the whole matrix, or none.
 fn count_object(object: Object) -> usize
-    ensures by_index { (register : ℕ) (t : MatrixType) → result ≡ length (objectRecords register object t) }
+    ensures by_index { (register : ℕ) (t : MatrixType) → result ≡ length (object_records register object t) }
     ensures upper_bound { result ≤ 1 }
 {
     match object {
@@ -73,9 +73,9 @@ fn count_object(object: Object) -> usize
 }
 
 fn write_object(tape: &mut [i32], at: usize, register: u8, object: Object, access: Access) -> usize
-    requires register_lt_register_count { (register < registerCount) × (objectRegister register object < registerCount) × (0 < elementsOf access) × (elementsOf access ≤ matrixPlaces) }
-    requires room { Room tape.old at (objectRecords register object (matrixOf access)) }
-    ensures { Wrote tape.old tape.new at (objectRecords register object (matrixOf access)) result }
+    requires register_lt_register_count { (register < register_count) × (object_register register object < register_count) × (0 < elements_of access) × (elements_of access ≤ matrix_places) }
+    requires room { Room tape.old at (object_records register object (matrix_of access)) }
+    ensures { Wrote tape.old tape.new at (object_records register object (matrix_of access)) result }
 {
     match object {
         Object::Kept => at,
@@ -101,7 +101,7 @@ fn write_object(tape: &mut [i32], at: usize, register: u8, object: Object, acces
 
 // The record of a step that is none of its runs: a load's object, or a whole step.
 fn count_apart(step: Step) -> usize
-    ensures by_index { (k : ℕ) (a : Access) → result ≡ length (apartRecords k step a) }
+    ensures by_index { (k : ℕ) (a : Access) → result ≡ length (apart_records k step a) }
     ensures upper_bound { result ≤ 1 }
 {
     match step {
@@ -120,9 +120,9 @@ fn count_apart(step: Step) -> usize
 }
 
 fn write_apart(tape: &mut [i32], at: usize, k: usize, step: Step, access: Access) -> usize
-    requires clear_turn { ClearTurn step access × (k < stepPlaces) }
-    requires room { Room tape.old at (apartRecords k step access) }
-    ensures { Wrote tape.old tape.new at (apartRecords k step access) result }
+    requires clear_turn { ClearTurn step access × (k < step_places) }
+    requires room { Room tape.old at (apart_records k step access) }
+    ensures { Wrote tape.old tape.new at (apart_records k step access) result }
 {
     match step {
         Step::Nothing => at,
@@ -144,7 +144,7 @@ fn write_apart(tape: &mut [i32], at: usize, k: usize, step: Step, access: Access
 
 // The register that a load or a store moves.
 fn moved_register(step: Step) -> u8
-    ensures { result ≡ movedRegister step }
+    ensures { result ≡ moved_register step }
 {
     match step {
         Step::Nothing => 0,
@@ -163,9 +163,9 @@ fn moved_register(step: Step) -> u8
 
 // How many records a step becomes, by the entries that its check left.
 fn count_step(entries: &[u32; PLACES], step: Step, access: Access) -> usize
-    requires { (elementsOf access ≤ matrixPlaces) × Told access entries.now }
-    ensures by_index { (k : ℕ) → result ≡ length (turnRecords k step access) }
-    ensures upper_bound { result ≤ recordsMost }
+    requires { (elements_of access ≤ matrix_places) × Told access entries.now }
+    ensures by_index { (k : ℕ) → result ≡ length (turn_records k step access) }
+    ensures upper_bound { result ≤ records_most }
 {
     count_apart(step) + access_tapes::count_access(entries, access)
 }
@@ -180,12 +180,12 @@ fn write_step(
     step: Step,
     access: Access,
 ) -> usize
-    requires clear_turn { ClearTurn step access × (length entries.old ≡ matrixPlaces) }
-    requires k_lt_step_places { (k < stepPlaces) × (maskArea ≤ length masks.old) }
-    requires room { Room tape.old at (turnRecords k step access) }
-    ensures entries_len { length entries.new ≡ matrixPlaces }
-    ensures wrote { Wrote tape.old tape.new at (turnRecords k step access) result }
-    ensures masks_after { masks.new ≡ sets masks.old (maskPlace k) (mask_of (bit_of (accessOutcomes access))) }
+    requires clear_turn { ClearTurn step access × (length entries.old ≡ matrix_places) }
+    requires k_lt_step_places { (k < step_places) × (mask_area ≤ length masks.old) }
+    requires room { Room tape.old at (turn_records k step access) }
+    ensures entries_len { length entries.new ≡ matrix_places }
+    ensures wrote { Wrote tape.old tape.new at (turn_records k step access) result }
+    ensures masks_after { masks.new ≡ sets masks.old (mask_place k) (mask_of (bit_of (access_outcomes access))) }
 {
     let register = moved_register(step);
     let next = write_apart(tape, at, k, step, access);
@@ -194,9 +194,9 @@ fn write_step(
 
 // A whole step: one record, and an empty mask.
 fn write_whole(tape: &mut [i32], masks: &mut [u8], at: usize, k: usize) -> usize
-    requires { (k < stepPlaces) × (maskArea ≤ length masks.old) × Room tape.old at (Whole k ∷ []) }
+    requires { (k < step_places) × (mask_area ≤ length masks.old) × Room tape.old at (Whole k ∷ []) }
     ensures wrote { Wrote tape.old tape.new at (Whole k ∷ []) result }
-    ensures masks_after { masks.new ≡ sets masks.old (maskPlace k) (mask_of (bit_of [])) }
+    ensures masks_after { masks.new ≡ sets masks.old (mask_place k) (mask_of (bit_of [])) }
 {
     masks::clear_masks(masks, k, k + 1);
     let whole = Record::Whole { step: k };
@@ -216,13 +216,13 @@ fn write_turn(
     k: usize,
     step: Step,
 ) -> usize
-    requires by_index { ((g : Given) × Outlined s.now parts.now g) × ((edition : ℕ) × (stepOk edition (sheetOf s.now).tensors.layouts (sheetOf s.now).tensors.views step ≡ true)) }
-    requires clear_turn { ClearTurn step (stepAccess (sheetOf s.now).tensors types memory step) × (length entries.old ≡ matrixPlaces) }
-    requires k_lt_step_places { (k < stepPlaces) × (maskArea ≤ length masks.old) }
-    requires room { Room tape.old at (turnRecords k step (stepAccess (sheetOf s.now).tensors types memory step)) }
-    ensures entries_len { length entries.new ≡ matrixPlaces }
-    ensures wrote { Wrote tape.old tape.new at (turnRecords k step (stepAccess (sheetOf s.now).tensors types memory step)) result }
-    ensures masks_after { masks.new ≡ sets masks.old (maskPlace k) (mask_of (bit_of (accessOutcomes (stepAccess (sheetOf s.now).tensors types memory step)))) }
+    requires by_index { ((g : Given) × Outlined s.now parts.now g) × ((edition : ℕ) × (step_ok edition (sheet_of s.now).tensors.layouts (sheet_of s.now).tensors.views step ≡ true)) }
+    requires clear_turn { ClearTurn step (step_access (sheet_of s.now).tensors types memory step) × (length entries.old ≡ matrix_places) }
+    requires k_lt_step_places { (k < step_places) × (mask_area ≤ length masks.old) }
+    requires room { Room tape.old at (turn_records k step (step_access (sheet_of s.now).tensors types memory step)) }
+    ensures entries_len { length entries.new ≡ matrix_places }
+    ensures wrote { Wrote tape.old tape.new at (turn_records k step (step_access (sheet_of s.now).tensors types memory step)) result }
+    ensures masks_after { masks.new ≡ sets masks.old (mask_place k) (mask_of (bit_of (access_outcomes (step_access (sheet_of s.now).tensors types memory step)))) }
 {
     match step {
         Step::Whole(_) => write_whole(tape, masks, at, k),
@@ -236,9 +236,9 @@ fn write_turn(
 // The steps in order, from empty registers: each is checked, and its records are counted by what its check left in the entries, so that no
 // element is located once more.
 fn count_tape(s: &[u8], parts: &[usize; PARTS], given: Given, memory: usize) -> Counted
-    requires { Outlined s.now parts.now given × (memory ≤ memoryLimit) }
-    ensures refusal_value { result.refusal ≡ (checked (sheetOf s.now) memory).refusal }
-    ensures count_value { result.refusal.number ≡ 0 → (result.count ≡ (checked (sheetOf s.now) memory).count) × (result.records ≡ length (tapeOf (sheetOf s.now) memory)) }
+    requires { Outlined s.now parts.now given × (memory ≤ memory_limit) }
+    ensures refusal_value { result.refusal ≡ (checked (sheet_of s.now) memory).refusal }
+    ensures count_value { result.refusal.number ≡ 0 → (result.count ≡ (checked (sheet_of s.now) memory).count) × (result.records ≡ length (tape_of (sheet_of s.now) memory)) }
 {
     let mut entries = accesses::no_entries();
     let mut types = registers::empty_types();
@@ -280,11 +280,11 @@ fn write_tape(
     given: Given,
     memory: usize,
 )
-    requires outlined { Outlined s.now parts.now given × (memory ≤ memoryLimit) × ((checked (sheetOf s.now) memory).refusal.number ≡ 0) }
-    requires record_length_in_bounds { length (tapeOf (sheetOf s.now) memory) * recordLength ≤ length tape.old }
-    requires mask_area_in_bounds { maskArea ≤ length masks.old }
-    ensures tape_after { tape.new ≡ sets tape.old 0 (tapeNumbers (tapeOf (sheetOf s.now) memory)) }
-    ensures masks_after { masks.new ≡ sets masks.old 0 (sheetMasks (sheetOf s.now) memory) }
+    requires outlined { Outlined s.now parts.now given × (memory ≤ memory_limit) × ((checked (sheet_of s.now) memory).refusal.number ≡ 0) }
+    requires record_length_in_bounds { length (tape_of (sheet_of s.now) memory) * record_length ≤ length tape.old }
+    requires mask_area_in_bounds { mask_area ≤ length masks.old }
+    ensures tape_after { tape.new ≡ sets tape.old 0 (tape_numbers (tape_of (sheet_of s.now) memory)) }
+    ensures masks_after { masks.new ≡ sets masks.old 0 (sheet_masks (sheet_of s.now) memory) }
 {
     let mut entries = accesses::no_entries();
     let mut types = registers::empty_types();
@@ -313,7 +313,7 @@ fn write_tape(
 
 // Refusal 16: the records fit and, after them, the masks.
 fn room_fits(edition: u8, room: usize, records: usize, area: usize) -> bool
-    ensures { result ≡ both (recordsFit edition room records) (leb maskArea area) }
+    ensures { result ≡ both (records_fit edition room records) (leb mask_area area) }
 {
     if !records::records_fit(edition, room, records) {
         return false;
@@ -322,7 +322,7 @@ fn room_fits(edition: u8, room: usize, records: usize, area: usize) -> bool
 }
 
 fn translate_refused(refusal: Refusal) -> TranslateAnswer
-    ensures { result ≡ translateAnswer refusal 0 0 }
+    ensures { result ≡ translate_answer refusal 0 0 }
 {
     TranslateAnswer {
         refusal,
@@ -339,8 +339,8 @@ pub fn translate(
     masks: &mut [u8],
 ) -> TranslateAnswer
     ensures value { result ≡ translated sheet.now memory_len (length tape.old) (length masks.old) }
-    ensures tape_after { tape.new ≡ translatedRoom sheet.now memory_len tape.old (length masks.old) }
-    ensures masks_after { masks.new ≡ translatedMasks sheet.now memory_len (length tape.old) masks.old }
+    ensures tape_after { tape.new ≡ translated_room sheet.now memory_len tape.old (length masks.old) }
+    ensures masks_after { masks.new ≡ translated_masks sheet.now memory_len (length tape.old) masks.old }
 {
     let mut parts = sheet_parts::no_parts();
     let read = checking::admit(sheet, &mut parts, memory_len);

@@ -8,9 +8,9 @@ use Rattle.sheet.specs.declared.VectorStep.{VectorStep}
 use Rattle.registers.specs.Grids.{numbered}
 
 -- x of a row-major matrix, y of a column-major one
-abbrev pub byLayout : MemoryLayout → ℕ → ℕ → ℕ
-byLayout RowMajor x y = x
-byLayout ColumnMajor x y = y
+abbrev pub by_layout : MemoryLayout → ℕ → ℕ → ℕ
+by_layout RowMajor x y = x
+by_layout ColumnMajor x y = y
 
 -- the bytes of a matrix element
 abbrev pub size_of : VectorStep → ℕ
@@ -18,35 +18,35 @@ size_of v = bytes_of v.matrix
 
 -- 002: contiguous elements form the rows of a row-major matrix, the columns of a column-major one, and the stride is the number of bytes to add
 -- to go from one row or column to the next. So the bytes from one row to the next are
-unfoldable pub rowStep : VectorStep → ℕ
-rowStep v = byLayout v.layout v.stride (size_of v)
+unfoldable pub row_step : VectorStep → ℕ
+row_step v = by_layout v.layout v.stride (size_of v)
 
 -- and from one column to the next
-unfoldable pub columnStep : VectorStep → ℕ
-columnStep v = byLayout v.layout (size_of v) v.stride
+unfoldable pub column_step : VectorStep → ℕ
+column_step v = by_layout v.layout (size_of v) v.stride
 
 -- the first byte of matrix element (r, c)
-abbrev pub matrixByte : VectorStep → ℕ → ℕ → ℕ
-matrixByte v r c = v.offset + r * rowStep v + c * columnStep v
+abbrev pub matrix_byte : VectorStep → ℕ → ℕ → ℕ
+matrix_byte v r c = v.offset + r * row_step v + c * column_step v
 
 -- a bias element is 32-bit
-abbrev pub biasSize : ℕ
-biasSize = 4
+abbrev pub bias_size : ℕ
+bias_size = 4
 
 -- the first byte of bias element i: they are consecutive
-abbrev pub biasByte : VectorStep → ℕ → ℕ
-biasByte v i = v.bias + biasSize * i
+abbrev pub bias_byte : VectorStep → ℕ → ℕ
+bias_byte v i = v.bias + bias_size * i
 
 -- The elements that a step reads from memory: matrix element (r, c) is element r*K+c, then, if there is a bias, bias element i is element M*K+i.
-abbrev pub matrixElements : VectorStep → ℕ
-matrixElements v = v.rows * v.columns
+abbrev pub matrix_elements : VectorStep → ℕ
+matrix_elements v = v.rows * v.columns
 
-unfoldable pub elementsOf : VectorStep → ℕ
-elementsOf v = pick v.biased (matrixElements v + v.rows) (matrixElements v)
+unfoldable pub elements_of : VectorStep → ℕ
+elements_of v = pick v.biased (matrix_elements v + v.rows) (matrix_elements v)
 
 -- the byte past those of an element
 unfoldable pub end_of : VectorStep → ℕ → ℕ
 end_of v e =
-    pick (ltb e (matrixElements v))
-    (numbered v.columns (λ (r c : ℕ). matrixByte v r c + size_of v) e)
-    (biasByte v (e - matrixElements v) + biasSize)
+    pick (ltb e (matrix_elements v))
+    (numbered v.columns (λ (r c : ℕ). matrix_byte v r c + size_of v) e)
+    (bias_byte v (e - matrix_elements v) + bias_size)

@@ -2,11 +2,11 @@
 ghost use Rattle.std.specs.Prelude.{◌≡◌, ◌<◌, ◌≤◌, ◌^◌};
 ghost use Rattle.numbers.specs.Remainders.{remainder};
 ghost use Rattle.kinds.specs.Values.{value};
-ghost use Rattle.memory.specs.Elements.{byteOf};
-ghost use Rattle.sheet.specs.Sizes.{registerCount, sidePlaces, matrixPlaces};
+ghost use Rattle.memory.specs.Elements.{byte_of};
+ghost use Rattle.sheet.specs.Sizes.{register_count, side_places, matrix_places};
 ghost use Rattle.vectors.specs.Saturation.{below, saturated};
-ghost use Rattle.vectors.specs.Components.{packedKind, componentAt};
-ghost use Rattle.vectors.specs.Residues.{clamped, lowRaised, highRaised, componentsOf};
+ghost use Rattle.vectors.specs.Components.{packed_kind, component_at};
+ghost use Rattle.vectors.specs.Residues.{clamped, low_raised, high_raised, components_of};
 
 use super::WRAP;
 use kinds::interpretations;
@@ -25,14 +25,14 @@ fn below(kind: u8) -> u64
 
 // The lowest value of a kind plus 2^32.
 fn low_raised(kind: u8) -> u64
-    ensures { result ≡ lowRaised kind }
+    ensures { result ≡ low_raised kind }
 {
     WRAP - below(kind)
 }
 
 // The highest value of a kind plus 2^32.
 fn high_raised(kind: u8) -> u64
-    ensures { result ≡ highRaised kind }
+    ensures { result ≡ high_raised kind }
 {
     WRAP + (kinds::modulus(kind) - 1 - below(kind))
 }
@@ -61,14 +61,14 @@ fn saturated(from: u8, kind: u8, x: u32) -> u32
 // Byte i of a word, the lowest being byte 0.
 fn byte_of(word: u32, i: u32) -> u32
     requires { i < 4 }
-    ensures { result ≡ byteOf word i }
+    ensures { result ≡ byte_of word i }
 {
     (word >> (8 * i)) % 256
 }
 
 // The kind of a packed component.
 fn packed_kind(interpretation: u8) -> u8
-    ensures { result ≡ packedKind interpretation }
+    ensures { result ≡ packed_kind interpretation }
 {
     if interpretation == interpretations::PACKED_SIGNED {
         return kinds::S8;
@@ -78,8 +78,8 @@ fn packed_kind(interpretation: u8) -> u8
 
 // Component c of an input register of a kind.
 fn component(elements: &[u32], kind: u8, v: VectorStep, c: usize) -> u32
-    requires { (v.input < registerCount) × (c < matrixPlaces) }
-    ensures { result ≡ remainder (componentAt elements.now kind v c) (2 ^ 32) }
+    requires { (v.input < register_count) × (c < matrix_places) }
+    ensures { result ≡ remainder (component_at elements.now kind v c) (2 ^ 32) }
 {
     if interpretations::is_packed(v.interpretation) {
         let word = numbers::at(elements, registers::place_of(v.input, c / 4));
@@ -91,8 +91,8 @@ fn component(elements: &[u32], kind: u8, v: VectorStep, c: usize) -> u32
 
 // All components.
 pub fn components_of(elements: &[u32], kind: u8, v: VectorStep) -> [u32; SIDE]
-    requires { (v.input < registerCount) × (v.columns ≤ sidePlaces) }
-    ensures { result ≡ componentsOf elements.now kind v }
+    requires { (v.input < register_count) × (v.columns ≤ side_places) }
+    ensures { result ≡ components_of elements.now kind v }
 {
     let columns = v.columns as usize;
     let mut out = [0u32; SIDE];

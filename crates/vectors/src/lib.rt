@@ -5,9 +5,9 @@ pub mod results;
 pub mod stops;
 
 ghost use Rattle.std.specs.Prelude.{◌≡◌, length};
-ghost use Rattle.registers.specs.Grids.{blockOn};
-ghost use Rattle.vectors.specs.Refusals.{vectorRefusal};
-ghost use Rattle.vectors.specs.Results.{vectorType, vectorResult};
+ghost use Rattle.registers.specs.Grids.{block_on};
+ghost use Rattle.vectors.specs.Refusals.{vector_refusal};
+ghost use Rattle.vectors.specs.Results.{vector_type, vector_result};
 ghost use Rattle.vectors.specs.Within.{VectorParts};
 
 use refusals::{EMPTY_REGISTER, SHAPES_DISAGREE, Stop, stop_at};
@@ -20,7 +20,7 @@ const WRAP: u64 = 4294967296;
 
 // By the type of the input register and the memory's length: 7, 8 or 14.
 pub fn vector_refusal(t: MatrixType, memory: usize, v: VectorStep) -> Stop
-    ensures { result ≡ vectorRefusal t memory v }
+    ensures { result ≡ vector_refusal t memory v }
 {
     if registers::is_empty(t) {
         return stop_at(EMPTY_REGISTER, 0);
@@ -32,7 +32,7 @@ pub fn vector_refusal(t: MatrixType, memory: usize, v: VectorStep) -> Stop
 }
 
 pub fn vector_type(v: VectorStep) -> MatrixType
-    ensures { result ≡ vectorType v }
+    ensures { result ≡ vector_type v }
 {
     MatrixType {
         kind: v.kind,
@@ -49,8 +49,8 @@ pub fn vector_block(
     t: MatrixType,
     v: VectorStep,
 )
-    requires { VectorParts v × ((vectorRefusal t (length memory.now) v).number ≡ 0) }
-    ensures { out.new ≡ blockOn out.old v.rows 1 (vectorResult elements.now t.kind memory.now v) }
+    requires { VectorParts v × ((vector_refusal t (length memory.now) v).number ≡ 0) }
+    ensures { out.new ≡ block_on out.old v.rows 1 (vector_result elements.now t.kind memory.now v) }
 {
     let components = components::components_of(elements, t.kind, v);
     results::result_block(out, memory, v, &components);

@@ -1,6 +1,6 @@
 // Where the elements of the matrix and of the bias lie in memory.
 ghost use Rattle.std.specs.Prelude.{◌≡◌, ◌+◌, ◌*◌, ◌≤◌, ◌<◌, ◌^◌};
-ghost use Rattle.vectors.specs.Places.{rowStep, columnStep, matrixByte, biasByte, matrixElements, elementsOf, end_of};
+ghost use Rattle.vectors.specs.Places.{row_step, column_step, matrix_byte, bias_byte, matrix_elements, elements_of, end_of};
 
 use sheet::{MemoryLayout, VectorStep};
 
@@ -9,7 +9,7 @@ pub const BIAS_SIZE: usize = 4;
 
 // The bytes from one row to the next.
 pub fn row_step(v: VectorStep) -> usize
-    ensures { (result ≡ rowStep v) × (result < 2 ^ 16) }
+    ensures { (result ≡ row_step v) × (result < 2 ^ 16) }
 {
     let layout = v.layout;
     match layout {
@@ -20,7 +20,7 @@ pub fn row_step(v: VectorStep) -> usize
 
 // The bytes from one column to the next.
 pub fn column_step(v: VectorStep) -> usize
-    ensures { (result ≡ columnStep v) × (result < 2 ^ 16) }
+    ensures { (result ≡ column_step v) × (result < 2 ^ 16) }
 {
     let layout = v.layout;
     match layout {
@@ -31,34 +31,34 @@ pub fn column_step(v: VectorStep) -> usize
 
 // The first byte of a row of the matrix. The bounds spare each caller the sum's.
 pub fn row_byte(v: VectorStep, row: u16) -> usize
-    ensures { (result ≡ v.offset + row * rowStep v) × (result < 2 ^ 33) }
+    ensures { (result ≡ v.offset + row * row_step v) × (result < 2 ^ 33) }
 {
     v.offset as usize + (row as usize) * row_step(v)
 }
 
 // The first byte of matrix element (row, column).
 pub fn matrix_byte(v: VectorStep, row: u16, column: u16) -> usize
-    ensures { (result ≡ matrixByte v row column) × (result < 2 ^ 34) }
+    ensures { (result ≡ matrix_byte v row column) × (result < 2 ^ 34) }
 {
     row_byte(v, row) + (column as usize) * column_step(v)
 }
 
 // The first byte of bias element i.
 pub fn bias_byte(v: VectorStep, i: u16) -> usize
-    ensures { (result ≡ biasByte v i) × (result < 2 ^ 34) }
+    ensures { (result ≡ bias_byte v i) × (result < 2 ^ 34) }
 {
     v.bias as usize + BIAS_SIZE * (i as usize)
 }
 
 fn matrix_elements(v: VectorStep) -> u16
-    ensures { (result ≡ matrixElements v) × (result ≤ 65025) }
+    ensures { (result ≡ matrix_elements v) × (result ≤ 65025) }
 {
     (v.rows as u16) * (v.columns as u16)
 }
 
 // How many elements the step reads from memory: the matrix's by row, then the bias's.
 pub fn elements_of(v: VectorStep) -> u16
-    ensures { result ≡ elementsOf v }
+    ensures { result ≡ elements_of v }
 {
     let matrix = matrix_elements(v);
     if v.biased {

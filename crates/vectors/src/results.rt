@@ -2,12 +2,12 @@
 ghost use Rattle.std.specs.Prelude.{◌≡◌, true, ℕ, ◌+◌, ◌<◌, ◌≤◌, ◌^◌, length};
 ghost use Rattle.numbers.specs.Remainders.{remainder};
 ghost use Rattle.kinds.specs.Widths.{bytes_of};
-ghost use Rattle.sheet.specs.Sizes.{sidePlaces};
-ghost use Rattle.registers.specs.Grids.{blockOn};
-ghost use Rattle.vectors.specs.Places.{biasSize, biasByte};
-ghost use Rattle.vectors.specs.Results.{biasAt, result_at};
+ghost use Rattle.sheet.specs.Sizes.{side_places};
+ghost use Rattle.registers.specs.Grids.{block_on};
+ghost use Rattle.vectors.specs.Places.{bias_size, bias_byte};
+ghost use Rattle.vectors.specs.Results.{bias_at, result_at};
 ghost use Rattle.vectors.specs.Within.{LineInside, Inside};
-ghost use Rattle.vectors.specs.Residues.{lineTo, listed};
+ghost use Rattle.vectors.specs.Residues.{line_to, listed};
 
 use super::{WRAP, places};
 use places::BIAS_SIZE;
@@ -29,8 +29,8 @@ fn dot(
     components: &[u32; SIDE],
     columns: usize,
 ) -> u64
-    requires { (columns ≤ sidePlaces) × LineInside first across (bytes_of kind) columns (length memory.now) }
-    ensures { (result ≡ remainder (lineTo memory.now first across kind (listed components.now) columns) (2 ^ 32)) × (result < 2 ^ 32) }
+    requires { (columns ≤ side_places) × LineInside first across (bytes_of kind) columns (length memory.now) }
+    ensures { (result ≡ remainder (line_to memory.now first across kind (listed components.now) columns) (2 ^ 32)) × (result < 2 ^ 32) }
 {
     let size = kinds::bytes(kind);
     let mut sum: u64 = 0;
@@ -44,8 +44,8 @@ fn dot(
 }
 
 fn bias_at(memory: &[u8], v: VectorStep, row: u16) -> u32
-    requires { v.biased ≡ true → biasByte v row + biasSize ≤ length memory.now }
-    ensures { result ≡ biasAt memory.now v row }
+    requires { v.biased ≡ true → bias_byte v row + bias_size ≤ length memory.now }
+    ensures { result ≡ bias_at memory.now v row }
 {
     if v.biased {
         return memory::element_at(memory, places::bias_byte(v, row), BIAS_SIZE);
@@ -55,7 +55,7 @@ fn bias_at(memory: &[u8], v: VectorStep, row: u16) -> u32
 
 // Row `row` of the matrix times the components, plus the bias.
 fn result_at(memory: &[u8], v: VectorStep, components: &[u32; SIDE], row: u16) -> u32
-    requires { (v.columns ≤ sidePlaces) × (row < v.rows) × Inside v (length memory.now) }
+    requires { (v.columns ≤ side_places) × (row < v.rows) × Inside v (length memory.now) }
     ensures { result ≡ result_at memory.now v (listed components.now) row }
 {
     let first = places::row_byte(v, row);
@@ -73,8 +73,8 @@ fn result_at(memory: &[u8], v: VectorStep, components: &[u32; SIDE], row: u16) -
 }
 
 pub fn result_block(out: &mut [u32; PLACES], memory: &[u8], v: VectorStep, components: &[u32; SIDE])
-    requires { (v.rows ≤ sidePlaces) × (v.columns ≤ sidePlaces) × Inside v (length memory.now) }
-    ensures { out.new ≡ blockOn out.old v.rows 1 (λ (i j : ℕ). result_at memory.now v (listed components.now) i) }
+    requires { (v.rows ≤ side_places) × (v.columns ≤ side_places) × Inside v (length memory.now) }
+    ensures { out.new ≡ block_on out.old v.rows 1 (λ (i j : ℕ). result_at memory.now v (listed components.now) i) }
 {
     let rows = v.rows as usize;
     let mut i = 0;

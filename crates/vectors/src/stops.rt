@@ -1,7 +1,7 @@
 // When a vector step is refused.
 ghost use Rattle.std.specs.Prelude.{◌≡◌, ◌-◌};
-ghost use Rattle.vectors.specs.Refusals.{inputAgrees, firstOutside, memoryRefusal};
-ghost use Rattle.vectors.specs.Within.{last_end, lastInside};
+ghost use Rattle.vectors.specs.Refusals.{input_agrees, first_outside, memory_refusal};
+ghost use Rattle.vectors.specs.Within.{last_end, last_inside};
 
 use super::places;
 use kinds::interpretations;
@@ -11,7 +11,7 @@ use sheet::VectorStep;
 
 // The input is K by 1, or of a packed interpretation u32 words, four components each.
 pub fn input_agrees(t: MatrixType, v: VectorStep) -> bool
-    ensures { result ≡ inputAgrees t v }
+    ensures { result ≡ input_agrees t v }
 {
     if t.columns != 1 {
         return false;
@@ -44,7 +44,7 @@ fn last_end(v: VectorStep) -> usize
 
 // The last element of the matrix and the last of the bias lie in memory: then all do, and none is looked for.
 fn last_inside(v: VectorStep, memory: usize) -> bool
-    ensures { result ≡ lastInside v memory }
+    ensures { result ≡ last_inside v memory }
 {
     if memory < last_end(v) {
         return false;
@@ -57,7 +57,7 @@ fn last_inside(v: VectorStep, memory: usize) -> bool
 
 // The first element outside memory, or the number of elements.
 fn first_outside(v: VectorStep, memory: usize) -> u16
-    ensures { result ≡ firstOutside v memory }
+    ensures { result ≡ first_outside v memory }
 {
     let count = places::elements_of(v);
     let mut e = 0;
@@ -72,7 +72,7 @@ fn first_outside(v: VectorStep, memory: usize) -> u16
 
 // Refusal 14.
 pub fn memory_refusal(v: VectorStep, memory: usize) -> Stop
-    ensures { result ≡ memoryRefusal v memory }
+    ensures { result ≡ memory_refusal v memory }
 {
     if last_inside(v, memory) {
         return stop_at(0, 0);

@@ -7,45 +7,45 @@ use native.Mathlib.Omega.{arith}
 use lib.ListN.{length, get_or, set, replicate, length-set}
 use lib.Seq.{get_or-set_same, get_or-set_other}
 use Rattle.numbers.specs.Laws.Choice.{by_place}
-use Rattle.numbers.specs.Laws.Places.{none-all}
+use Rattle.numbers.specs.Laws.Places.{none_all}
 use Rattle.tensor_ranges.specs.Laws.Facts.{InSize}
-use Rattle.sheet.specs.Sizes.{rankPlaces, sizeLimit}
+use Rattle.sheet.specs.Sizes.{rank_places, size_limit}
 use Rattle.view_indices.specs.Indices.{coordinates, weighted}
-use Rattle.view_indices.specs.Laws.Indices.{coordinates-more, coordinates-end}
+use Rattle.view_indices.specs.Laws.Indices.{coordinates_more, coordinates_end}
 
 -- Rule 2: a coordinate where there was none adds its product
 module _ (cs strides : List ℕ) (i x : ℕ) where
-  weighted-skip : (n : ℕ) → n ≤ i → weighted (set cs i x) strides n ≡ weighted cs strides n
+  weighted_skip : (n : ℕ) → n ≤ i → weighted (set cs i x) strides n ≡ weighted cs strides n
   unfolding weighted
-  weighted-skip zero h = refl
-  weighted-skip (suc n) h =
+  weighted_skip zero h = refl
+  weighted_skip (suc n) h =
       let q : n ≡ i → ⊥ = λ r. omega arith in
-      rw (weighted-skip n (omega arith), get_or-set_other cs i n x 0 q)
+      rw (weighted_skip n (omega arith), get_or-set_other cs i n x 0 q)
 
   last_sum : (a b c : ℕ) → a + b + c ≡ a + c + b
   last_sum a b c = omega arith
 
-  weighted-set : (n : ℕ) → i < n → i < length cs → get_or cs i 0 ≡ 0 → weighted (set cs i x) strides n ≡ weighted cs strides n + x * get_or strides i 0
+  weighted_set : (n : ℕ) → i < n → i < length cs → get_or cs i 0 ≡ 0 → weighted (set cs i x) strides n ≡ weighted cs strides n + x * get_or strides i 0
   unfolding weighted
-  weighted-set zero h l e = absurd (not-suc-le-zero h)
-  weighted-set (suc n) h l e =
+  weighted_set zero h l e = absurd (not-suc-le-zero h)
+  weighted_set (suc n) h l e =
       by_place i n
       (λ q.
       let f : get_or cs n 0 ≡ 0 = rw q at e in
-      rw (f, zero-mul, add-zero, ← weighted-skip n (omega arith), ← q) (rw (get_or-set_same cs i x 0 l)))
+      rw (f, zero-mul, add-zero, ← weighted_skip n (omega arith), ← q) (rw (get_or-set_same cs i x 0 l)))
       (λ q.
       let r : n ≡ i → ⊥ = λ s. q (sym s) in
-      rw (weighted-set n (omega arith) l e, get_or-set_other cs i n x 0 r)
+      rw (weighted_set n (omega arith) l e, get_or-set_other cs i n x 0 r)
       (last_sum (weighted cs strides n) (x * get_or strides i 0) (get_or cs n 0 * get_or strides n 0)))
 
-weighted-zeros : (strides : List ℕ) (n : ℕ) → weighted (replicate rankPlaces 0) strides n ≡ 0
+weighted_zeros : (strides : List ℕ) (n : ℕ) → weighted (replicate rank_places 0) strides n ≡ 0
 unfolding weighted
-weighted-zeros strides zero = refl
-weighted-zeros strides (suc n) = rw (weighted-zeros strides n, none-all (λ (x : ℕ). x ≡ 0) rankPlaces 0 0 refl refl n, zero-mul)
+weighted_zeros strides zero = refl
+weighted_zeros strides (suc n) = rw (weighted_zeros strides n, none_all (λ (x : ℕ). x ≡ 0) rank_places 0 0 refl refl n, zero-mul)
 
 -- a product of a coordinate and a stride
-pub product-most : (left : ℕ) {size stride : ℕ} → InSize size → stride ≤ sizeLimit ^ 4 → left % size * stride ≤ sizeLimit ^ 5
-product-most left {size} {stride} s h = mul-le-mul {n₁ = left % size} {m₁ = stride} {n₂ = sizeLimit} {m₂ = sizeLimit ^ 4} (omega (arith, mod-lt left s.some, s.most)) h
+pub product_most : (left : ℕ) {size stride : ℕ} → InSize size → stride ≤ size_limit ^ 4 → left % size * stride ≤ size_limit ^ 5
+product_most left {size} {stride} s h = mul-le-mul {n₁ = left % size} {m₁ = stride} {n₂ = size_limit} {m₂ = size_limit ^ 4} (omega (arith, mod-lt left s.some, s.most)) h
 
 -- The loop over a view's dimensions: those from k on are done and have a sum; `left` is what is left of the index.
 module _ (permutation sizes strides : List ℕ) (rank index : ℕ) where
@@ -57,23 +57,23 @@ module _ (permutation sizes strides : List ℕ) (rank index : ℕ) where
 
   pub record Weighing (k left sum : ℕ) : Type 0 where
     pub few : k ≤ rank
-    pub small : sum ≤ (rank - k) * sizeLimit ^ 5
+    pub small : sum ≤ (rank - k) * size_limit ^ 5
     pub cs : List ℕ
-    pub long : length cs ≡ rankPlaces
-    pub goes : coordinates place size k left cs ≡ coordinates place size rank index (replicate rankPlaces 0)
+    pub long : length cs ≡ rank_places
+    pub goes : coordinates place size k left cs ≡ coordinates place size rank index (replicate rank_places 0)
     pub weighs : sum ≡ weighted cs strides rank
     pub free : (j : ℕ) → j < k → get_or cs (place j) 0 ≡ 0
 
-  pub weighing-start : Weighing rank index 0
-  weighing-start =
+  pub weighing_start : Weighing rank index 0
+  weighing_start =
       record {
         few = omega arith;
         small = omega arith;
-        cs = replicate rankPlaces 0;
+        cs = replicate rank_places 0;
         long = refl;
         goes = refl;
-        weighs = sym (weighted-zeros strides rank);
-        free = λ j h. none-all (λ (x : ℕ). x ≡ 0) rankPlaces 0 0 refl refl (place j);
+        weighs = sym (weighted_zeros strides rank);
+        free = λ j h. none_all (λ (x : ℕ). x ≡ 0) rank_places 0 0 refl refl (place j);
       }
 
   module _ (k left sum : ℕ) (w : Weighing k left sum) (h : 0 < k) where
@@ -83,19 +83,19 @@ module _ (permutation sizes strides : List ℕ) (rank index : ℕ) where
     abbrev x : ℕ
     x = left % size i
 
-    pub weighing-more : rank ≤ rankPlaces → i < rank → InSize (size i) → get_or strides i 0 ≤ sizeLimit ^ 4 → ((j : ℕ) → j < k - 1 → place j ≡ i → ⊥)
+    pub weighing_more : rank ≤ rank_places → i < rank → InSize (size i) → get_or strides i 0 ≤ size_limit ^ 4 → ((j : ℕ) → j < k - 1 → place j ≡ i → ⊥)
         → Weighing (k - 1) (left / size i) (sum + x * get_or strides i 0)
-    weighing-more five inside s most apart =
+    weighing_more five inside s most apart =
         let l : i < length w.cs = omega (arith, w.long) in
         record {
           few = omega (arith, w.few);
-          small = omega (arith, w.small, w.few, product-most left s most);
+          small = omega (arith, w.small, w.few, product_most left s most);
           cs = set w.cs i x;
           long = length-set w.cs i x ∙ w.long;
-          goes = coordinates-more place size k left w.cs h ∙ w.goes;
-          weighs = rw w.weighs (sym (weighted-set w.cs strides i x rank inside l (w.free (k - 1) (omega arith))));
+          goes = coordinates_more place size k left w.cs h ∙ w.goes;
+          weighs = rw w.weighs (sym (weighted_set w.cs strides i x rank inside l (w.free (k - 1) (omega arith))));
           free = λ j b. get_or-set_other w.cs i (place j) x 0 (apart j b) ∙ w.free j (omega arith);
         }
 
-  pub weighing-end : (k left sum : ℕ) → Weighing k left sum → k ≤ 0 → sum ≡ weighted (coordinates place size rank index (replicate rankPlaces 0)) strides rank
-  weighing-end k left sum w h = w.weighs ∙ rw (← w.goes) (ap (λ (cs : List ℕ). weighted cs strides rank) (coordinates-end place size k left w.cs h))
+  pub weighing_end : (k left sum : ℕ) → Weighing k left sum → k ≤ 0 → sum ≡ weighted (coordinates place size rank index (replicate rank_places 0)) strides rank
+  weighing_end k left sum w h = w.weighs ∙ rw (← w.goes) (ap (λ (cs : List ℕ). weighted cs strides rank) (coordinates_end place size k left w.cs h))

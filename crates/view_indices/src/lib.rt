@@ -1,11 +1,11 @@
 // Rule 2: an index through a view (document 01, "Where an element goes").
 ghost use Rattle.std.specs.Prelude.{◌≡◌, true, ℕ, ◌/◌, ◌%◌, ◌^◌, ◌≤◌, ◌<◌, get_or};
-ghost use Rattle.tensor_ranges.specs.Layouts.{layoutOk};
-ghost use Rattle.tensor_ranges.specs.Views.{theViewDimension, viewOk};
+ghost use Rattle.tensor_ranges.specs.Layouts.{layout_ok};
+ghost use Rattle.tensor_ranges.specs.Views.{the_view_dimension, view_ok};
 ghost use Rattle.tensor_ranges.specs.Laws.Facts.{InSize};
-ghost use Rattle.sheet.specs.Sizes.{rankPlaces, sizeLimit};
-ghost use Rattle.view_indices.specs.Plans.{sizesOf, stridesOf};
-ghost use Rattle.view_indices.specs.Indices.{five, span_of, rowMajor, viewSizes, viewStrides, viewIndex};
+ghost use Rattle.sheet.specs.Sizes.{rank_places, size_limit};
+ghost use Rattle.view_indices.specs.Plans.{sizes_of, strides_of};
+ghost use Rattle.view_indices.specs.Indices.{five, span_of, row_major, view_sizes, view_strides, view_index};
 
 use sheet::sizes::RANK;
 use sheet::{Layout, View};
@@ -42,7 +42,7 @@ pub fn divide(x: u32, size: u32) -> Division
 }
 
 fn span_at(l: Layout, k: usize) -> u32
-    requires { k < rankPlaces }
+    requires { k < rank_places }
     ensures { result ≡ span_of l k }
 {
     let d = l.dimensions[k];
@@ -62,15 +62,15 @@ fn spans(l: Layout) -> [u32; RANK]
 }
 
 fn size_at(v: View, k: usize) -> u32
-    requires { k < rankPlaces }
-    ensures { result ≡ (theViewDimension v.dimensions k).size }
+    requires { k < rank_places }
+    ensures { result ≡ (the_view_dimension v.dimensions k).size }
 {
     let d = v.dimensions[k];
     wide(d.size)
 }
 
 fn view_sizes(l: Layout, v: View) -> [u32; RANK]
-    ensures { result ≡ viewSizes l v }
+    ensures { result ≡ view_sizes l v }
 {
     if v.sized {
         [
@@ -87,8 +87,8 @@ fn view_sizes(l: Layout, v: View) -> [u32; RANK]
 
 // The product of the spans after dimension i.
 fn row_major(l: Layout, i: usize) -> u64
-    requires { (layoutOk l ≡ true) × (i < rankPlaces) }
-    ensures { (result ≡ rowMajor (span_of l) l.rank i) × (result ≤ sizeLimit ^ 4) }
+    requires { (layout_ok l ≡ true) × (i < rank_places) }
+    ensures { (result ≡ row_major (span_of l) l.rank i) × (result ≤ size_limit ^ 4) }
 {
     let rank = l.rank as usize;
     let mut product: u64 = 1;
@@ -101,16 +101,16 @@ fn row_major(l: Layout, i: usize) -> u64
 }
 
 fn stride_at(v: View, k: usize) -> u64
-    requires { k < rankPlaces }
-    ensures { (result ≡ (theViewDimension v.dimensions k).stride) × (result ≤ sizeLimit ^ 4) }
+    requires { k < rank_places }
+    ensures { (result ≡ (the_view_dimension v.dimensions k).stride) × (result ≤ size_limit ^ 4) }
 {
     let d = v.dimensions[k];
     wide(d.stride) as u64
 }
 
 fn view_strides(l: Layout, v: View) -> [u64; RANK]
-    requires { layoutOk l ≡ true }
-    ensures { (result ≡ viewStrides l v) × ((i : ℕ) → get_or result i 0 ≤ sizeLimit ^ 4) }
+    requires { layout_ok l ≡ true }
+    ensures { (result ≡ view_strides l v) × ((i : ℕ) → get_or result i 0 ≤ size_limit ^ 4) }
 {
     if v.sized {
         [
@@ -133,7 +133,7 @@ fn view_strides(l: Layout, v: View) -> [u64; RANK]
 
 // Rule 2's sizes and strides: zeros without a view.
 pub fn sizes_of(viewed: bool, l: Layout, v: View) -> [u32; RANK]
-    ensures { result ≡ sizesOf viewed l v }
+    ensures { result ≡ sizes_of viewed l v }
 {
     if viewed {
         view_sizes(l, v)
@@ -143,8 +143,8 @@ pub fn sizes_of(viewed: bool, l: Layout, v: View) -> [u32; RANK]
 }
 
 pub fn strides_of(viewed: bool, l: Layout, v: View) -> [u64; RANK]
-    requires { layoutOk l ≡ true }
-    ensures { (result ≡ stridesOf viewed l v) × ((i : ℕ) → get_or result i 0 ≤ sizeLimit ^ 4) }
+    requires { layout_ok l ≡ true }
+    ensures { (result ≡ strides_of viewed l v) × ((i : ℕ) → get_or result i 0 ≤ size_limit ^ 4) }
 {
     if viewed {
         view_strides(l, v)
@@ -168,9 +168,9 @@ pub fn view_index(
     strides: &[u64; RANK],
     index: u32,
 ) -> u64
-    requires v_value { (viewOk v ≡ true) × ((i : ℕ) → i < v.rank → InSize (get_or sizes.now i 0)) × ((i : ℕ) → get_or strides.now i 0 ≤ sizeLimit ^ 4) }
+    requires v_value { (view_ok v ≡ true) × ((i : ℕ) → i < v.rank → InSize (get_or sizes.now i 0)) × ((i : ℕ) → get_or strides.now i 0 ≤ size_limit ^ 4) }
     requires permutation_value { permutation.now ≡ v.permutation }
-    ensures { result ≡ viewIndex v sizes.now strides.now index }
+    ensures { result ≡ view_index v sizes.now strides.now index }
 {
     let mut sum: u64 = 0;
     let mut left = index;

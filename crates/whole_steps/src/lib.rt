@@ -4,11 +4,11 @@ pub mod transposes;
 pub mod types;
 
 ghost use Rattle.std.specs.Prelude.{◌≡◌, ℕ, length};
-ghost use Rattle.sheet.specs.Sizes.{matrixPlaces, elementPlaces};
+ghost use Rattle.sheet.specs.Sizes.{matrix_places, element_places};
 ghost use Rattle.registers.specs.Sized.{Sized};
 ghost use Rattle.registers.specs.Past.{Past};
-ghost use Rattle.whole_steps.specs.Refusals.{wholeRefusal};
-ghost use Rattle.whole_steps.specs.Whole.{wholeTypes, wholeBlockOn, wholeElements};
+ghost use Rattle.whole_steps.specs.Refusals.{whole_refusal};
+ghost use Rattle.whole_steps.specs.Whole.{whole_types, whole_block_on, whole_elements};
 ghost use Rattle.whole_steps.specs.Within.{WholeOk};
 
 use registers::MatrixType;
@@ -23,8 +23,8 @@ fn whole_block(
     memory: &[u8],
     step: WholeStep,
 )
-    requires { WholeOk step × Sized types × ((edition : ℕ) × ((wholeRefusal edition types (length memory.now) step).number ≡ 0)) }
-    ensures { out.new ≡ wholeBlockOn out.old types elements.now memory.now step }
+    requires { WholeOk step × Sized types × ((edition : ℕ) × ((whole_refusal edition types (length memory.now) step).number ≡ 0)) }
+    ensures { out.new ≡ whole_block_on out.old types elements.now memory.now step }
 {
     match step {
         WholeStep::Fill {
@@ -79,11 +79,11 @@ pub fn perform_whole(
     memory: &[u8],
     step: WholeStep,
 ) -> [MatrixType; REGISTERS]
-    requires whole_ok { WholeOk step × Sized types × ((edition : ℕ) × ((wholeRefusal edition types (length memory.now) step).number ≡ 0)) }
-    requires past { Past types elements.old × (length elements.old ≡ elementPlaces) × (length block.old ≡ matrixPlaces) }
-    ensures value { result ≡ wholeTypes types step }
-    ensures block_len { length block.new ≡ matrixPlaces }
-    ensures elements_after { elements.new ≡ wholeElements types elements.old memory.now step }
+    requires whole_ok { WholeOk step × Sized types × ((edition : ℕ) × ((whole_refusal edition types (length memory.now) step).number ≡ 0)) }
+    requires past { Past types elements.old × (length elements.old ≡ element_places) × (length block.old ≡ matrix_places) }
+    ensures value { result ≡ whole_types types step }
+    ensures block_len { length block.new ≡ matrix_places }
+    ensures elements_after { elements.new ≡ whole_elements types elements.old memory.now step }
 {
     let register = types::whole_result(step);
     let t = types::whole_type(types, step);

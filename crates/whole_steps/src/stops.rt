@@ -1,6 +1,6 @@
 // When a whole step is refused.
 ghost use Rattle.std.specs.Prelude.{◌≡◌};
-ghost use Rattle.whole_steps.specs.Refusals.{wholeRefusal};
+ghost use Rattle.whole_steps.specs.Refusals.{whole_refusal};
 ghost use Rattle.whole_steps.specs.Within.{WholeOk};
 
 use super::transposes;
@@ -20,7 +20,7 @@ pub fn whole_refusal(
     step: WholeStep,
 ) -> Stop
     requires { WholeOk step }
-    ensures { result ≡ wholeRefusal edition types memory step }
+    ensures { result ≡ whole_refusal edition types memory step }
 {
     match step {
         WholeStep::Fill {

@@ -1,6 +1,6 @@
 // What a whole step makes: in which register, and of which type.
 ghost use Rattle.std.specs.Prelude.{◌≡◌};
-ghost use Rattle.whole_steps.specs.Whole.{wholeResult, wholeType, wholeTypes};
+ghost use Rattle.whole_steps.specs.Whole.{whole_result, whole_type, whole_types};
 ghost use Rattle.whole_steps.specs.Within.{WholeOk};
 
 use super::transposes;
@@ -11,7 +11,7 @@ use sheet::sizes::REGISTERS;
 use vectors::vector_type;
 
 pub fn whole_result(step: WholeStep) -> u8
-    ensures { result ≡ wholeResult step }
+    ensures { result ≡ whole_result step }
 {
     match step {
         WholeStep::Fill {
@@ -42,7 +42,7 @@ pub fn whole_result(step: WholeStep) -> u8
 
 pub fn whole_type(types: [MatrixType; REGISTERS], step: WholeStep) -> MatrixType
     requires { WholeOk step }
-    ensures { result ≡ wholeType types step }
+    ensures { result ≡ whole_type types step }
 {
     match step {
         WholeStep::Fill {
@@ -84,7 +84,7 @@ pub fn whole_type(types: [MatrixType; REGISTERS], step: WholeStep) -> MatrixType
 // The types after a whole step.
 pub fn whole_types(types: [MatrixType; REGISTERS], step: WholeStep) -> [MatrixType; REGISTERS]
     requires { WholeOk step }
-    ensures { result ≡ wholeTypes types step }
+    ensures { result ≡ whole_types types step }
 {
     let t = whole_type(types, step);
     registers::with_type(types, whole_result(step), t)

@@ -7,66 +7,66 @@ use Rattle.std.proofs.Math.Bool.{true, false}
 use native.Mathlib.Omega.{arith}
 use Rattle.std.proofs.Math.ListN.{length-append}
 use Rattle.numbers.specs.Choice.{pick}
-use Rattle.numbers.specs.Laws.Joins.{length-each, each_at}
-use Rattle.sheet.specs.Sizes.{stepPlaces, matrixPlaces}
+use Rattle.numbers.specs.Laws.Joins.{length_each, each_at}
+use Rattle.sheet.specs.Sizes.{step_places, matrix_places}
 use Rattle.sheet.specs.declared.Tensors.{Tensors}
 use Rattle.sheet.specs.declared.Sheet.{Sheet}
 use Rattle.sheet.specs.declared.Step.{Step}
 use Rattle.sheet.specs.declared.Step.TheVariants.{Nothing, Load, Store, Whole}
-use Rattle.sheet_ranges.specs.Steps.{theStep}
-use Rattle.sheet_ranges.specs.Laws.Within.{Within, within-places}
-use Rattle.registers.specs.Types.{theType}
-use Rattle.registers.specs.Registers.{emptyRegisters}
+use Rattle.sheet_ranges.specs.Steps.{the_step}
+use Rattle.sheet_ranges.specs.Laws.Within.{Within, within_places}
+use Rattle.registers.specs.Types.{the_type}
+use Rattle.registers.specs.Registers.{empty_registers}
 use Rattle.registers.specs.Sized.{Sized}
-use Rattle.registers.specs.Laws.Sized.{sized-empty, sized-places}
+use Rattle.registers.specs.Laws.Sized.{sized_empty, sized_places}
 use Rattle.registers.specs.declared.MatrixType.{MatrixType}
-use Rattle.addressing.specs.Rules.{elementsOf}
+use Rattle.addressing.specs.Rules.{elements_of}
 use Rattle.addressing.specs.declared.Access.{Access}
-use Rattle.checking.specs.Steps.{accessOf, objectRegister, checkedStep}
-use Rattle.checking.specs.Laws.Steps.{check-sized}
+use Rattle.checking.specs.Steps.{access_of, object_register, checked_step}
+use Rattle.checking.specs.Laws.Steps.{check_sized}
 use Rattle.checking.specs.Laws.Turns.{within_step}
-use Rattle.accepted.specs.Passes.{types_at, passFrom}
-use Rattle.accepted.specs.Elements.{ofAccess, ofStep, ofTurn, ofSheet, atStep}
+use Rattle.accepted.specs.Passes.{types_at, pass_from}
+use Rattle.accepted.specs.Elements.{of_access, of_step, of_turn, of_sheet, at_step}
 
-pub access-count : {A : Type 0} (f : Access → ℕ → A) (a : Access) → length (ofAccess f a) ≡ elementsOf a
-unfolding ofAccess
-access-count f a = length-each 1 (elementsOf a) _ (λ e h. refl) ∙ omega arith
+pub access_count : {A : Type 0} (f : Access → ℕ → A) (a : Access) → length (of_access f a) ≡ elements_of a
+unfolding of_access
+access_count f a = length_each 1 (elements_of a) _ (λ e h. refl) ∙ omega arith
 
-pub access-at : {A : Type 0} (f : Access → ℕ → A) (a : Access) (e : ℕ) (d : A) → e < elementsOf a → get_or (ofAccess f a) e d ≡ f a e
-unfolding ofAccess
-access-at f a e d h = each_at (elementsOf a) (f a) e d h
+pub access_at : {A : Type 0} (f : Access → ℕ → A) (a : Access) (e : ℕ) (d : A) → e < elements_of a → get_or (of_access f a) e d ≡ f a e
+unfolding of_access
+access_at f a e d h = each_at (elements_of a) (f a) e d h
 
 module _ {A : Type 0} (f : ℕ → Access → ℕ → A) where
   module _ (sh : Sheet) (len k : ℕ) where
-    pub at-step : k < sh.steps → atStep f sh len k ≡ ofTurn f sh len (types_at sh len k) k (theStep sh.step k)
-    unfolding atStep pick
-    at-step h = rw (lt-ltb k sh.steps h) refl
+    pub at_step_lem : k < sh.steps → at_step f sh len k ≡ of_turn f sh len (types_at sh len k) k (the_step sh.step k)
+    unfolding at_step pick
+    at_step_lem h = rw (lt-ltb k sh.steps h) refl
 
-    pub at-past : sh.steps ≤ k → atStep f sh len k ≡ []
-    unfolding atStep pick
-    at-past h = rw (le-ltb k sh.steps h) refl
+    pub at_past : sh.steps ≤ k → at_step f sh len k ≡ []
+    unfolding at_step pick
+    at_past h = rw (le-ltb k sh.steps h) refl
 
-  pub step-few : (tensors : Tensors) (ts : List MatrixType) (len k : ℕ) (step : Step) → Sized ts → length (ofStep f tensors ts len k step) ≤ matrixPlaces
-  unfolding ofStep
-  step-few tensors ts len k Nothing s = omega arith
-  step-few tensors ts len k (Load register object window) s =
-      let t = theType ts (objectRegister register object) in
-      omega (arith, access-count (f k) (accessOf tensors true window t len), sized-places t (s.each (objectRegister register object)))
-  step-few tensors ts len k (Store register window) s =
-      let t = theType ts register in
-      omega (arith, access-count (f k) (accessOf tensors false window t len), sized-places t (s.each register))
-  step-few tensors ts len k (Whole whole) s = omega arith
+  pub step_few : (tensors : Tensors) (ts : List MatrixType) (len k : ℕ) (step : Step) → Sized ts → length (of_step f tensors ts len k step) ≤ matrix_places
+  unfolding of_step
+  step_few tensors ts len k Nothing s = omega arith
+  step_few tensors ts len k (Load register object window) s =
+      let t = the_type ts (object_register register object) in
+      omega (arith, access_count (f k) (access_of tensors true window t len), sized_places t (s.each (object_register register object)))
+  step_few tensors ts len k (Store register window) s =
+      let t = the_type ts register in
+      omega (arith, access_count (f k) (access_of tensors false window t len), sized_places t (s.each register))
+  step_few tensors ts len k (Whole whole) s = omega arith
 
   module _ (sh : Sheet) (w : Within sh) (len : ℕ) where
-    steps-few : (n k : ℕ) (ts : List MatrixType) → k + n ≤ sh.steps → Sized ts → length (passFrom (ofTurn f sh len) n sh len k ts) ≤ n * matrixPlaces
-    unfolding passFrom
-    steps-few zero k ts l s = omega arith
-    steps-few (suc n) k ts l s =
-        let step = theStep sh.step k in
-        let after = (checkedStep sh.edition sh.tensors ts len step).types in
-        let sized = check-sized sh.edition sh.tensors ts len step sh.edition sh.tensors.layouts sh.tensors.views (within_step sh w k (omega arith)) s in
-        let both = length-append (ofStep f sh.tensors ts len k step) (passFrom (ofTurn f sh len) n sh len (k + 1) after) in
-        omega (arith, both, step-few sh.tensors ts len k step s, steps-few n (k + 1) after (omega arith) sized)
+    steps_few : (n k : ℕ) (ts : List MatrixType) → k + n ≤ sh.steps → Sized ts → length (pass_from (of_turn f sh len) n sh len k ts) ≤ n * matrix_places
+    unfolding pass_from
+    steps_few zero k ts l s = omega arith
+    steps_few (suc n) k ts l s =
+        let step = the_step sh.step k in
+        let after = (checked_step sh.edition sh.tensors ts len step).types in
+        let sized = check_sized sh.edition sh.tensors ts len step sh.edition sh.tensors.layouts sh.tensors.views (within_step sh w k (omega arith)) s in
+        let both = length-append (of_step f sh.tensors ts len k step) (pass_from (of_turn f sh len) n sh len (k + 1) after) in
+        omega (arith, both, step_few sh.tensors ts len k step s, steps_few n (k + 1) after (omega arith) sized)
 
-    pub sheet-few : length (ofSheet f sh len) ≤ stepPlaces * matrixPlaces
-    sheet-few = omega (arith, steps-few sh.steps 0 emptyRegisters.types (omega arith) sized-empty, within-places w)
+    pub sheet_few : length (of_sheet f sh len) ≤ step_places * matrix_places
+    sheet_few = omega (arith, steps_few sh.steps 0 empty_registers.types (omega arith) sized_empty, within_places w)

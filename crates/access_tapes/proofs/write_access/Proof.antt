@@ -3,9 +3,9 @@ use mathlib.Core.List.{List}
 use Prim.Native.Nat.{ℕ}
 use lib.Seq.{sets}
 use Rattle.records.specs.declared.Record.{Record}
-use Rattle.masks.specs.Masks.{maskPlace}
+use Rattle.masks.specs.Masks.{mask_place}
 use Rattle.access_tapes.specs.Writing.{Room, Wrote}
-use Rattle.access_tapes.proofs.Laws.{listed-records, listed-mask}
+use Rattle.access_tapes.proofs.Laws.{listed_records, listed_mask}
 use borrow.Author.Rules.{rules}
 use Rattle.access_tapes.proofs.write_access.Statement.{statement}
 use Rattle.access_tapes.proofs.write_access.Tie as tie
@@ -23,7 +23,7 @@ write-runs-requires c κs =
     let s = c.before.before.before.before.before.before.before.before.before.before in
     let a = s.args in
     let l = c.before.before.before.before.before.before.before.survey-access.ensures.1 in
-    (l.few, s.requires.1.1.0, subst (λ (rs : List Record). Room a.tape.now a.at rs) (sym (listed-records l a.access.load a.register)) s.requires.1.1.1)
+    (l.few, s.requires.1.1.0, subst (λ (rs : List Record). Room a.tape.now a.at rs) (sym (listed_records l a.access.load a.register)) s.requires.1.1.1)
 
 same_length : tie.Need-same-length
 same_length c = search rules
@@ -38,12 +38,12 @@ returns c =
     let w = c.before.write-runs in (
       v.0,
       (
-        subst (λ (rs : List Record). Wrote a.tape.now w.new.0 a.at rs w.result) (listed-records v.1 a.access.load a.register) w.ensures,
-        c.before.before.before.before.before.before.put-mask.ensures ∙ ap (λ (m : List ℕ). sets a.masks.now (maskPlace a.k) m) (listed-mask v.1),
+        subst (λ (rs : List Record). Wrote a.tape.now w.new.0 a.at rs w.result) (listed_records v.1 a.access.load a.register) w.ensures,
+        c.before.before.before.before.before.before.put-mask.ensures ∙ ap (λ (m : List ℕ). sets a.masks.now (mask_place a.k) m) (listed_mask v.1),
       ),
     )
 
-pub write-access-spec : {M : Type 1} → statement M
-write-access-spec =
+pub write_access_spec : {M : Type 1} → statement M
+write_access_spec =
     tie.close
     (tie.spec survey-access-requires put-mask-requires write-runs-requires same_length same-length-2 returns)

@@ -2,16 +2,16 @@
 use Rattle.std.specs.Prelude.{ℕ, ◌≤◌, length}
 use Rattle.std.proofs.Common.{arith}
 use Rattle.outcomes.specs.declared.Outcome.{Outcome}
-use Rattle.addressing.specs.Rules.{elementsOf}
+use Rattle.addressing.specs.Rules.{elements_of}
 use Rattle.addressing.specs.declared.Access.{Access}
-use Rattle.transfers.specs.Transfers.{outcomeOf}
+use Rattle.transfers.specs.Transfers.{outcome_of}
 use Rattle.runs.specs.Runs.{runs}
-use Rattle.runs.specs.Laws.Writing.{count-all, count-few, count-records}
-use Rattle.access_tapes.specs.Accesses.{accessRecords}
+use Rattle.runs.specs.Laws.Writing.{count_all, count_few, count_records}
+use Rattle.access_tapes.specs.Accesses.{access_records}
 
 -- no more runs than elements
-runs-few : (f : ℕ → Outcome) (n : ℕ) → length (runs f n) ≤ n
-runs-few f n = omega (arith, count-all f n, count-few f n)
+runs_few : (f : ℕ → Outcome) (n : ℕ) → length (runs f n) ≤ n
+runs_few f n = omega (arith, count_all f n, count_few f n)
 
-pub access-few : (a : Access) (register : ℕ) → length (accessRecords a register) ≤ elementsOf a
-access-few a register = rw (count-records a.load register (outcomeOf a) (elementsOf a)) (runs-few (outcomeOf a) (elementsOf a))
+pub access_few : (a : Access) (register : ℕ) → length (access_records a register) ≤ elements_of a
+access_few a register = rw (count_records a.load register (outcome_of a) (elements_of a)) (runs_few (outcome_of a) (elements_of a))

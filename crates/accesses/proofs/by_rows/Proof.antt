@@ -22,7 +22,7 @@ dimension-at-requires c κs = search rules
 returns-4 : tie.Need-returns-4
 returns-4 c = search rules
 
-pub by-rows-spec : {M : Type 1} → statement M
-by-rows-spec =
+pub by_rows_spec : {M : Type 1} → statement M
+by_rows_spec =
     tie.close
     (tie.spec returns returns-2 returns-3 sub-dimension-at dimension-at-requires returns-4)

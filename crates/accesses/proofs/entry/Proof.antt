@@ -1,7 +1,7 @@
 use Prim.Native.Nat.{◌<◌}
 use native.Mathlib.Omega.{arith}
 use borrow.Author.Rules.{rules}
-use Rattle.sheet.specs.Sizes.{memoryLimit}
+use Rattle.sheet.specs.Sizes.{memory_limit}
 use Rattle.accesses.proofs.entry.Statement.{statement}
 use Rattle.accesses.proofs.entry.Tie as tie
 
@@ -19,12 +19,12 @@ enum-known-o c = search rules
 
 cast-result : tie.Need-overflow-cast-result
 cast-result c = let o = c.before.o in
-    let h : o.given.0.0 < memoryLimit = rw o.given.1 at c.before.before.before.requires in
+    let h : o.given.0.0 < memory_limit = rw o.given.1 at c.before.before.before.requires in
     omega arith
 
 add-result : tie.Need-overflow-add-result
 add-result c = let o = c.before.o in
-    let h : o.given.0.0 < memoryLimit = rw o.given.1 at c.before.before.before.requires in
+    let h : o.given.0.0 < memory_limit = rw o.given.1 at c.before.before.before.requires in
     omega arith
 
 returns : tie.Need-returns

@@ -5,5 +5,5 @@ use Rattle.accesses.proofs.no_entries.Tie as tie
 returns : tie.Need-returns
 returns c = refl
 
-pub no-entries-spec : {M : Type 1} → statement M
-no-entries-spec = tie.close (tie.spec returns)
+pub no_entries_spec : {M : Type 1} → statement M
+no_entries_spec = tie.close (tie.spec returns)

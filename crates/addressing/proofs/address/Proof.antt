@@ -3,9 +3,9 @@ use native.Mathlib.Nat.{mul-le-mul}
 use native.Mathlib.Omega.{arith}
 use borrow.Author.Tests.{le-leb, lt-leb}
 use borrow.Author.Rules.{rules}
-use Rattle.dimensions.specs.Dimensions.{partLimit}
+use Rattle.dimensions.specs.Dimensions.{part_limit}
 use Rattle.numbers.specs.Laws.Choice.{taken, left}
-use Rattle.sheet.specs.Sizes.{rankPlaces}
+use Rattle.sheet.specs.Sizes.{rank_places}
 use Rattle.addressing.specs.Rules.{addressed}
 use Rattle.addressing.proofs.address.Statement.{statement}
 use Rattle.addressing.proofs.address.Tie as tie
@@ -16,19 +16,19 @@ cast-byte c = search rules
 mul-byte : tie.Need-overflow-mul-byte
 mul-byte c =
     let s = c.before in
-    let m : s.args.t * s.args.a.size ≤ rankPlaces * partLimit * 4 = mul-le-mul s.requires.1 s.requires.0.sized.most in
+    let m : s.args.t * s.args.a.size ≤ rank_places * part_limit * 4 = mul-le-mul s.requires.1 s.requires.0.sized.most in
     omega arith
 
 add-byte : tie.Need-overflow-add-byte
 add-byte c =
     let s = c.before in
-    let m : s.args.t * s.args.a.size ≤ rankPlaces * partLimit * 4 = mul-le-mul s.requires.1 s.requires.0.sized.most in
+    let m : s.args.t * s.args.a.size ≤ rank_places * part_limit * 4 = mul-le-mul s.requires.1 s.requires.0.sized.most in
     omega arith
 
 add-if1 : tie.Need-overflow-add-if1
 add-if1 c =
     let s = c.before in
-    let m : s.args.t * s.args.a.size ≤ rankPlaces * partLimit * 4 = mul-le-mul s.requires.1 s.requires.0.sized.most in
+    let m : s.args.t * s.args.a.size ≤ rank_places * part_limit * 4 = mul-le-mul s.requires.1 s.requires.0.sized.most in
     omega arith
 
 answer-requires : tie.Need-answer-requires

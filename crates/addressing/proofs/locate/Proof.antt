@@ -1,5 +1,5 @@
-use Rattle.addressing.specs.Laws.Plans.{plan-fill}
-use Rattle.addressing.proofs.Laws.{plan-numbers, plan-tail}
+use Rattle.addressing.specs.Laws.Plans.{plan_fill}
+use Rattle.addressing.proofs.Laws.{plan_numbers, plan_tail}
 use Rattle.addressing.specs.Rules.{located}
 use mathlib.Core.Path.{◌∙◌}
 use borrow.Author.Rules.{rules}
@@ -20,7 +20,7 @@ enum-known-i c = search rules
 
 reach-requires : tie.Need-reach-requires
 reach-requires c κs = let s = c.before.before.before.before in
-    (s.requires.0.0.valid, plan-fill s.args.p s.requires.0.0, s.requires.1.3 ∙ plan-numbers s.args.p s.requires.0.0, plan-tail s.args.p s.requires.0.0, s.requires.0.0.start)
+    (s.requires.0.0.valid, plan_fill s.args.p s.requires.0.0, s.requires.1.3 ∙ plan_numbers s.args.p s.requires.0.0, plan_tail s.args.p s.requires.0.0, s.requires.0.0.start)
 
 returns : tie.Need-returns
 unfolding located
@@ -30,8 +30,8 @@ returns-2 : tie.Need-returns-2
 unfolding located
 returns-2 c = c.reach.ensures ∙ rw (← c.before.before.before.before.index_of.ensures, c.before.before.i.given.1)
 
-pub locate-spec : {M : Type 1} → statement M
-locate-spec =
+pub locate_spec : {M : Type 1} → statement M
+locate_spec =
     tie.close
     (tie.spec
     index-of-requires

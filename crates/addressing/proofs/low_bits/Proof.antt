@@ -16,5 +16,5 @@ returns-3 c =
     let e : a.size ≡ 4 = omega arith in
     rw e (sym (mod-eq_of_lt (omega arith)))
 
-pub low-bits-spec : {M : Type 1} → statement M
-low-bits-spec = tie.close (tie.spec returns returns-2 returns-3)
+pub low_bits_spec : {M : Type 1} → statement M
+low_bits_spec = tie.close (tie.spec returns returns-2 returns-3)

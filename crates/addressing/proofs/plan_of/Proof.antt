@@ -1,5 +1,5 @@
 use borrow.Author.Rules.{rules}
-use Rattle.addressing.proofs.Laws.{and_so, plan-is}
+use Rattle.addressing.proofs.Laws.{and_so, plan_is}
 use Rattle.addressing.proofs.plan_of.Statement.{statement}
 use Rattle.addressing.proofs.plan_of.Tie as tie
 
@@ -33,11 +33,11 @@ tail-of-requires c κs = search rules
 returns : tie.Need-returns
 returns c = let s = c.before.before.before.before.before.before.before.before.before.before.before.before in
     and_so
-    (plan-is s.args.a (rw c.before.before.wide.ensures.0 at c.before.smaller.ensures) c.low-bits.ensures c.before.before.before.before.before.before.before.sizes-of.ensures c.before.before.before.before.before.before.strides-of.ensures.0 c.before.before.before.Tail-of.ensures.0.0 c.before.before.before.Tail-of.ensures.1)
+    (plan_is s.args.a (rw c.before.before.wide.ensures.0 at c.before.smaller.ensures) c.low-bits.ensures c.before.before.before.before.before.before.before.sizes-of.ensures c.before.before.before.before.before.before.strides-of.ensures.0 c.before.before.before.Tail-of.ensures.0.0 c.before.before.before.Tail-of.ensures.1)
     (λ e. record { valid = s.requires; same = e; few = s.requires.sized.area; strides = c.before.before.before.before.before.before.strides-of.ensures.1; start = c.before.before.before.Tail-of.ensures.0.1 })
 
-pub plan-of-spec : {M : Type 1} → statement M
-plan-of-spec =
+pub plan_of_spec : {M : Type 1} → statement M
+plan_of_spec =
     tie.close
     (tie.spec
     mul-count

@@ -1,7 +1,7 @@
-use Rattle.dimensions.specs.Dimensions.{lead, partLimit}
-use Rattle.tensor_ranges.specs.Laws.Facts.{layout-most}
+use Rattle.dimensions.specs.Dimensions.{lead, part_limit}
+use Rattle.tensor_ranges.specs.Laws.Facts.{layout_most}
 use native.Mathlib.Omega.{arith}
-use Rattle.addressing.proofs.Laws.{reached-far, reached-up, tail-whole}
+use Rattle.addressing.proofs.Laws.{reached_far, reached_up, tail_whole}
 use Rattle.clamps.specs.declared.Clamped.TheVariants.{Refused, Discarded, Filled, At}
 use mathlib.Core.Path.{sym, ◌∙◌}
 use Prim.Native.Nat.{◌≤◌, ◌+◌, ◌*◌}
@@ -13,7 +13,7 @@ refuse-requires : tie.Need-refuse-requires
 refuse-requires c κs = search rules
 
 returns : tie.Need-returns
-returns c = c.refuse.ensures ∙ reached-far _ _ c.before.if1.true
+returns c = c.refuse.ensures ∙ reached_far _ _ c.before.if1.true
 
 cast-rank : tie.Need-overflow-cast-rank
 cast-rank c = search rules
@@ -48,27 +48,27 @@ enum-known-t c = search rules
 address-requires : tie.Need-address-requires
 address-requires c κs = let s = c.before.before.before.before.before.before in
     let t = c.before.t.given in
-    let m : t.0.0 ≤ (lead s.args.a.layout + s.args.tail.rank) * partLimit = rw t.1 at c.before.before.before.tensor-index.ensures.1 in
-    (s.requires.0, omega (arith, m, tail-whole s.args.a.layout s.args.tail s.requires.3, layout-most s.args.a.layout s.requires.0.sized.layout))
+    let m : t.0.0 ≤ (lead s.args.a.layout + s.args.tail.rank) * part_limit = rw t.1 at c.before.before.before.tensor-index.ensures.1 in
+    (s.requires.0, omega (arith, m, tail_whole s.args.a.layout s.args.tail s.requires.3, layout_most s.args.a.layout s.requires.0.sized.layout))
 
 returns-2 : tie.Need-returns-2
 returns-2 c = let s = c.before.before.before.before.before.before in
-    c.refuse2.ensures ∙ reached-up s.args.a s.args.index Refused s.args.tail s.requires.0 s.requires.3 (search rules) (sym c.before.before.before.tensor-index.ensures.0 ∙ c.before.enum_told.given.1)
+    c.refuse2.ensures ∙ reached_up s.args.a s.args.index Refused s.args.tail s.requires.0 s.requires.3 (search rules) (sym c.before.before.before.tensor-index.ensures.0 ∙ c.before.enum_told.given.1)
 
 returns-3 : tie.Need-returns-3
 returns-3 c = let s = c.before.before.before.before.before.before in
-    c.answer.ensures ∙ reached-up s.args.a s.args.index Discarded s.args.tail s.requires.0 s.requires.3 (search rules) (sym c.before.before.before.tensor-index.ensures.0 ∙ c.before.enum-told2.given.1)
+    c.answer.ensures ∙ reached_up s.args.a s.args.index Discarded s.args.tail s.requires.0 s.requires.3 (search rules) (sym c.before.before.before.tensor-index.ensures.0 ∙ c.before.enum-told2.given.1)
 
 returns-4 : tie.Need-returns-4
 returns-4 c = let s = c.before.before.before.before.before.before in
-    c.answer2.ensures ∙ rw s.requires.1 (reached-up s.args.a s.args.index Filled s.args.tail s.requires.0 s.requires.3 (search rules) (sym c.before.before.before.tensor-index.ensures.0 ∙ c.before.enum-told3.given.1))
+    c.answer2.ensures ∙ rw s.requires.1 (reached_up s.args.a s.args.index Filled s.args.tail s.requires.0 s.requires.3 (search rules) (sym c.before.before.before.tensor-index.ensures.0 ∙ c.before.enum-told3.given.1))
 
 returns-5 : tie.Need-returns-5
 returns-5 c = let s = c.before.before.before.before.before.before.before in
-    c.address.ensures ∙ reached-up s.args.a s.args.index (At c.before.before.t.given.0.0) s.args.tail s.requires.0 s.requires.3 (search rules) (sym c.before.before.before.before.tensor-index.ensures.0 ∙ c.before.before.t.given.1)
+    c.address.ensures ∙ reached_up s.args.a s.args.index (At c.before.before.t.given.0.0) s.args.tail s.requires.0 s.requires.3 (search rules) (sym c.before.before.before.before.tensor-index.ensures.0 ∙ c.before.before.t.given.1)
 
-pub reach-spec : {M : Type 1} → statement M
-reach-spec =
+pub reach_spec : {M : Type 1} → statement M
+reach_spec =
     tie.close
     (tie.spec
     refuse-requires

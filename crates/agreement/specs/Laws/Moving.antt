@@ -4,26 +4,26 @@ use Rattle.std.specs.Prelude.{◌≡◌, Bool, List, [], ◌∷◌}
 use Rattle.std.proofs.Math.Path.{refl, sym, ap}
 use Rattle.std.proofs.Common.{◌∙◌, true≢false}
 use Rattle.std.proofs.Math.Bool.{true, false}
-use Rattle.numbers.specs.Orders.{inOrder}
+use Rattle.numbers.specs.Orders.{in_order}
 use Rattle.numbers.specs.Lists.{each}
 use Rattle.kinds.specs.Widths.{bytes_of}
 use Rattle.outcomes.specs.declared.Outcome.{Outcome}
 use Rattle.outcomes.specs.declared.Outcome.TheVariants.{Skipped, Filled, Discarded, Placed}
 use Rattle.sheet.specs.declared.Sheet.{Sheet}
-use Rattle.registers.specs.Types.{theType}
+use Rattle.registers.specs.Types.{the_type}
 use Rattle.registers.specs.declared.MatrixType.{MatrixType}
 use Rattle.transfers.specs.Acts.{State, took, gave, put, loaded, stored}
 use Rattle.transfers.specs.Transfers.{transferred}
 use Rattle.carrying.specs.Steps.{Machine, state_of, machine_of}
 use Rattle.records.specs.declared.Record.TheVariants.{Fill}
 use Rattle.records.specs.Records.{moved}
-use Rattle.runs.specs.Runs.{runsRecords}
+use Rattle.runs.specs.Runs.{runs_records}
 use Rattle.runs.specs.Acts.{Act, one, spread, pour, meet, give}
-use Rattle.runs.specs.Laws.States.{fold, elementwise, fold-append, same-records}
-use Rattle.moves.specs.Elements.{onElements}
-use Rattle.running.specs.Records.{ranRecordWith, ranRecord}
-use Rattle.judging.specs.Laws.Bytes.{byte-natural}
-use Rattle.agreement.specs.Laws.Passing.{ranAll}
+use Rattle.runs.specs.Laws.States.{fold, elementwise, fold_append, same_records}
+use Rattle.moves.specs.Elements.{on_elements}
+use Rattle.running.specs.Records.{ran_record_with, ran_record}
+use Rattle.judging.specs.Laws.Bytes.{byte_natural}
+use Rattle.agreement.specs.Laws.Passing.{ran_all}
 
 -- an element meets its byte: on a load it takes the bits there, on a store it is written there
 abbrev crossed : Bool → ℕ → ℕ → ℕ → ℕ → State → State
@@ -31,14 +31,14 @@ crossed true = took
 crossed false = put
 
 -- what the outcome of an element does
-abbrev pub elementDone : Bool → ℕ → ℕ → ℕ → Outcome → State → State
-elementDone true = loaded
-elementDone false = stored
+abbrev pub element_done : Bool → ℕ → ℕ → ℕ → Outcome → State → State
+element_done true = loaded
+element_done false = stored
 
 -- one act on a machine
 abbrev acted : Bool → ℕ → Machine → Act → Machine
 acted load register m (meet e b) =
-    machine_of m.registers.types (crossed load (bytes_of (theType m.registers.types register).kind) register e b (state_of m))
+    machine_of m.registers.types (crossed load (bytes_of (the_type m.registers.types register).kind) register e b (state_of m))
 acted load register m (give e v) = machine_of m.registers.types (gave register e v (state_of m))
 
 -- only a load fills
@@ -50,59 +50,59 @@ FillsOnLoad load (Placed b) = Unit {0}
 
 module _ (sh : Sheet) (register : ℕ) where
   -- a take or a put crosses its elements
-  moved-crosses : (load : Bool) (first count byte up down : ℕ) (m : Machine)
-      → ranRecord sh (moved load register first count byte up down) m
-      ≡ onElements register (λ (size i : ℕ) (s : State). crossed load size register (first + i) (byte + i * up - i * down) s) count m
-  unfolding ranRecordWith moved
-  moved-crosses true first count byte up down m =
-      λ j. onElements register (λ (size i : ℕ) (s : State). crossed true size register (first + i) (byte-natural byte up down i j) s) count m
-  moved-crosses false first count byte up down m =
-      λ j. onElements register (λ (size i : ℕ) (s : State). crossed false size register (first + i) (byte-natural byte up down i j) s) count m
+  moved_crosses : (load : Bool) (first count byte up down : ℕ) (m : Machine)
+      → ran_record sh (moved load register first count byte up down) m
+      ≡ on_elements register (λ (size i : ℕ) (s : State). crossed load size register (first + i) (byte + i * up - i * down) s) count m
+  unfolding ran_record_with moved
+  moved_crosses true first count byte up down m =
+      λ j. on_elements register (λ (size i : ℕ) (s : State). crossed true size register (first + i) (byte_natural byte up down i j) s) count m
+  moved_crosses false first count byte up down m =
+      λ j. on_elements register (λ (size i : ℕ) (s : State). crossed false size register (first + i) (byte_natural byte up down i j) s) count m
 
   crosses : (load : Bool) (first count byte up down : ℕ) (m : Machine)
-      → onElements register (λ (size i : ℕ) (s : State). crossed load size register (first + i) (byte + i * up - i * down) s) count m
+      → on_elements register (λ (size i : ℕ) (s : State). crossed load size register (first + i) (byte + i * up - i * down) s) count m
       ≡ fold (acted load register) m (spread first count byte up down)
-  unfolding inOrder spread each fold
+  unfolding in_order spread each fold
   crosses load first zero byte up down m = refl
   crosses load first (suc n) byte up down m =
       ap (λ (x : Machine). acted load register x (meet (first + n) (byte + n * up - n * down))) (crosses load first n byte up down m)
-      ∙ sym (fold-append (acted load register) m (spread first n byte up down) (meet (first + n) (byte + n * up - n * down) ∷ []))
+      ∙ sym (fold_append (acted load register) m (spread first n byte up down) (meet (first + n) (byte + n * up - n * down) ∷ []))
 
   pours : (load : Bool) (first count value : ℕ) (m : Machine)
-      → ranRecord sh (Fill register first count value) m ≡ fold (acted load register) m (pour first count value)
-  unfolding ranRecordWith inOrder pour each fold
+      → ran_record sh (Fill register first count value) m ≡ fold (acted load register) m (pour first count value)
+  unfolding ran_record_with in_order pour each fold
   pours load first zero value m = refl
   pours load first (suc n) value m =
       ap (λ (x : Machine). acted load register x (give (first + n) value)) (pours load first n value m)
-      ∙ sym (fold-append (acted load register) m (pour first n value) (give (first + n) value ∷ []))
+      ∙ sym (fold_append (acted load register) m (pour first n value) (give (first + n) value ∷ []))
 
   -- one element
-  one-done : (load : Bool) (ts : List MatrixType) (k : ℕ) (o : Outcome) (s : State) → FillsOnLoad load o
-      → fold (acted load register) (machine_of ts s) (one k o) ≡ machine_of ts (elementDone load (bytes_of (theType ts register).kind) register k o s)
+  one_done : (load : Bool) (ts : List MatrixType) (k : ℕ) (o : Outcome) (s : State) → FillsOnLoad load o
+      → fold (acted load register) (machine_of ts s) (one k o) ≡ machine_of ts (element_done load (bytes_of (the_type ts register).kind) register k o s)
   unfolding fold
-  one-done true ts k Skipped s h = refl
-  one-done true ts k (Filled v) s h = refl
-  one-done true ts k Discarded s h = refl
-  one-done true ts k (Placed b) s h = refl
-  one-done false ts k Skipped s h = refl
-  one-done false ts k (Filled v) s h = absurd (true≢false (sym h))
-  one-done false ts k Discarded s h = refl
-  one-done false ts k (Placed b) s h = refl
+  one_done true ts k Skipped s h = refl
+  one_done true ts k (Filled v) s h = refl
+  one_done true ts k Discarded s h = refl
+  one_done true ts k (Placed b) s h = refl
+  one_done false ts k Skipped s h = refl
+  one_done false ts k (Filled v) s h = absurd (true≢false (sym h))
+  one_done false ts k Discarded s h = refl
+  one_done false ts k (Placed b) s h = refl
 
-  elements-done : (load : Bool) (f : ℕ → Outcome) (n : ℕ) (m : Machine) → ((i : ℕ) → FillsOnLoad load (f i))
+  elements_done : (load : Bool) (f : ℕ → Outcome) (n : ℕ) (m : Machine) → ((i : ℕ) → FillsOnLoad load (f i))
       → elementwise (acted load register) f n m
-      ≡ machine_of m.registers.types (transferred (elementDone load (bytes_of (theType m.registers.types register).kind) register) f n (state_of m))
+      ≡ machine_of m.registers.types (transferred (element_done load (bytes_of (the_type m.registers.types register).kind) register) f n (state_of m))
   unfolding elementwise transferred
-  elements-done load f zero m h = refl
-  elements-done load f (suc n) m h =
-      ap (λ (x : Machine). fold (acted load register) x (one n (f n))) (elements-done load f n m h)
-      ∙ one-done load m.registers.types n (f n) _ (h n)
+  elements_done load f zero m h = refl
+  elements_done load f (suc n) m h =
+      ap (λ (x : Machine). fold (acted load register) x (one n (f n))) (elements_done load f n m h)
+      ∙ one_done load m.registers.types n (f n) _ (h n)
 
   pub runs_done : (load : Bool) (f : ℕ → Outcome) (n : ℕ) (m : Machine) → ((i : ℕ) → FillsOnLoad load (f i))
-      → ranAll sh (runsRecords load register f n) m
-      ≡ machine_of m.registers.types (transferred (elementDone load (bytes_of (theType m.registers.types register).kind) register) f n (state_of m))
+      → ran_all sh (runs_records load register f n) m
+      ≡ machine_of m.registers.types (transferred (element_done load (bytes_of (the_type m.registers.types register).kind) register) f n (state_of m))
   runs_done load f n m h =
-      same-records (acted load register) (ranRecord sh) load register f n
-      (λ first count byte up down s. moved-crosses load first count byte up down s ∙ crosses load first count byte up down s)
+      same_records (acted load register) (ran_record sh) load register f n
+      (λ first count byte up down s. moved_crosses load first count byte up down s ∙ crosses load first count byte up down s)
       (λ first count value s i l e. pours load first count value s) m
-      ∙ elements-done load f n m h
+      ∙ elements_done load f n m h

@@ -5,58 +5,58 @@ use Rattle.std.proofs.Math.Path.{sym, ap}
 use Rattle.std.proofs.Common.{◌∙◌, zero-add, arith, le-leb}
 use Rattle.std.proofs.Math.ListN.{length, length-append}
 use Rattle.numbers.specs.Laws.Choice.{both_true, taken}
-use Rattle.sheet.specs.Sizes.{memoryLimit}
+use Rattle.sheet.specs.Sizes.{memory_limit}
 use Rattle.sheet.specs.declared.Sheet.{Sheet}
 use Rattle.sheet.specs.Editions.{limits}
 use Rattle.sheet_ranges.specs.Laws.Within.{Within}
 use Rattle.checking.specs.Checking.{checked}
 use Rattle.carrying.specs.Carrying.{performed, started}
-use Rattle.carrying.specs.Laws.Types.{started-formed}
+use Rattle.carrying.specs.Laws.Types.{started_formed}
 use Rattle.records.specs.declared.Record.TheVariants.{Whole}
 use Rattle.records.specs.declared.Decoded.{Decoded}
 use Rattle.records.specs.declared.Decoded.TheVariants.{Good}
-use Rattle.records.specs.Records.{recordLength, tapeNumbers}
-use Rattle.records.specs.Laws.Records.{tape-back, length-tape}
-use Rattle.records.specs.Room.{recordsFit}
-use Rattle.translating.specs.Tapes.{tapeOf}
-use Rattle.judging.specs.Judging.{tapeRecord, tapeRefusal}
-use Rattle.agreement.specs.Laws.Passing.{Says, passes-range, ran-list}
-use Rattle.agreement.specs.Laws.Ranges.{tape-within}
+use Rattle.records.specs.Records.{record_length, tape_numbers}
+use Rattle.records.specs.Laws.Records.{tape_back, length_tape}
+use Rattle.records.specs.Room.{records_fit}
+use Rattle.translating.specs.Tapes.{tape_of}
+use Rattle.judging.specs.Judging.{tape_record, tape_refusal}
+use Rattle.agreement.specs.Laws.Passing.{Says, passes_range, ran_list}
+use Rattle.agreement.specs.Laws.Ranges.{tape_within}
 use Rattle.agreement.specs.Agreement.{Agrees, NumbersAgree}
-use Rattle.agreement.specs.Laws.Steps.{Agree, from-agree}
+use Rattle.agreement.specs.Laws.Steps.{Agree, from_agree}
 
 module _ (sh : Sheet) (w : Within sh) (memory : List ℕ) (h : (checked sh (length memory)).refusal.number ≡ 0) where
   -- whatever gives the records of the sheet's tape, by their numbers
-  pub agrees : (the : ℕ → Decoded) → Says the 0 (tapeOf sh (length memory)) → Agrees sh memory (length (tapeOf sh (length memory))) the
-  unfolding tapeOf checked performed
+  pub agrees : (the : ℕ → Decoded) → Says the 0 (tape_of sh (length memory)) → Agrees sh memory (length (tape_of sh (length memory))) the
+  unfolding tape_of checked performed
   agrees the s =
-      let a : Agree sh.steps sh 0 (started memory) = from-agree sh w sh.steps 0 (started memory) 0 (omega arith) h (started-formed memory) in
+      let a : Agree sh.steps sh 0 (started memory) = from_agree sh w sh.steps 0 (started memory) 0 (omega arith) h (started_formed memory) in
       record {
-        accepted = passes-range sh the 0 s a.passes;
-        same = ran-list sh the (tapeOf sh (length memory)) 0 (started memory) s ∙ a.same;
+        accepted = passes_range sh the 0 s a.passes;
+        same = ran_list sh the (tape_of sh (length memory)) 0 (started memory) s ∙ a.same;
       }
 
   -- Agreement: the tape of an accepted sheet, record by record, however long the tape and the memory are.
-  pub agreement : Agrees sh memory (length (tapeOf sh (length memory))) (λ (k : ℕ). Good (get_or (tapeOf sh (length memory)) k (Whole 0)))
-  agreement = agrees (λ (k : ℕ). Good (get_or (tapeOf sh (length memory)) k (Whole 0))) (λ i l. rw (zero-add i))
+  pub agreement : Agrees sh memory (length (tape_of sh (length memory))) (λ (k : ℕ). Good (get_or (tape_of sh (length memory)) k (Whole 0)))
+  agreement = agrees (λ (k : ℕ). Good (get_or (tape_of sh (length memory)) k (Whole 0))) (λ i l. rw (zero-add i))
 
   -- Agreement over numbers: the tape of an accepted sheet as the numbers of a slice, six a record, with any numbers after them;
   -- memory's limit keeps the numbers in their ranges, and a record count above its limit is refused.
-  module _ (most : length memory ≤ memoryLimit) (few : length (tapeOf sh (length memory)) ≤ (limits sh.edition).records) (numbers rest : List ℤ)
-      (is : numbers ≡ tapeNumbers (tapeOf sh (length memory)) ++ rest) where
-    numbers-say : Says (tapeRecord numbers) 0 (tapeOf sh (length memory))
-    numbers-say i l = rw (is, zero-add i) (tape-back (tapeOf sh (length memory)) rest i (tape-within (length memory) most sh w h) l)
+  module _ (most : length memory ≤ memory_limit) (few : length (tape_of sh (length memory)) ≤ (limits sh.edition).records) (numbers rest : List ℤ)
+      (is : numbers ≡ tape_numbers (tape_of sh (length memory)) ++ rest) where
+    numbers_say : Says (tape_record numbers) 0 (tape_of sh (length memory))
+    numbers_say i l = rw (is, zero-add i) (tape_back (tape_of sh (length memory)) rest i (tape_within (length memory) most sh w h) l)
 
-    numbers_fit : recordsFit sh.edition (length numbers) (length (tapeOf sh (length memory))) ≡ true
-    unfolding recordsFit
+    numbers_fit : records_fit sh.edition (length numbers) (length (tape_of sh (length memory))) ≡ true
+    unfolding records_fit
     numbers_fit =
-        let n = length (tapeOf sh (length memory)) in
-        let long : length numbers ≡ n * recordLength + length rest =
-        ap length is ∙ length-append (tapeNumbers (tapeOf sh (length memory))) rest ∙ rw (length-tape (tapeOf sh (length memory))) in
-        both_true _ _ (le-leb n (limits sh.edition).records few) (le-leb (n * recordLength) (length numbers) (omega arith))
+        let n = length (tape_of sh (length memory)) in
+        let long : length numbers ≡ n * record_length + length rest =
+        ap length is ∙ length-append (tape_numbers (tape_of sh (length memory))) rest ∙ rw (length_tape (tape_of sh (length memory))) in
+        both_true _ _ (le-leb n (limits sh.edition).records few) (le-leb (n * record_length) (length numbers) (omega arith))
 
-    pub agreement-numbers : NumbersAgree sh memory (length (tapeOf sh (length memory))) numbers
-    unfolding tapeRefusal
-    agreement-numbers =
-        let a = agrees (tapeRecord numbers) numbers-say in
+    pub agreement_numbers : NumbersAgree sh memory (length (tape_of sh (length memory))) numbers
+    unfolding tape_refusal
+    agreement_numbers =
+        let a = agrees (tape_record numbers) numbers_say in
         record { accepted = sym (taken _ numbers_fit (sym a.accepted)); same = a.same }

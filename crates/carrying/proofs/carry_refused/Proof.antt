@@ -12,5 +12,5 @@ no-counts-requires c κs = search rules
 returns : tie.Need-returns
 returns c = cc
 
-pub carry-refused-spec : {M : Type 1} → statement M
-carry-refused-spec = tie.close (tie.spec empty-types-requires no-counts-requires returns)
+pub carry_refused_spec : {M : Type 1} → statement M
+carry_refused_spec = tie.close (tie.spec empty-types-requires no-counts-requires returns)

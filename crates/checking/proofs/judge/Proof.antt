@@ -1,7 +1,7 @@
 use mathlib.Core.Path.{◌≡◌, sym, ap, ◌∙◌}
 use Rattle.sheet.specs.declared.Sheet.{Sheet}
-use Rattle.checking.specs.Checking.{checkRefused, checked}
-use Rattle.checking.specs.Laws.Readable.{admitted-refused, is-admitted}
+use Rattle.checking.specs.Checking.{check_refused, checked}
+use Rattle.checking.specs.Laws.Readable.{admitted_refused, is_admitted}
 use Rattle.checking.specs.declared.CheckAnswer.{CheckAnswer}
 use native.Mathlib.Omega.{arith}
 use borrow.Author.Rules.{rules}
@@ -19,7 +19,7 @@ returns c =
     let a = c.before.before.before.before.before.before.before.before.args in
     let e = c.before.before.before.before.before.admit.ensures.0 in
     let r = c.check-refused.ensures in (
-      r ∙ ap checkRefused e ∙ sym (admitted-refused a.sheet.now a.memory-len (rw e at c.before.if1.true)),
+      r ∙ ap check_refused e ∙ sym (admitted_refused a.sheet.now a.memory-len (rw e at c.before.if1.true)),
       λ z.
           absurd (omega (arith, c.before.if1.true, z, ap (λ (x : CheckAnswer). x.refusal.number) r)),
     )
@@ -29,16 +29,16 @@ check-requires c κs =
     let a = c.before.before.before.before.before.before.before.before.args in
     let e = c.before.before.before.before.before.admit.ensures in
     let zero : c.before.before.before.before.before.admit.result.refusal.number ≡ 0 = omega (arith, c.before.if1.false) in
-    (e.1 zero, (is-admitted a.sheet.now a.memory-len (rw e.0 at zero)).few)
+    (e.1 zero, (is_admitted a.sheet.now a.memory-len (rw e.0 at zero)).few)
 
 returns-2 : tie.Need-returns-2
 returns-2 c =
     let a = c.before.before.before.before.before.before.before.before.before.args in
     let e = c.before.before.before.before.before.before.admit.ensures in
     let zero : c.before.before.before.before.before.before.admit.result.refusal.number ≡ 0 = omega (arith, c.before.before.if1.false) in
-    let r = is-admitted a.sheet.now a.memory-len (rw e.0 at zero) in
+    let r = is_admitted a.sheet.now a.memory-len (rw e.0 at zero) in
     (c.check.ensures ∙ ap (λ (x : Sheet). checked x a.memory-len) (sym r.same) ∙ sym r.check, λ z. e.1 zero)
 
-pub judge-spec : {M : Type 1} → statement M
-judge-spec =
+pub judge_spec : {M : Type 1} → statement M
+judge_spec =
     tie.close (tie.spec admit-requires check-refused-requires returns check-requires returns-2)

@@ -2,70 +2,70 @@
 use Rattle.std.specs.Prelude.{ℕ, ◌<◌, ◌≡◌, refl, false, List, eqb, ltb, leb, ℤ, length}
 use Rattle.std.proofs.Common.{arith}
 use Rattle.numbers.specs.Choice.{pick, both}
-use Rattle.numbers.specs.Laws.Choice.{by-test}
+use Rattle.numbers.specs.Laws.Choice.{by_test}
 use Rattle.sheet.specs.declared.Sheet.{Sheet}
 use Rattle.sheet_ranges.specs.Sheets.{writable}
-use Rattle.sheet_reader.specs.Reading.{readSheet}
-use Rattle.sheet_writer.specs.Bytes.{sheetBytes}
-use Rattle.sheet_writer.specs.Writing.{written, writtenRoom}
-use Rattle.checking.specs.Checking.{checkedSheet}
-use Rattle.carrying.specs.Carrying.{carried, carriedMemory}
-use Rattle.translating.specs.Translating.{fitsRoom, translated, translates, translatedRoom, translatedMasks}
-use Rattle.running.specs.Running.{runRefusal, runTape, ranMemory}
-use Rattle.tracing.specs.Tracing.{tracedLength, traced, tracedRoom}
-use Rattle.moonbleat.specs.Rewriting.{rewritten, rewrittenRoom}
+use Rattle.sheet_reader.specs.Reading.{read_sheet}
+use Rattle.sheet_writer.specs.Bytes.{sheet_bytes}
+use Rattle.sheet_writer.specs.Writing.{written, written_room}
+use Rattle.checking.specs.Checking.{checked_sheet}
+use Rattle.carrying.specs.Carrying.{carried, carried_memory}
+use Rattle.translating.specs.Translating.{fits_room, translated, translates, translated_room, translated_masks}
+use Rattle.running.specs.Running.{run_refusal, run_tape, ran_memory}
+use Rattle.tracing.specs.Tracing.{traced_length, traced, traced_room}
+use Rattle.moonbleat.specs.Rewriting.{rewritten, rewritten_room}
 
 -- no refusal
 none : 0 < 0 → ⊥
 none h = omega (arith, h)
 
 -- of writing: the room
-pub writing-kept : (sh : Sheet) (out : List ℕ) → 0 < (written sh (length out)).refusal.number → writtenRoom sh out ≡ out
-unfolding written writtenRoom pick
-writing-kept sh out r =
-    by-test (writable sh)
-    (λ e. by-test (leb (length (sheetBytes sh)) (length out)) (λ f. absurd (none (rw (e, f) at r))) (λ f. rw (e, f) refl))
+pub writing_kept : (sh : Sheet) (out : List ℕ) → 0 < (written sh (length out)).refusal.number → written_room sh out ≡ out
+unfolding written written_room pick
+writing_kept sh out r =
+    by_test (writable sh)
+    (λ e. by_test (leb (length (sheet_bytes sh)) (length out)) (λ f. absurd (none (rw (e, f) at r))) (λ f. rw (e, f) refl))
     (λ e. rw e refl)
 
 -- of carrying out: the memory
-pub carrying-kept : (s memory : List ℕ) → 0 < (carried s memory).refusal.number → carriedMemory s memory ≡ memory
-unfolding carried carriedMemory pick
-carrying-kept s memory r =
-    by-test (eqb (checkedSheet s (length memory)).refusal.number 0) (λ e. absurd (none (rw e at r))) (λ e. rw e refl)
+pub carrying_kept : (s memory : List ℕ) → 0 < (carried s memory).refusal.number → carried_memory s memory ≡ memory
+unfolding carried carried_memory pick
+carrying_kept s memory r =
+    by_test (eqb (checked_sheet s (length memory)).refusal.number 0) (λ e. absurd (none (rw e at r))) (λ e. rw e refl)
 
 -- of translating: the tape and the masks
 module _ (s : List ℕ) (len room area : ℕ) where
-  not-translated : 0 < (translated s len room area).refusal.number → translates s len room area ≡ false
+  not_translated : 0 < (translated s len room area).refusal.number → translates s len room area ≡ false
   unfolding translated translates both pick
-  not-translated r =
-      by-test (eqb (checkedSheet s len).refusal.number 0)
-      (λ e. by-test (fitsRoom s len room area) (λ f. absurd (none (rw (e, f) at r))) (λ f. rw (e, f) refl))
+  not_translated r =
+      by_test (eqb (checked_sheet s len).refusal.number 0)
+      (λ e. by_test (fits_room s len room area) (λ f. absurd (none (rw (e, f) at r))) (λ f. rw (e, f) refl))
       (λ e. rw e refl)
 
-pub translating-kept : (s : List ℕ) (len : ℕ) (tape : List ℤ) (area : ℕ) → 0 < (translated s len (length tape) area).refusal.number → translatedRoom s len tape area ≡ tape
-unfolding translatedRoom pick
-translating-kept s len tape area r = rw (not-translated s len (length tape) area r) refl
+pub translating_kept : (s : List ℕ) (len : ℕ) (tape : List ℤ) (area : ℕ) → 0 < (translated s len (length tape) area).refusal.number → translated_room s len tape area ≡ tape
+unfolding translated_room pick
+translating_kept s len tape area r = rw (not_translated s len (length tape) area r) refl
 
-pub masks-kept : (s : List ℕ) (len room : ℕ) (masks : List ℕ) → 0 < (translated s len room (length masks)).refusal.number → translatedMasks s len room masks ≡ masks
-unfolding translatedMasks pick
-masks-kept s len room masks r = rw (not-translated s len room (length masks) r) refl
+pub masks_kept : (s : List ℕ) (len room : ℕ) (masks : List ℕ) → 0 < (translated s len room (length masks)).refusal.number → translated_masks s len room masks ≡ masks
+unfolding translated_masks pick
+masks_kept s len room masks r = rw (not_translated s len room (length masks) r) refl
 
 -- of running: the memory
-pub running-kept : (s : List ℕ) (tape : List ℤ) (records : ℕ) (memory : List ℕ) → 0 < (runTape s tape records memory).refusal.number → ranMemory s tape records memory ≡ memory
-unfolding runTape ranMemory pick
-running-kept s tape records memory r =
-    by-test (eqb (runRefusal s tape records (length memory)).number 0) (λ e. absurd (none (rw e at r))) (λ e. rw e refl)
+pub running_kept : (s : List ℕ) (tape : List ℤ) (records : ℕ) (memory : List ℕ) → 0 < (run_tape s tape records memory).refusal.number → ran_memory s tape records memory ≡ memory
+unfolding run_tape ran_memory pick
+running_kept s tape records memory r =
+    by_test (eqb (run_refusal s tape records (length memory)).number 0) (λ e. absurd (none (rw e at r))) (λ e. rw e refl)
 
 -- of tracing: the room
-pub tracing-kept : (s : List ℕ) (len : ℕ) (out : List ℕ) → 0 < (traced s len (length out)).refusal.number → tracedRoom s len out ≡ out
-unfolding traced tracedRoom pick
-tracing-kept s len out r =
-    by-test (eqb (checkedSheet s len).refusal.number 0)
-    (λ e. by-test (ltb (length out) (tracedLength s len)) (λ f. rw (e, f) refl) (λ f. absurd (none (rw (e, f) at r))))
+pub tracing_kept : (s : List ℕ) (len : ℕ) (out : List ℕ) → 0 < (traced s len (length out)).refusal.number → traced_room s len out ≡ out
+unfolding traced traced_room pick
+tracing_kept s len out r =
+    by_test (eqb (checked_sheet s len).refusal.number 0)
+    (λ e. by_test (ltb (length out) (traced_length s len)) (λ f. rw (e, f) refl) (λ f. absurd (none (rw (e, f) at r))))
     (λ e. rw e refl)
 
 -- of reading and writing back: the room
-pub rewriting-kept : (s out : List ℕ) → 0 < (rewritten s (length out)).refusal.number → rewrittenRoom s out ≡ out
-unfolding rewritten rewrittenRoom pick
-rewriting-kept s out r =
-    by-test (eqb (readSheet s).refusal.number 0) (λ e. rw e (writing-kept (readSheet s).sheet out (rw e at r))) (λ e. rw e refl)
+pub rewriting_kept : (s out : List ℕ) → 0 < (rewritten s (length out)).refusal.number → rewritten_room s out ≡ out
+unfolding rewritten rewritten_room pick
+rewriting_kept s out r =
+    by_test (eqb (read_sheet s).refusal.number 0) (λ e. rw e (writing_kept (read_sheet s).sheet out (rw e at r))) (λ e. rw e refl)

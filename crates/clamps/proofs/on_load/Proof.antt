@@ -41,8 +41,8 @@ returns-4 c = rw (c.before.enum-told4.given.1, c.rest.ensures)
 returns-5 : tie.Need-returns-5
 returns-5 c = rw (c.before.enum-told5.given.1, c.mirror.ensures)
 
-pub on-load-spec : {M : Type 1} → statement M
-on-load-spec =
+pub on_load_spec : {M : Type 1} → statement M
+on_load_spec =
     tie.close
     (tie.spec
     enum_told

@@ -18,5 +18,5 @@ returns-2 : tie.Need-returns-2
 unfolding outside
 returns-2 c = left _ c.before.if1.false c.on_store.ensures
 
-pub outside-spec : {M : Type 1} → statement M
-outside-spec = tie.close (tie.spec on-load-requires on-store-requires returns returns-2)
+pub outside_spec : {M : Type 1} → statement M
+outside_spec = tie.close (tie.spec on-load-requires on-store-requires returns returns-2)

@@ -28,8 +28,8 @@ returns c = rw c.before.c.given.1
 returns-2 : tie.Need-returns-2
 returns-2 c = rw c.before.c2.given.1
 
-pub rest-spec : {M : Type 1} → statement M
-rest-spec =
+pub rest_spec : {M : Type 1} → statement M
+rest_spec =
     tie.close
     (tie.spec
     enum-known-c

@@ -33,5 +33,5 @@ returns-3 c =
     let a = c.before.before.args in
     simp (upper a.raw (omega arith) c.before.if1.false, le-ltb a.s (suc (65535 - a.raw)) (omega arith)) (ap pos (omega arith))
 
-pub shifted-spec : {M : Type 1} → statement M
-shifted-spec = tie.close (tie.spec add-t5 returns sub_back sub-t7 sub-t8 returns-2 returns-3)
+pub shifted_spec : {M : Type 1} → statement M
+shifted_spec = tie.close (tie.spec add-t5 returns sub_back sub-t7 sub-t8 returns-2 returns-3)

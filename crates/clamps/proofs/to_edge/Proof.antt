@@ -17,5 +17,5 @@ returns c = rw c.enum_told.given.1
 returns-2 : tie.Need-returns-2
 returns-2 c = search rules
 
-pub to-edge-spec : {M : Type 1} → statement M
-to-edge-spec = tie.close (tie.spec enum_told sub-result enum-told-2 returns returns-2)
+pub to_edge_spec : {M : Type 1} → statement M
+to_edge_spec = tie.close (tie.spec enum_told sub-result enum-told-2 returns returns-2)

@@ -18,7 +18,7 @@ mark-all-requires c κs = search rules
 returns-2 : tie.Need-returns-2
 returns-2 c = search rules
 
-pub bytes-apart-spec : {M : Type 1} → statement M
-bytes-apart-spec =
+pub bytes_apart_spec : {M : Type 1} → statement M
+bytes_apart_spec =
     tie.close
     (tie.spec bytes-ascend-requires returns no-marks-requires mark-all-requires returns-2)

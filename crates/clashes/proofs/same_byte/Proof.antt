@@ -16,5 +16,5 @@ returns-2 : tie.Need-returns-2
 unfolding hits
 returns-2 c = pass (search tests) refl
 
-pub same-byte-spec : {M : Type 1} → statement M
-same-byte-spec = tie.close (tie.spec has-byte-requires returns returns-2)
+pub same_byte_spec : {M : Type 1} → statement M
+same_byte_spec = tie.close (tie.spec has-byte-requires returns returns-2)

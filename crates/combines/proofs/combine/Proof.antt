@@ -47,8 +47,8 @@ returns-5 c = cc
 returns-6 : tie.Need-returns-6
 returns-6 c = cc
 
-pub combine-spec : {M : Type 1} → statement M
-combine-spec =
+pub combine_spec : {M : Type 1} → statement M
+combine_spec =
     tie.close
     (tie.spec
     enum_told

@@ -13,5 +13,5 @@ returns c = taken _ (search tests) refl
 returns-2 : tie.Need-returns-2
 returns-2 c = left _ (search tests) refl
 
-pub greater-spec : {M : Type 1} → statement M
-greater-spec = tie.close (tie.spec ordered-requires returns returns-2)
+pub greater_spec : {M : Type 1} → statement M
+greater_spec = tie.close (tie.spec ordered-requires returns returns-2)

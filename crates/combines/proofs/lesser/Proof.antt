@@ -13,5 +13,5 @@ returns c = taken _ (search tests) refl
 returns-2 : tie.Need-returns-2
 returns-2 c = left _ (search tests) refl
 
-pub lesser-spec : {M : Type 1} → statement M
-lesser-spec = tie.close (tie.spec ordered-requires returns returns-2)
+pub lesser_spec : {M : Type 1} → statement M
+lesser_spec = tie.close (tie.spec ordered-requires returns returns-2)

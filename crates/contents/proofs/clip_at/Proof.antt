@@ -1,4 +1,4 @@
-use Rattle.contents.specs.Contents.{clipAt}
+use Rattle.contents.specs.Contents.{clip_at}
 use borrow.Author.Rules.{rules}
 use Rattle.contents.proofs.clip_at.Statement.{statement}
 use Rattle.contents.proofs.clip_at.Tie as tie
@@ -13,8 +13,8 @@ u16-at-requires-2 : tie.Need-u16-at-requires-2
 u16-at-requires-2 c κs = search rules
 
 returns : tie.Need-returns
-unfolding clipAt
+unfolding clip_at
 returns c = cc
 
-pub clip-at-spec : {M : Type 1} → statement M
-clip-at-spec = tie.close (tie.spec u16-at-requires add-u16-at u16-at-requires-2 returns)
+pub clip_at_spec : {M : Type 1} → statement M
+clip_at_spec = tie.close (tie.spec u16-at-requires add-u16-at u16-at-requires-2 returns)

@@ -1,4 +1,4 @@
-use Rattle.contents.specs.Contents.{dimensionAt}
+use Rattle.contents.specs.Contents.{dimension_at}
 use borrow.Author.Rules.{rules}
 use Rattle.contents.proofs.dimension_at.Statement.{statement}
 use Rattle.contents.proofs.dimension_at.Tie as tie
@@ -31,11 +31,11 @@ u16-at-requires-5 : tie.Need-u16-at-requires-5
 u16-at-requires-5 c κs = search rules
 
 returns : tie.Need-returns
-unfolding dimensionAt
+unfolding dimension_at
 returns c = cc
 
-pub dimension-at-spec : {M : Type 1} → statement M
-dimension-at-spec =
+pub dimension_at_spec : {M : Type 1} → statement M
+dimension_at_spec =
     tie.close
     (tie.spec
     u16-at-requires

@@ -1,5 +1,5 @@
-use Rattle.contents.specs.Contents.{layoutAt}
-use Rattle.contents.specs.Laws.Heads.{layout-head}
+use Rattle.contents.specs.Contents.{layout_at}
+use Rattle.contents.specs.Laws.Heads.{layout_head}
 use native.Mathlib.Omega.{arith}
 use borrow.Author.Rules.{rules}
 use Rattle.contents.proofs.layout_at.Statement.{statement}
@@ -18,13 +18,13 @@ clamp-mode-requires : tie.Need-clamp-mode-requires
 clamp-mode-requires c κs = search rules
 
 add-u32-at : tie.Need-overflow-add-u32-at
-add-u32-at c = let h = layout-head _ _ _ c.before.before.before.before.requires.2 in omega (arith, h)
+add-u32-at c = let h = layout_head _ _ _ c.before.before.before.before.requires.2 in omega (arith, h)
 
 u32-at-requires : tie.Need-u32-at-requires
-u32-at-requires c κs = let h = layout-head _ _ _ c.before.before.before.before.requires.2 in omega (arith, h)
+u32-at-requires c κs = let h = layout_head _ _ _ c.before.before.before.before.requires.2 in omega (arith, h)
 
 add-dimensions-at : tie.Need-overflow-add-dimensions-at
-add-dimensions-at c = let h = layout-head _ _ _ c.before.before.before.before.before.requires.2 in omega (arith, h)
+add-dimensions-at c = let h = layout_head _ _ _ c.before.before.before.before.before.requires.2 in omega (arith, h)
 
 wide-requires : tie.Need-wide-requires
 wide-requires c κs = search rules
@@ -34,15 +34,15 @@ cast-dimensions-at c = search rules
 
 dimensions-at-requires : tie.Need-dimensions-at-requires
 dimensions-at-requires c κs =
-    let h = layout-head _ _ _ c.before.before.before.before.before.before.requires.2 in
+    let h = layout_head _ _ _ c.before.before.before.before.before.before.requires.2 in
     omega (arith, h, c.wide.ensures)
 
 returns : tie.Need-returns
-unfolding layoutAt
+unfolding layout_at
 returns c = cc
 
-pub layout-at-spec : {M : Type 1} → statement M
-layout-at-spec =
+pub layout_at_spec : {M : Type 1} → statement M
+layout_at_spec =
     tie.close
     (tie.spec
     shared-slice-read-rank

@@ -1,5 +1,5 @@
-use Rattle.contents.specs.Contents.{viewAt}
-use Rattle.contents.specs.Laws.Heads.{view-head}
+use Rattle.contents.specs.Contents.{view_at}
+use Rattle.contents.specs.Laws.Heads.{view_head}
 use borrow.Author.Rules.{rules}
 use Rattle.contents.proofs.view_at.Statement.{statement}
 use Rattle.contents.proofs.view_at.Tie as tie
@@ -18,16 +18,16 @@ sized-rank-requires c κs = search rules
 
 view-of-requires : tie.Need-view-of-requires
 view-of-requires c κs =
-    let h = view-head _ _ _ c.before.before.before.before.requires.2 in
+    let h = view_head _ _ _ c.before.before.before.before.requires.2 in
     let e = c.sized-rank.ensures in
     (h.few, rw e h.own, rw (e, h.fills) c.before.before.before.before.requires.1)
 
 returns : tie.Need-returns
-unfolding viewAt
+unfolding view_at
 returns c = cc
 
-pub view-at-spec : {M : Type 1} → statement M
-view-at-spec =
+pub view_at_spec : {M : Type 1} → statement M
+view_at_spec =
     tie.close
     (tie.spec
     shared-slice-read-rank

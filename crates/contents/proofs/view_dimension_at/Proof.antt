@@ -1,4 +1,4 @@
-use Rattle.contents.specs.Contents.{viewDimensionAt}
+use Rattle.contents.specs.Contents.{view_dimension_at}
 use borrow.Author.Rules.{rules}
 use Rattle.contents.proofs.view_dimension_at.Statement.{statement}
 use Rattle.contents.proofs.view_dimension_at.Tie as tie
@@ -13,8 +13,8 @@ u16-at-requires-2 : tie.Need-u16-at-requires-2
 u16-at-requires-2 c κs = search rules
 
 returns : tie.Need-returns
-unfolding viewDimensionAt
+unfolding view_dimension_at
 returns c = cc
 
-pub view-dimension-at-spec : {M : Type 1} → statement M
-view-dimension-at-spec = tie.close (tie.spec u16-at-requires add-u16-at u16-at-requires-2 returns)
+pub view_dimension_at_spec : {M : Type 1} → statement M
+view_dimension_at_spec = tie.close (tie.spec u16-at-requires add-u16-at u16-at-requires-2 returns)

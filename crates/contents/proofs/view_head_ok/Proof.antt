@@ -1,5 +1,5 @@
 use Rattle.numbers.specs.Laws.Choice.{tests, stop, pass}
-use Rattle.contents.specs.Contents.{viewHeadOk}
+use Rattle.contents.specs.Contents.{view_head_ok}
 use borrow.Author.Rules.{rules}
 use Rattle.contents.proofs.view_head_ok.Statement.{statement}
 use Rattle.contents.proofs.view_head_ok.Tie as tie
@@ -17,11 +17,11 @@ rank-ok-requires : tie.Need-rank-ok-requires
 rank-ok-requires c κs = search rules
 
 returns : tie.Need-returns
-unfolding viewHeadOk
+unfolding view_head_ok
 returns c = stop _ (search tests)
 
 returns-2 : tie.Need-returns-2
-unfolding viewHeadOk
+unfolding view_head_ok
 returns-2 c = pass (search tests) (stop _ (search tests))
 
 sized-rank-requires : tie.Need-sized-rank-requires
@@ -49,12 +49,12 @@ add-result-2 : tie.Need-overflow-add-result-2
 add-result-2 c = search rules
 
 returns-3 : tie.Need-returns-3
-unfolding viewHeadOk
+unfolding view_head_ok
 returns-3 c =
     pass (search tests) (pass (search tests) (rw (c.before.wide.ensures.0, c.wide2.ensures.0, c.before.before.sized-rank.ensures)))
 
-pub view-head-ok-spec : {M : Type 1} → statement M
-view-head-ok-spec =
+pub view_head_ok_spec : {M : Type 1} → statement M
+view_head_ok_spec =
     tie.close
     (tie.spec
     shared-slice-read-rank

@@ -52,8 +52,8 @@ returns : tie.Need-returns
 unfolding view_of
 returns c = cc
 
-pub view-of-spec : {M : Type 1} → statement M
-view-of-spec =
+pub view_of_spec : {M : Type 1} → statement M
+view_of_spec =
     tie.close
     (tie.spec
     add-permutation-at

@@ -13,5 +13,5 @@ returns c = rw c.if1.true (sym (div-one _))
 returns-2 : tie.Need-returns-2
 returns-2 c = search rules
 
-pub block-of-spec : {M : Type 1} → statement M
-block-of-spec = tie.close (tie.spec div-result returns returns-2)
+pub block_of_spec : {M : Type 1} → statement M
+block_of_spec = tie.close (tie.spec div-result returns returns-2)

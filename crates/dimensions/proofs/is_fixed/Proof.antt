@@ -12,5 +12,5 @@ returns-2 : tie.Need-returns-2
 unfolding fixed
 returns-2 c = stop _ (search tests)
 
-pub is-fixed-spec : {M : Type 1} → statement M
-is-fixed-spec = tie.close (tie.spec returns returns-2)
+pub is_fixed_spec : {M : Type 1} → statement M
+is_fixed_spec = tie.close (tie.spec returns returns-2)

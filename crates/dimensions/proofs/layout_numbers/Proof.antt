@@ -1,4 +1,4 @@
-use Rattle.dimensions.specs.Dimensions.{dimensionPut, layoutNumbers}
+use Rattle.dimensions.specs.Dimensions.{dimension_put, layout_numbers}
 use Prim.Native.Nat.{ℕ}
 use mathlib.Core.List.{List}
 use mathlib.Core.Path.{ap, ◌∙◌}
@@ -22,17 +22,17 @@ put-dimension-requires-5 : tie.Need-put-dimension-requires-5
 put-dimension-requires-5 c κs = search rules
 
 returns : tie.Need-returns
-unfolding layoutNumbers
+unfolding layout_numbers
 returns c = let l = c.before.before.before.before.before.before.before.before.before.before.args.l in
     let put = c.before.before in
     c.put-dimension5.ensures
-    ∙ ap (λ (ns : List ℕ). dimensionPut l ns 4) (put.put-dimension4.ensures
-    ∙ ap (λ (ns : List ℕ). dimensionPut l ns 3) (put.before.before.put-dimension3.ensures
-    ∙ ap (λ (ns : List ℕ). dimensionPut l ns 2) (put.before.before.before.before.put-dimension2.ensures
-    ∙ ap (λ (ns : List ℕ). dimensionPut l ns 1) put.before.before.before.before.before.before.put-dimension.ensures)))
+    ∙ ap (λ (ns : List ℕ). dimension_put l ns 4) (put.put-dimension4.ensures
+    ∙ ap (λ (ns : List ℕ). dimension_put l ns 3) (put.before.before.put-dimension3.ensures
+    ∙ ap (λ (ns : List ℕ). dimension_put l ns 2) (put.before.before.before.before.put-dimension2.ensures
+    ∙ ap (λ (ns : List ℕ). dimension_put l ns 1) put.before.before.before.before.before.before.put-dimension.ensures)))
 
-pub layout-numbers-spec : {M : Type 1} → statement M
-layout-numbers-spec =
+pub layout_numbers_spec : {M : Type 1} → statement M
+layout_numbers_spec =
     tie.close
     (tie.spec
     put-dimension-requires

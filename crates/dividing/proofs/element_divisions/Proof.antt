@@ -1,7 +1,7 @@
 use mathlib.Core.Path.{sym, ◌∙◌}
-use Rattle.dividing.specs.Laws.Few.{divided-most}
-use Rattle.dividing.specs.Laws.Indices.{large-divisions, small-divisions}
-use Rattle.dividing.specs.Theorems.{skipped-none}
+use Rattle.dividing.specs.Laws.Few.{divided_most}
+use Rattle.dividing.specs.Laws.Indices.{large_divisions, small_divisions}
+use Rattle.dividing.specs.Theorems.{skipped_none}
 use native.Mathlib.Omega.{arith}
 use borrow.Author.Rules.{rules}
 use Rattle.dividing.proofs.element_divisions.Statement.{statement}
@@ -20,7 +20,7 @@ returns : tie.Need-returns
 returns c =
     let l = c.before.before.before.before.before.args.p.access.layout in
     let is = sym c.before.before.before.before.index_of.ensures ∙ c.before.before.i.given.1 in
-    (rw is (sym (large-divisions l _ c.if1.true)), omega arith)
+    (rw is (sym (large_divisions l _ c.if1.true)), omega arith)
 
 cast-span-coordinates : tie.Need-overflow-cast-span-coordinates
 cast-span-coordinates c = search rules
@@ -32,17 +32,17 @@ returns-2 : tie.Need-returns-2
 returns-2 c =
     let l = c.before.before.before.args.p.access.layout in
     let is = sym c.before.before.index_of.ensures ∙ c.enum_told.given.1 in
-    (rw is (sym (skipped-none l)), omega arith)
+    (rw is (sym (skipped_none l)), omega arith)
 
 returns-3 : tie.Need-returns-3
 returns-3 c =
     let l = c.before.before.before.before.before.before.args.p.access.layout in
     let is = sym c.before.before.before.before.before.index_of.ensures ∙ c.before.before.before.i.given.1 in
     let d = c.span-coordinates.ensures in
-    (rw (is, d) (sym (small-divisions l _ c.before.if1.false)), rw d (divided-most l _))
+    (rw (is, d) (sym (small_divisions l _ c.before.if1.false)), rw d (divided_most l _))
 
-pub element-divisions-spec : {M : Type 1} → statement M
-element-divisions-spec =
+pub element_divisions_spec : {M : Type 1} → statement M
+element_divisions_spec =
     tie.close
     (tie.spec
     index-of-requires

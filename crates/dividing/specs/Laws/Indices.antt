@@ -7,13 +7,13 @@ use Rattle.numbers.specs.Choice.{pick}
 use Rattle.sheet.specs.declared.Layout.{Layout}
 use Rattle.spans.specs.Spans.{divided}
 use Rattle.addressing.specs.declared.Indexed.TheVariants.{Index}
-use Rattle.dividing.specs.Divisions.{indexDivisions}
+use Rattle.dividing.specs.Divisions.{index_divisions}
 
 module _ (l : Layout) where
-  pub large-divisions : (i : ℕ) → 2 ^ 32 ≤ i → indexDivisions l (Index i) ≡ 0
-  unfolding indexDivisions pick
-  large-divisions i h = rw (le-leb (2 ^ 32) i h) refl
+  pub large_divisions : (i : ℕ) → 2 ^ 32 ≤ i → index_divisions l (Index i) ≡ 0
+  unfolding index_divisions pick
+  large_divisions i h = rw (le-leb (2 ^ 32) i h) refl
 
-  pub small-divisions : (i : ℕ) → i < 2 ^ 32 → indexDivisions l (Index i) ≡ (divided l i).divisions
-  unfolding indexDivisions pick
-  small-divisions i h = rw (lt-leb (2 ^ 32) i h) refl
+  pub small_divisions : (i : ℕ) → i < 2 ^ 32 → index_divisions l (Index i) ≡ (divided l i).divisions
+  unfolding index_divisions pick
+  small_divisions i h = rw (lt-leb (2 ^ 32) i h) refl

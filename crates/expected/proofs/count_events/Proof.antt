@@ -1,4 +1,4 @@
-use Rattle.expected.specs.Laws.Events.{events-count}
+use Rattle.expected.specs.Laws.Events.{events_count}
 use native.Mathlib.Omega.{arith}
 use borrow.Author.Rules.{rules}
 use Rattle.expected.proofs.count_events.Statement.{statement}
@@ -11,7 +11,7 @@ cast-result : tie.Need-overflow-cast-result
 cast-result c = search rules
 
 returns : tie.Need-returns
-returns c = λ k. events-count k c.before.args.access
+returns c = λ k. events_count k c.before.args.access
 
-pub count-events-spec : {M : Type 1} → statement M
-count-events-spec = tie.close (tie.spec mul-result cast-result returns)
+pub count_events_spec : {M : Type 1} → statement M
+count_events_spec = tie.close (tie.spec mul-result cast-result returns)

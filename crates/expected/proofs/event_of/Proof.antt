@@ -17,5 +17,5 @@ byte-of-requires c κs = search rules
 returns : tie.Need-returns
 returns c = cc
 
-pub event-of-spec : {M : Type 1} → statement M
-event-of-spec = tie.close (tie.spec cast-t4 cast-t5 sort-of-requires byte-of-requires returns)
+pub event_of_spec : {M : Type 1} → statement M
+event_of_spec = tie.close (tie.spec cast-t4 cast-t5 sort-of-requires byte-of-requires returns)

@@ -1,6 +1,6 @@
 use mathlib.Core.Path.{◌≡◌, sym, ◌∙◌}
-use Rattle.checking.specs.Laws.Readable.{sheet-readable}
-use Rattle.explaining.specs.Theorems.{explained-accepted, explained-refused}
+use Rattle.checking.specs.Laws.Readable.{sheet_readable}
+use Rattle.explaining.specs.Theorems.{explained_accepted, explained_refused}
 use native.Mathlib.Omega.{arith}
 use borrow.Author.Rules.{rules}
 use Rattle.explaining.proofs.explain.Statement.{statement}
@@ -19,7 +19,7 @@ returns : tie.Need-returns
 returns c =
     let a = c.before.before.before.before.before.before.before.before.before.args in
     let e = c.before.before.before.before.before.judge.ensures.0 in
-    c.refuse.ensures ∙ rw e (sym (explained-refused a.sheet.now a.memory-len a.step a.element (rw e at c.before.if1.true)))
+    c.refuse.ensures ∙ rw e (sym (explained_refused a.sheet.now a.memory-len a.step a.element (rw e at c.before.if1.true)))
 
 explain-sheet-requires : tie.Need-explain-sheet-requires
 explain-sheet-requires c κs =
@@ -27,7 +27,7 @@ explain-sheet-requires c κs =
     let j = c.before.before.before.before.before.before.judge in
     let e = j.ensures in
     let fine : j.result.answer.refusal.number ≡ 0 = omega (arith, c.before.before.if1.false) in
-    let r = sheet-readable a.sheet.now a.memory-len (rw e.0 at fine) in
+    let r = sheet_readable a.sheet.now a.memory-len (rw e.0 at fine) in
     (e.1 fine, r.few, r.clear)
 
 enum_told : tie.Need-enum-told
@@ -51,7 +51,7 @@ returns-2 c =
     let j = c.before.before.before.before.before.before.before.before.before.before.before.judge in
     let e = j.ensures in
     let fine : j.result.answer.refusal.number ≡ 0 = omega (arith, c.before.before.before.before.before.before.before.if1.false) in
-    let so = explained-accepted a.sheet.now a.memory-len a.step a.element (rw e.0 at fine) in
+    let so = explained_accepted a.sheet.now a.memory-len a.step a.element (rw e.0 at fine) in
     c.refuse2.ensures ∙ rw c.before.refusal-at.ensures (sym (so ∙ rw (← c.before.before.before.before.explain-sheet.ensures, c.before.before.enum_told.given.1)))
 
 returns-3 : tie.Need-returns-3
@@ -60,11 +60,11 @@ returns-3 c =
     let j = c.before.before.before.before.before.before.before.before.before.before.before.judge in
     let e = j.ensures in
     let fine : j.result.answer.refusal.number ≡ 0 = omega (arith, c.before.before.before.before.before.before.before.if1.false) in
-    let so = explained-accepted a.sheet.now a.memory-len a.step a.element (rw e.0 at fine) in
+    let so = explained_accepted a.sheet.now a.memory-len a.step a.element (rw e.0 at fine) in
     rw c.not-refused.ensures (sym (so ∙ rw (← c.before.before.before.before.explain-sheet.ensures, c.before.before.x.given.1)))
 
-pub explain-spec : {M : Type 1} → statement M
-explain-spec =
+pub explain_spec : {M : Type 1} → statement M
+explain_spec =
     tie.close
     (tie.spec
     no-parts-requires

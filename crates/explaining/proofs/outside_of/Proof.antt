@@ -1,9 +1,9 @@
 use mathlib.Core.Path.{refl, sym, ◌∙◌}
-use Rattle.tensor_ranges.specs.Laws.Facts.{layout-most, layout-span}
-use Rattle.spans.specs.Theorems.{divided-coordinates}
-use Rattle.spans.specs.Laws.Coordinates.{coordinate-below}
-use Rattle.explaining.specs.Elements.{outsideOf}
-use Rattle.explaining.specs.Laws.Asking.{index-small}
+use Rattle.tensor_ranges.specs.Laws.Facts.{layout_most, layout_span}
+use Rattle.spans.specs.Theorems.{divided_coordinates}
+use Rattle.spans.specs.Laws.Coordinates.{coordinate_below}
+use Rattle.explaining.specs.Elements.{outside_of}
+use Rattle.explaining.specs.Laws.Asking.{index_small}
 use native.Mathlib.Omega.{arith}
 use borrow.Author.Rules.{rules}
 use Rattle.explaining.proofs.outside_of.Statement.{statement}
@@ -22,7 +22,7 @@ cast-span-coordinates : tie.Need-overflow-cast-span-coordinates
 cast-span-coordinates c =
     let s = c.before.before.before.before.before in
     let i = c.before.before.i.given.0.0 in
-    omega (arith, index-small s.args.p.access s.requires.0.2 s.args.k s.requires.0.1 i (sym c.before.before.before.before.index_of.ensures ∙ c.before.before.i.given.1))
+    omega (arith, index_small s.args.p.access s.requires.0.2 s.args.k s.requires.0.1 i (sym c.before.before.before.before.index_of.ensures ∙ c.before.before.i.given.1))
 
 span-coordinates-requires : tie.Need-span-coordinates-requires
 span-coordinates-requires c κs = search rules
@@ -34,25 +34,25 @@ first-outside-requires c κs =
     let ok = s.requires.0.0.valid.sized.layout in
     let i = c.before.before.before.before.i.given.0.0 in (
       ok,
-      λ d h. rw (c.before.span-coordinates.ensures, divided-coordinates l ok i)
-          (omega (arith, coordinate-below l i d (layout-most l ok) h (layout-span l ok d h).some, (layout-span l ok d h).most)),
+      λ d h. rw (c.before.span-coordinates.ensures, divided_coordinates l ok i)
+          (omega (arith, coordinate_below l i d (layout_most l ok) h (layout_span l ok d h).some, (layout_span l ok d h).most)),
     )
 
 returns : tie.Need-returns
-unfolding outsideOf
+unfolding outside_of
 returns c = rw (sym c.before.before.index_of.ensures ∙ c.enum_told.given.1) refl
 
 returns-2 : tie.Need-returns-2
-unfolding outsideOf
+unfolding outside_of
 returns-2 c =
     let s = c.before.before.before.before.before.before.before.before in
     let l = s.args.p.access.layout in
     let ok = s.requires.0.0.valid.sized.layout in
     let is = sym c.before.before.before.before.before.before.before.index_of.ensures ∙ c.before.before.before.before.before.i.given.1 in
-    c.first-outside.ensures ∙ rw (is, c.before.before.span-coordinates.ensures, divided-coordinates l ok c.before.before.before.before.before.i.given.0.0) refl
+    c.first-outside.ensures ∙ rw (is, c.before.before.span-coordinates.ensures, divided_coordinates l ok c.before.before.before.before.before.i.given.0.0) refl
 
-pub outside-of-spec : {M : Type 1} → statement M
-outside-of-spec =
+pub outside_of_spec : {M : Type 1} → statement M
+outside_of_spec =
     tie.close
     (tie.spec
     index-of-requires

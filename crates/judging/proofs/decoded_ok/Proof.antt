@@ -17,5 +17,5 @@ returns c = rw c.before.before.d.given.1 c.record-ok.ensures
 returns-2 : tie.Need-returns-2
 returns-2 c = rw c.enum_told.given.1
 
-pub decoded-ok-spec : {M : Type 1} → statement M
-decoded-ok-spec = tie.close (tie.spec enum-known-d record-ok-requires enum_told returns returns-2)
+pub decoded_ok_spec : {M : Type 1} → statement M
+decoded_ok_spec = tie.close (tie.spec enum-known-d record-ok-requires enum_told returns returns-2)

@@ -20,6 +20,6 @@ returns c = rw c.before.before.d.given.1 c.record-types.ensures
 returns-2 : tie.Need-returns-2
 returns-2 c = rw c.enum_told.given.1
 
-pub decoded-types-spec : {M : Type 1} → statement M
-decoded-types-spec =
+pub decoded_types_spec : {M : Type 1} → statement M
+decoded_types_spec =
     tie.close (tie.spec enum-known-d record-types-requires enum_told returns returns-2)

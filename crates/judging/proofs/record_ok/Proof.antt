@@ -72,8 +72,8 @@ returns-4 c = rw c.before.before.before.r4.given.1 (rw c.before.the-type4.ensure
 returns-5 : tie.Need-returns-5
 returns-5 c = rw c.before.before.r5.given.1 c.whole-record-ok.ensures
 
-pub record-ok-spec : {M : Type 1} → statement M
-record-ok-spec =
+pub record_ok_spec : {M : Type 1} → statement M
+record_ok_spec =
     tie.close
     (tie.spec
     enum-known-r

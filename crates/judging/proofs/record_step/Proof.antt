@@ -35,8 +35,8 @@ returns-4 c = search rules
 returns-5 : tie.Need-returns-5
 returns-5 c = rw c.before.before.r.given.1 c.step_of.ensures
 
-pub record-step-spec : {M : Type 1} → statement M
-record-step-spec =
+pub record_step_spec : {M : Type 1} → statement M
+record_step_spec =
     tie.close
     (tie.spec
     enum_told

@@ -1,4 +1,4 @@
-use Rattle.judging.specs.Laws.Named.{whole-used}
+use Rattle.judging.specs.Laws.Named.{whole_used}
 use borrow.Author.Rules.{rules}
 use Rattle.judging.proofs.record_types.Statement.{statement}
 use Rattle.judging.proofs.record_types.Tie as tie
@@ -28,7 +28,7 @@ step-types-requires : tie.Need-step-types-requires
 step-types-requires c κs =
     let q = c.before.before.requires.1 in
     let e = c.enum-told4.given.1 in
-    (q.0, q.3.layouts, q.3.views, q.3.ok (whole-used q.0 q.1 _ q.2 _ _ (rw e at q.4)))
+    (q.0, q.3.layouts, q.3.views, q.3.ok (whole_used q.0 q.1 _ q.2 _ _ (rw e at q.4)))
 
 returns : tie.Need-returns
 returns c = rw c.before.before.before.r.given.1 (rw c.before.the_type.ensures at c.with-type.ensures)
@@ -45,8 +45,8 @@ returns-4 c = search rules
 returns-5 : tie.Need-returns-5
 returns-5 c = rw c.before.enum-told4.given.1 c.step-types.ensures
 
-pub record-types-spec : {M : Type 1} → statement M
-record-types-spec =
+pub record_types_spec : {M : Type 1} → statement M
+record_types_spec =
     tie.close
     (tie.spec
     enum-known-r

@@ -17,6 +17,6 @@ returns c = rw c.before.before.d.given.1 c.record-step.ensures
 returns-2 : tie.Need-returns-2
 returns-2 c = search rules
 
-pub step-named-spec : {M : Type 1} → statement M
-step-named-spec =
+pub step_named_spec : {M : Type 1} → statement M
+step_named_spec =
     tie.close (tie.spec enum-known-d record-step-requires enum_told returns returns-2)

@@ -1,7 +1,7 @@
 use mathlib.Core.Path.{refl, ap}
 use lib.Dec.{eqb}
 use Rattle.refusals.specs.declared.Stop.{Stop}
-use Rattle.whole_steps.specs.Laws.Within.{whole-ok}
+use Rattle.whole_steps.specs.Laws.Within.{whole_ok_lem}
 use borrow.Author.Rules.{rules}
 use Rattle.judging.proofs.whole_clear.Statement.{statement}
 use Rattle.judging.proofs.whole_clear.Tie as tie
@@ -21,7 +21,7 @@ enum-known-step c = search rules
 whole-refusal-requires : tie.Need-whole-refusal-requires
 whole-refusal-requires c κs =
     let e = c.before.step.given.1 in
-    whole-ok _ _ (rw e at (c.before.before.before.requires.ok (rw e refl)))
+    whole_ok_lem _ _ (rw e at (c.before.before.before.requires.ok (rw e refl)))
 
 returns : tie.Need-returns
 returns c = search rules
@@ -35,8 +35,8 @@ returns-3 c = search rules
 returns-4 : tie.Need-returns-4
 returns-4 c = rw c.before.before.before.step.given.1 (ap (λ (x : Stop). eqb x.number 0) c.before.whole-refusal.ensures)
 
-pub whole-clear-spec : {M : Type 1} → statement M
-whole-clear-spec =
+pub whole_clear_spec : {M : Type 1} → statement M
+whole_clear_spec =
     tie.close
     (tie.spec
     enum_told

@@ -7,24 +7,24 @@ use Rattle.std.proofs.Math.Dec.{leb}
 use Rattle.numbers.specs.Choice.{both}
 use Rattle.numbers.specs.Laws.Choice.{stop, both_true, by_order}
 use Rattle.signed.specs.Numbers.{rise, fall, at_least}
-use Rattle.signed.specs.Laws.Numbers.{least-parts}
-use Rattle.records.specs.Laws.ByteSteps.{rise-step, fall-step}
-use Rattle.judging.specs.Records.{signedByte, byte_at, byteInside}
+use Rattle.signed.specs.Laws.Numbers.{least_parts}
+use Rattle.records.specs.Laws.ByteSteps.{rise_step, fall_step}
+use Rattle.judging.specs.Records.{signed_byte, byte_at, byte_inside}
 
 module _ (byte up down i : ℕ) where
-  pub byte-natural : byte_at byte up down i ≡ byte + i * up - i * down
+  pub byte_natural : byte_at byte up down i ≡ byte + i * up - i * down
   unfolding byte_at
-  byte-natural = rise-step byte up down i
+  byte_natural = rise_step byte up down i
 
-  above-natural : at_least 0 (signedByte byte up down i) ≡ leb (i * down) (byte + i * up)
-  above-natural =
-      let z = signedByte byte up down i in
-      let down_to : fall z ≡ i * down - (byte + i * up) = fall-step byte up down i in
-      least-parts 0 z
+  above_natural : at_least 0 (signed_byte byte up down i) ≡ leb (i * down) (byte + i * up)
+  above_natural =
+      let z = signed_byte byte up down i in
+      let down_to : fall z ≡ i * down - (byte + i * up) = fall_step byte up down i in
+      least_parts 0 z
       ∙ by_order (byte + i * up) (i * down)
       (λ h. sym (stop _ (lt-leb (fall z) 0 (omega arith))) ∙ sym (lt-leb (i * down) (byte + i * up) h))
       (λ h. both_true _ _ (le-leb (fall z) 0 (omega arith)) (le-leb 0 (rise z) (omega arith)) ∙ sym (le-leb (i * down) (byte + i * up) h))
 
-  pub inside-natural : (size len : ℕ) → byteInside size len byte up down i ≡ both (leb (i * down) (byte + i * up)) (leb (byte + i * up - i * down + size) len)
-  unfolding byteInside
-  inside-natural size len = ap₂ both above-natural (ap (λ (b : ℕ). leb (b + size) len) byte-natural)
+  pub inside_natural : (size len : ℕ) → byte_inside size len byte up down i ≡ both (leb (i * down) (byte + i * up)) (leb (byte + i * up - i * down + size) len)
+  unfolding byte_inside
+  inside_natural size len = ap₂ both above_natural (ap (λ (b : ℕ). leb (b + size) len) byte_natural)

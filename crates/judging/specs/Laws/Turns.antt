@@ -3,44 +3,44 @@ use Rattle.std.specs.Prelude.{ℕ, ◌+◌, ◌-◌, ◌<◌, ◌≤◌, ◌≡�
 use Rattle.std.proofs.Math.Nat.{sub-zero}
 use native.Mathlib.Omega.{arith}
 use Rattle.numbers.specs.Choice.{pick}
-use Rattle.numbers.specs.Laws.Choice.{pick-case}
+use Rattle.numbers.specs.Laws.Choice.{pick_case}
 use Rattle.sheet.specs.declared.Sheet.{Sheet}
-use Rattle.refusals.specs.Refusals.{recordOutOfRange, refusalAt, notRefused}
+use Rattle.refusals.specs.Refusals.{record_out_of_range, refusal_at, not_refused}
 use Rattle.refusals.specs.declared.Refusal.{Refusal}
-use Rattle.registers.specs.Registers.{emptyRegisters}
+use Rattle.registers.specs.Registers.{empty_registers}
 use Rattle.registers.specs.declared.MatrixType.{MatrixType}
 use Rattle.checking.specs.Laws.Turns.{one_less}
 use Rattle.records.specs.declared.Decoded.{Decoded}
-use Rattle.records.specs.Room.{recordsFit}
-use Rattle.judging.specs.Judging.{decodedOk, decodedTypes, rangeFrom, rangeRefusal, tapeRecord, tapeRefusal}
+use Rattle.records.specs.Room.{records_fit}
+use Rattle.judging.specs.Judging.{decoded_ok, decoded_types, range_from, range_refusal, tape_record, tape_refusal}
 
 -- the records from number k on are looked at, over types
 module _ (n : ℕ) (sh : Sheet) (len : ℕ) (the : ℕ → Decoded) (k : ℕ) (ts : List MatrixType) where
-  pub range-end : n ≤ k → notRefused ≡ rangeFrom (n - k) sh len the k ts
-  unfolding rangeFrom
-  range-end h = let e : n - k ≡ 0 = omega arith in rw e
+  pub range_end : n ≤ k → not_refused ≡ range_from (n - k) sh len the k ts
+  unfolding range_from
+  range_end h = let e : n - k ≡ 0 = omega arith in rw e
 
   module _ (h : k < n) {d : Decoded} (q : d ≡ the k) where
-    pub range-go : decodedOk sh ts len d ≡ true → rangeFrom (n - (k + 1)) sh len the (k + 1) (decodedTypes sh ts d) ≡ rangeFrom (n - k) sh len the k ts
-    unfolding rangeFrom pick
-    range-go e = rw (one_less n k h, ← q, e)
+    pub range_go : decoded_ok sh ts len d ≡ true → range_from (n - (k + 1)) sh len the (k + 1) (decoded_types sh ts d) ≡ range_from (n - k) sh len the k ts
+    unfolding range_from pick
+    range_go e = rw (one_less n k h, ← q, e)
 
-    pub range-stop : decodedOk sh ts len d ≡ false → refusalAt recordOutOfRange k 0 ≡ rangeFrom (n - k) sh len the k ts
-    unfolding rangeFrom pick
-    range-stop e = rw (one_less n k h, ← q, e)
+    pub range_stop : decoded_ok sh ts len d ≡ false → refusal_at record_out_of_range k 0 ≡ range_from (n - k) sh len the k ts
+    unfolding range_from pick
+    range_stop e = rw (one_less n k h, ← q, e)
 
-pub range-start : (n : ℕ) (sh : Sheet) (len : ℕ) (the : ℕ → Decoded) → rangeFrom (n - 0) sh len the 0 emptyRegisters.types ≡ rangeRefusal n sh len the
-range-start n sh len the = rw (sub-zero n)
+pub range_start : (n : ℕ) (sh : Sheet) (len : ℕ) (the : ℕ → Decoded) → range_from (n - 0) sh len the 0 empty_registers.types ≡ range_refusal n sh len the
+range_start n sh len the = rw (sub-zero n)
 
 module _ (sh : Sheet) (tape : List ℤ) (records len : ℕ) where
-  pub tape-fit : (tapeRefusal sh tape records len).number ≡ 0 → recordsFit sh.edition (length tape) records ≡ true
-  unfolding tapeRefusal
-  tape-fit =
-      pick-case (λ (r : Refusal). r.number ≡ 0 → recordsFit sh.edition (length tape) records ≡ true) (recordsFit sh.edition (length tape) records) _ _
+  pub tape_fit : (tape_refusal sh tape records len).number ≡ 0 → records_fit sh.edition (length tape) records ≡ true
+  unfolding tape_refusal
+  tape_fit =
+      pick_case (λ (r : Refusal). r.number ≡ 0 → records_fit sh.edition (length tape) records ≡ true) (records_fit sh.edition (length tape) records) _ _
       (λ e h. e) (λ e h. absurd (omega arith))
 
-  pub tape-clear : (tapeRefusal sh tape records len).number ≡ 0 → (rangeRefusal records sh len (tapeRecord tape)).number ≡ 0
-  unfolding tapeRefusal
-  tape-clear =
-      pick-case (λ (r : Refusal). r.number ≡ 0 → (rangeRefusal records sh len (tapeRecord tape)).number ≡ 0) (recordsFit sh.edition (length tape) records) _ _
+  pub tape_clear : (tape_refusal sh tape records len).number ≡ 0 → (range_refusal records sh len (tape_record tape)).number ≡ 0
+  unfolding tape_refusal
+  tape_clear =
+      pick_case (λ (r : Refusal). r.number ≡ 0 → (range_refusal records sh len (tape_record tape)).number ≡ 0) (records_fit sh.edition (length tape) records) _ _
       (λ e h. h) (λ e h. absurd (omega arith))

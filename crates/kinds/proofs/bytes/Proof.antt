@@ -16,5 +16,5 @@ returns-3 : tie.Need-returns-3
 unfolding bytes_of width pick
 returns-3 c = rw (le-ltb _ _ c.before.if1.false, le-ltb _ _ c.if2.false)
 
-pub bytes-spec : {M : Type 1} → statement M
-bytes-spec = tie.close (tie.spec returns returns-2 returns-3)
+pub bytes_spec : {M : Type 1} → statement M
+bytes_spec = tie.close (tie.spec returns returns-2 returns-3)

@@ -10,5 +10,5 @@ returns : tie.Need-returns
 unfolding fits
 returns c = rw c.modulus.ensures
 
-pub fits-spec : {M : Type 1} → statement M
-fits-spec = tie.close (tie.spec modulus-requires returns)
+pub fits_spec : {M : Type 1} → statement M
+fits_spec = tie.close (tie.spec modulus-requires returns)

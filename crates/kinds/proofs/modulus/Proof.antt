@@ -16,5 +16,5 @@ returns-3 : tie.Need-returns-3
 unfolding width pick
 returns-3 c = rw (le-ltb _ _ c.before.if1.false, le-ltb _ _ c.if2.false)
 
-pub modulus-spec : {M : Type 1} → statement M
-modulus-spec = tie.close (tie.spec returns returns-2 returns-3)
+pub modulus_spec : {M : Type 1} → statement M
+modulus_spec = tie.close (tie.spec returns returns-2 returns-3)

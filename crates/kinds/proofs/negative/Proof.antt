@@ -21,5 +21,5 @@ returns-2 : tie.Need-returns-2
 unfolding negative
 returns-2 c = pass (search tests) (rw c.modulus.ensures)
 
-pub negative-spec : {M : Type 1} → statement M
-negative-spec = tie.close (tie.spec signed-requires returns modulus-requires mul-result returns-2)
+pub negative_spec : {M : Type 1} → statement M
+negative_spec = tie.close (tie.spec signed-requires returns modulus-requires mul-result returns-2)

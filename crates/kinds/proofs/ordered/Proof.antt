@@ -1,5 +1,5 @@
 use borrow.Author.Rules.{rules}
-use Rattle.kinds.proofs.Laws.{raised-ordered}
+use Rattle.kinds.proofs.Laws.{raised_ordered}
 use Rattle.kinds.proofs.ordered.Statement.{statement}
 use Rattle.kinds.proofs.ordered.Tie as tie
 
@@ -10,7 +10,7 @@ raised-requires-2 : tie.Need-raised-requires-2
 raised-requires-2 c κs = search rules
 
 returns : tie.Need-returns
-returns c = raised-ordered _ _ _ _ _ c.before.raised.ensures c.raised2.ensures
+returns c = raised_ordered _ _ _ _ _ c.before.raised.ensures c.raised2.ensures
 
-pub ordered-spec : {M : Type 1} → statement M
-ordered-spec = tie.close (tie.spec raised-requires raised-requires-2 returns)
+pub ordered_spec : {M : Type 1} → statement M
+ordered_spec = tie.close (tie.spec raised-requires raised-requires-2 returns)

@@ -1,5 +1,5 @@
 use borrow.Author.Rules.{rules}
-use Rattle.kinds.proofs.Laws.{raised-low, low-lt}
+use Rattle.kinds.proofs.Laws.{raised_low, low_lt}
 use Rattle.kinds.proofs.residue.Statement.{statement}
 use Rattle.kinds.proofs.residue.Tie as tie
 
@@ -7,10 +7,10 @@ raised-requires : tie.Need-raised-requires
 raised-requires c κs = search rules
 
 cast-result : tie.Need-overflow-cast-result
-cast-result c = record { fits = low-lt c.raised.result }
+cast-result c = record { fits = low_lt c.raised.result }
 
 returns : tie.Need-returns
-returns c = raised-low _ _ _ c.raised.ensures
+returns c = raised_low _ _ _ c.raised.ensures
 
-pub residue-spec : {M : Type 1} → statement M
-residue-spec = tie.close (tie.spec raised-requires cast-result returns)
+pub residue_spec : {M : Type 1} → statement M
+residue_spec = tie.close (tie.spec raised-requires cast-result returns)

@@ -19,5 +19,5 @@ returns-2 : tie.Need-returns-2
 unfolding taken
 returns-2 c = left _ (search tests) refl
 
-pub taken-spec : {M : Type 1} → statement M
-taken-spec = tie.close (tie.spec negative-requires modulus-requires returns returns-2)
+pub taken_spec : {M : Type 1} → statement M
+taken_spec = tie.close (tie.spec negative-requires modulus-requires returns returns-2)

@@ -4,27 +4,27 @@ use Prim.Native.Nat.{ℕ, suc, ◌*◌, ◌-◌, ◌^◌, ◌<◌, ◌≤◌, ze
 use Rattle.std.proofs.Math.Nat.{sub-zero}
 use borrow.Author.Tests.{lt-ltb, le-ltb, le-leb, lt-leb}
 use Rattle.numbers.specs.Choice.{pick, both}
-use Rattle.numbers.specs.Laws.Choice.{by-test}
+use Rattle.numbers.specs.Laws.Choice.{by_test}
 use Rattle.kinds.specs.Widths.{width, s16, s32}
 use Rattle.kinds.specs.Values.{signed, negative, taken, value}
 
 module _ (kind x : ℕ) where
-  none-taken : 2 * x < 2 ^ width kind → taken kind x ≡ 0
+  none_taken : 2 * x < 2 ^ width kind → taken kind x ≡ 0
   unfolding taken negative both pick
-  none-taken h = by-test (signed kind) (λ e. rw (e, lt-leb (2 ^ width kind) (2 * x) h)) (λ e. rw e)
+  none_taken h = by_test (signed kind) (λ e. rw (e, lt-leb (2 ^ width kind) (2 * x) h)) (λ e. rw e)
 
-  pub value-lower : 2 * x < 2 ^ width kind → value kind x ≡ pos x
+  pub value_lower : 2 * x < 2 ^ width kind → value kind x ≡ pos x
   unfolding value
-  value-lower h = rw (none-taken h, le-ltb x 0 zero-le, sub-zero x)
+  value_lower h = rw (none_taken h, le-ltb x 0 zero-le, sub-zero x)
 
-  pub value-upper : signed kind ≡ true → 2 ^ width kind ≤ 2 * x → x < 2 ^ width kind → value kind x ≡ negsuc (2 ^ width kind - suc x)
+  pub value_upper : signed kind ≡ true → 2 ^ width kind ≤ 2 * x → x < 2 ^ width kind → value kind x ≡ negsuc (2 ^ width kind - suc x)
   unfolding value taken negative both pick
-  value-upper e h l = rw (e, le-leb (2 ^ width kind) (2 * x) h, lt-ltb x (2 ^ width kind) l)
+  value_upper e h l = rw (e, le-leb (2 ^ width kind) (2 * x) h, lt-ltb x (2 ^ width kind) l)
 
-pub width-s16 : width s16 ≡ 16
+pub width_s16 : width s16 ≡ 16
 unfolding width pick
-width-s16 = refl
+width_s16 = refl
 
-pub width-s32 : width s32 ≡ 32
+pub width_s32 : width s32 ≡ 32
 unfolding width pick
-width-s32 = refl
+width_s32 = refl

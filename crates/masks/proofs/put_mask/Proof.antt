@@ -1,11 +1,11 @@
 use mathlib.Core.Path.{◌≡◌}
 use native.Mathlib.Omega.{arith}
 use borrow.Author.Rules.{rules}
-use Rattle.sheet.specs.Sizes.{matrixPlaces}
-use Rattle.masks.specs.Masks.{maskPlace}
-use Rattle.masks.specs.Entries.{entryBit}
-use Rattle.masks.specs.Laws.Bits.{entry-bits}
-use Rattle.masks.specs.Laws.Written.{sum-most, mask-written, none_written}
+use Rattle.sheet.specs.Sizes.{matrix_places}
+use Rattle.masks.specs.Masks.{mask_place}
+use Rattle.masks.specs.Entries.{entry_bit}
+use Rattle.masks.specs.Laws.Bits.{entry_bits}
+use Rattle.masks.specs.Laws.Written.{sum_most, mask_written, none_written}
 use Rattle.masks.proofs.put_mask.Statement.{statement}
 use Rattle.masks.proofs.put_mask.Tie as tie
 
@@ -36,7 +36,7 @@ add-put-u16 c = search rules
 cast-put-u16 : tie.Need-overflow-cast-put-u16
 cast-put-u16 c =
     let a = c.before.before.before.before.before.before.before.args in
-    let most = sum-most (entryBit a.entries.now a.count) (entry-bits a.entries.now a.count) matrixPlaces in
+    let most = sum_most (entry_bit a.entries.now a.count) (entry_bits a.entries.now a.count) matrix_places in
     omega (arith, c.before.before.before.put-bits.ensures.0, most)
 
 put-u16-requires : tie.Need-put-u16-requires
@@ -49,10 +49,10 @@ returns-2 : tie.Need-returns-2
 returns-2 c =
     let a = c.before.before.before.before.before.before.before.before.before.before.args in
     let p = c.before.before.before.before.before.before.put-bits.ensures in
-    mask-written (entryBit a.entries.now a.count) a.masks.now (maskPlace a.step) p.1 p.0 c.before.before.put-u16.ensures
+    mask_written (entry_bit a.entries.now a.count) a.masks.now (mask_place a.step) p.1 p.0 c.before.before.put-u16.ensures
 
-pub put-mask-spec : {M : Type 1} → statement M
-put-mask-spec =
+pub put_mask_spec : {M : Type 1} → statement M
+put_mask_spec =
     tie.close
     (tie.spec
     add-clear-masks

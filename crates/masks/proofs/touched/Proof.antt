@@ -34,8 +34,8 @@ returns-3 c =
     pass (lt-ltb _ _ c.before.before.if1.false)
     (pass (lt-ltb _ _ c.before.if2.false) (ap (λ (x : ℕ). eqb (x / 2 ^ (c.before.before.before.before.args.element % 8) % 2) 1) c.mask-byte.ensures))
 
-pub touched-spec : {M : Type 1} → statement M
-touched-spec =
+pub touched_spec : {M : Type 1} → statement M
+touched_spec =
     tie.close
     (tie.spec
     returns

@@ -3,54 +3,54 @@ use Rattle.std.specs.Prelude.{ℕ, zero, suc, ◌+◌, ◌<◌, ◌≤◌, ◌�
 use Rattle.std.proofs.Common.{zero-le, ap, ◌∙◌, add-zero, le_refl, le_of_suc-le-suc, not-suc-le-zero, arith, lt-ltb, le-ltb, ltb-true, ltb-false}
 use Rattle.std.proofs.Math.ListN.{get_or-eq_default}
 use Rattle.numbers.specs.Choice.{pick}
-use Rattle.numbers.specs.Laws.Choice.{pick-case, by-test}
+use Rattle.numbers.specs.Laws.Choice.{pick_case, by_test}
 use Rattle.outcomes.specs.declared.Outcome.{Outcome}
 use Rattle.outcomes.specs.declared.Outcome.TheVariants.{Skipped, Filled, Discarded, Placed}
-use Rattle.clashes.specs.Entries.{filledEntry}
-use Rattle.accesses.specs.Refusals.{placedOne}
-use Rattle.accesses.specs.Entries.{entryOutcome}
+use Rattle.clashes.specs.Entries.{filled_entry}
+use Rattle.accesses.specs.Refusals.{placed_one}
+use Rattle.accesses.specs.Entries.{entry_outcome}
 use Rattle.masks.specs.Masks.{bit_of, sum_of}
-use Rattle.masks.specs.Entries.{entryOne, entryBit}
-use Rattle.masks.specs.Placed.{placedIn}
+use Rattle.masks.specs.Entries.{entry_one, entry_bit}
+use Rattle.masks.specs.Placed.{placed_in}
 use Rattle.masks.specs.Laws.Packed.{Bits}
 
-one-most : (o : Outcome) → placedOne o ≤ 1
-one-most Skipped = zero-le
-one-most (Filled bits) = zero-le
-one-most Discarded = zero-le
-one-most (Placed byte) = le_refl 1
+one_most : (o : Outcome) → placed_one o ≤ 1
+one_most Skipped = zero-le
+one_most (Filled bits) = zero-le
+one_most Discarded = zero-le
+one_most (Placed byte) = le_refl 1
 
-pub outcome-bits : (os : List Outcome) → Bits (bit_of os)
+pub outcome_bits : (os : List Outcome) → Bits (bit_of os)
 unfolding bit_of
-outcome-bits os e = one-most (get_or os e Skipped)
+outcome_bits os e = one_most (get_or os e Skipped)
 
-pub entry-bits : (entries : List ℕ) (n : ℕ) → Bits (entryBit entries n)
-unfolding entryBit
-entry-bits entries n e = pick-case (λ (x : ℕ). x ≤ 1) (ltb e n) (entryOne (get_or entries e 0)) 0 (λ t. one-most (entryOutcome 0 (get_or entries e 0))) (λ t. zero-le)
+pub entry_bits : (entries : List ℕ) (n : ℕ) → Bits (entry_bit entries n)
+unfolding entry_bit
+entry_bits entries n e = pick_case (λ (x : ℕ). x ≤ 1) (ltb e n) (entry_one (get_or entries e 0)) 0 (λ t. one_most (entry_outcome 0 (get_or entries e 0))) (λ t. zero-le)
 
 -- one of n, and one past them
-pub entry-inside : (entries : List ℕ) (n e : ℕ) → e < n → entryBit entries n e ≡ entryOne (get_or entries e 0)
-unfolding entryBit pick
-entry-inside entries n e h = rw (lt-ltb e n h)
+pub entry_inside : (entries : List ℕ) (n e : ℕ) → e < n → entry_bit entries n e ≡ entry_one (get_or entries e 0)
+unfolding entry_bit pick
+entry_inside entries n e h = rw (lt-ltb e n h)
 
-pub entry_past : (entries : List ℕ) (n e : ℕ) → n ≤ e → entryBit entries n e ≡ 0
-unfolding entryBit pick
+pub entry_past : (entries : List ℕ) (n e : ℕ) → n ≤ e → entry_bit entries n e ≡ 0
+unfolding entry_bit pick
 entry_past entries n e h = rw (le-ltb e n h)
 
 -- what filled elements take does not matter
-any-fill : (fill x : ℕ) → entryOne x ≡ placedOne (entryOutcome fill x)
-unfolding entryOutcome pick
-any-fill fill x =
-    by-test (eqb x 0) (λ t. rw t)
-    (λ t. by-test (ltb x filledEntry) (λ u. rw (t, u)) (λ u. by-test (eqb x filledEntry) (λ v. rw (t, u, v)) (λ v. rw (t, u, v))))
+any_fill : (fill x : ℕ) → entry_one x ≡ placed_one (entry_outcome fill x)
+unfolding entry_outcome pick
+any_fill fill x =
+    by_test (eqb x 0) (λ t. rw t)
+    (λ t. by_test (ltb x filled_entry) (λ u. rw (t, u)) (λ u. by_test (eqb x filled_entry) (λ v. rw (t, u, v)) (λ v. rw (t, u, v))))
 
 -- entries that stand for the outcomes of a step give its bits
-pub entries-bit : (entries : List ℕ) (fill : ℕ) (os : List Outcome)
-    → ((e : ℕ) → e < length os → entryOutcome fill (get_or entries e 0) ≡ get_or os e Skipped) → (e : ℕ) → entryBit entries (length os) e ≡ bit_of os e
-unfolding entryBit bit_of pick
-entries-bit entries fill os h e =
-    by-test (ltb e (length os))
-    (λ t. rw t (any-fill fill (get_or entries e 0) ∙ ap placedOne (h e (ltb-true e (length os) t))))
+pub entries_bit : (entries : List ℕ) (fill : ℕ) (os : List Outcome)
+    → ((e : ℕ) → e < length os → entry_outcome fill (get_or entries e 0) ≡ get_or os e Skipped) → (e : ℕ) → entry_bit entries (length os) e ≡ bit_of os e
+unfolding entry_bit bit_of pick
+entries_bit entries fill os h e =
+    by_test (ltb e (length os))
+    (λ t. rw t (any_fill fill (get_or entries e 0) ∙ ap placed_one (h e (ltb-true e (length os) t))))
     (λ t. rw (t, get_or-eq_default os Skipped (ltb-false e (length os) t)))
 
 -- ---- how many are set
@@ -67,15 +67,15 @@ unfolding sum_of
 sum_first f zero = omega arith
 sum_first f (suc n) = omega (arith, sum_first f n)
 
-pub placed-bits : (os : List Outcome) (n : ℕ) → length os ≤ n → sum_of (bit_of os) n ≡ placedIn os
-unfolding bit_of placedIn
-placed-bits [] n h = no_bits n
-placed-bits (o ∷ os) zero h = absurd (not-suc-le-zero h)
-placed-bits (o ∷ os) (suc n) h = sum_first (bit_of (o ∷ os)) n ∙ ap (λ (k : ℕ). placedOne o + k) (placed-bits os n (le_of_suc-le-suc h))
+pub placed_bits : (os : List Outcome) (n : ℕ) → length os ≤ n → sum_of (bit_of os) n ≡ placed_in os
+unfolding bit_of placed_in
+placed_bits [] n h = no_bits n
+placed_bits (o ∷ os) zero h = absurd (not-suc-le-zero h)
+placed_bits (o ∷ os) (suc n) h = sum_first (bit_of (o ∷ os)) n ∙ ap (λ (k : ℕ). placed_one o + k) (placed_bits os n (le_of_suc-le-suc h))
 
-pub sum-none : (f : ℕ → ℕ) → sum_of f 0 ≡ 0
+pub sum_none : (f : ℕ → ℕ) → sum_of f 0 ≡ 0
 unfolding sum_of
-sum-none f = refl
+sum_none f = refl
 
 -- past them there is none more
 pub sum_past : (f : ℕ → ℕ) (n m : ℕ) → ((k : ℕ) → n ≤ k → f k ≡ 0) → sum_of f (n + m) ≡ sum_of f n

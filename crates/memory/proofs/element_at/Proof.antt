@@ -1,7 +1,7 @@
 use mathlib.Core.Path.{◌∙◌}
 use native.Mathlib.Omega.{arith}
 use borrow.Author.Rules.{rules}
-use Rattle.memory.proofs.Laws.{one, four, element-1, element-2, element-4}
+use Rattle.memory.proofs.Laws.{one, four, element_1, element_2, element_4}
 use Rattle.memory.proofs.element_at.Statement.{statement}
 use Rattle.memory.proofs.element_at.Tie as tie
 
@@ -15,7 +15,7 @@ cast-result : tie.Need-overflow-cast-result
 cast-result c = search rules
 
 returns : tie.Need-returns
-returns c = c.wide.ensures.0 ∙ element-1 _ _ (one c.before.before.before.before.requires.0 c.before.before.if1.true)
+returns c = c.wide.ensures.0 ∙ element_1 _ _ (one c.before.before.before.before.requires.0 c.before.before.if1.true)
 
 u16-at-requires : tie.Need-u16-at-requires
 u16-at-requires c κs = search rules
@@ -24,16 +24,16 @@ cast-result-2 : tie.Need-overflow-cast-result-2
 cast-result-2 c = search rules
 
 returns-2 : tie.Need-returns-2
-returns-2 c = c.u16-at.ensures ∙ element-2 _ _ (omega arith)
+returns-2 c = c.u16-at.ensures ∙ element_2 _ _ (omega arith)
 
 u32-at-requires : tie.Need-u32-at-requires
 u32-at-requires c κs = omega (arith, four c.before.before.before.requires.0 c.if2.false)
 
 returns-3 : tie.Need-returns-3
-returns-3 c = c.u32-at.ensures ∙ element-4 _ _ (four c.before.before.before.before.requires.0 c.before.if2.false)
+returns-3 c = c.u32-at.ensures ∙ element_4 _ _ (four c.before.before.before.before.requires.0 c.before.if2.false)
 
-pub element-at-spec : {M : Type 1} → statement M
-element-at-spec =
+pub element_at_spec : {M : Type 1} → statement M
+element_at_spec =
     tie.close
     (tie.spec
     shared-slice-read-wide

@@ -1,7 +1,7 @@
 use mathlib.Core.Path.{◌∙◌}
 use native.Mathlib.Omega.{arith}
 use borrow.Author.Rules.{rules}
-use Rattle.memory.proofs.Laws.{one, four, with-1, with-2, with-4}
+use Rattle.memory.proofs.Laws.{one, four, with_1, with_2, with_4}
 use Rattle.memory.proofs.put_element.Statement.{statement}
 use Rattle.memory.proofs.put_element.Tie as tie
 
@@ -15,7 +15,7 @@ same_length : tie.Need-same-length
 same_length c = search rules
 
 returns : tie.Need-returns
-returns c = with-1 _ _ _ (one c.before.before.requires.0 c.if1.true)
+returns c = with_1 _ _ _ (one c.before.before.requires.0 c.if1.true)
 
 cast-put-u16 : tie.Need-overflow-cast-put-u16
 cast-put-u16 c = search rules
@@ -27,7 +27,7 @@ same-length-2 : tie.Need-same-length-2
 same-length-2 c = search rules
 
 returns-2 : tie.Need-returns-2
-returns-2 c = c.before.before.put-u16.ensures ∙ with-2 _ _ _ (omega arith)
+returns-2 c = c.before.before.put-u16.ensures ∙ with_2 _ _ _ (omega arith)
 
 put-u32-requires : tie.Need-put-u32-requires
 put-u32-requires c κs = omega (arith, four c.before.before.before.before.requires.0 c.before.if2.false)
@@ -36,10 +36,10 @@ same-length-3 : tie.Need-same-length-3
 same-length-3 c = search rules
 
 returns-3 : tie.Need-returns-3
-returns-3 c = c.before.before.put-u32.ensures ∙ with-4 _ _ _ (four c.before.before.before.before.before.before.before.requires.0 c.before.before.before.before.if2.false) (omega arith)
+returns-3 c = c.before.before.put-u32.ensures ∙ with_4 _ _ _ (four c.before.before.before.before.before.before.before.requires.0 c.before.before.before.before.if2.false) (omega arith)
 
-pub put-element-spec : {M : Type 1} → statement M
-put-element-spec =
+pub put_element_spec : {M : Type 1} → statement M
+put_element_spec =
     tie.close
     (tie.spec
     cast-memory

@@ -1,9 +1,9 @@
 use Prim.Native.Nat.{◌<◌, ◌≤◌}
 use mathlib.Core.Path.{refl}
 use lib.ListN.{length}
-use Rattle.sheet_reader.specs.Reading.{readSheet}
+use Rattle.sheet_reader.specs.Reading.{read_sheet}
 use Rattle.small_answers.specs.Laws.Small.{read_small, written_small}
-use Rattle.moonbleat.proofs.Laws.{rewritten-refused, room-refused, rewritten-read, room-read}
+use Rattle.moonbleat.proofs.Laws.{rewritten_refused, room_refused, rewritten_read, room_read}
 use borrow.Author.Rules.{rules}
 use Rattle.moonbleat.proofs.moonbleat_rewrite.Statement.{statement}
 use Rattle.moonbleat.proofs.moonbleat_rewrite.Tie as tie
@@ -21,8 +21,8 @@ returns c =
     let s = a.sheet.now in
     let e = d.read-sheet.ensures in
     let p = c.put-answer.ensures in
-    let n : 0 < (readSheet s).refusal.number = rw e at c.before.before.if1.true in
-    rw (rewritten-refused s (length a.out.now) n, room-refused s a.out.now n) (rw e at p.0, (refl, rw e at p.1))
+    let n : 0 < (read_sheet s).refusal.number = rw e at c.before.before.if1.true in
+    rw (rewritten_refused s (length a.out.now) n, room_refused s a.out.now n) (rw e at p.0, (refl, rw e at p.1))
 
 write-sheet-requires : tie.Need-write-sheet-requires
 write-sheet-requires c κs = search rules
@@ -41,12 +41,12 @@ returns-2 c =
     let s = a.sheet.now in
     let e = d.read-sheet.ensures in
     let p = c.put-answer2.ensures in
-    let n : (readSheet s).refusal.number ≤ 0 = rw e at c.before.before.before.before.before.before.before.if1.false in
-    rw (rewritten-read s (length a.out.now) n, room-read s a.out.now n)
+    let n : (read_sheet s).refusal.number ≤ 0 = rw e at c.before.before.before.before.before.before.before.if1.false in
+    rw (rewritten_read s (length a.out.now) n, room_read s a.out.now n)
     (rw (w.0, e) at p.0, (rw e at w.1, rw (w.0, e) at p.1))
 
-pub moonbleat-rewrite-spec : {M : Type 1} → statement M
-moonbleat-rewrite-spec =
+pub moonbleat_rewrite_spec : {M : Type 1} → statement M
+moonbleat_rewrite_spec =
     tie.close
     (tie.spec
     read-sheet-requires

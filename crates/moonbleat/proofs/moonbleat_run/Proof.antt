@@ -1,6 +1,6 @@
 use mathlib.Core.Path.{ap, sym, subst, ◌∙◌}
 use Rattle.carrying.specs.Carrying.{CarriedOut}
-use Rattle.rows.specs.Rows.{typesRow, answerRow}
+use Rattle.rows.specs.Rows.{types_row, answer_row}
 use Rattle.rows.specs.Small.{Small}
 use Rattle.small_answers.specs.Laws.Small.{run_small}
 use borrow.Author.Rules.{rules}
@@ -29,13 +29,13 @@ returns c =
       (
         d.1,
         (
-          g ∙ ap (λ (x : CarriedOut). typesRow x.registers.types) e,
-          (ap (λ (x : CarriedOut). x.registers.elements) e, p.1 ∙ ap (λ (x : CarriedOut). answerRow x.refusal x.counts.placed) e),
+          g ∙ ap (λ (x : CarriedOut). types_row x.registers.types) e,
+          (ap (λ (x : CarriedOut). x.registers.elements) e, p.1 ∙ ap (λ (x : CarriedOut). answer_row x.refusal x.counts.placed) e),
         ),
       ),
     )
 
-pub moonbleat-run-spec : {M : Type 1} → statement M
-moonbleat-run-spec =
+pub moonbleat_run_spec : {M : Type 1} → statement M
+moonbleat_run_spec =
     tie.close
     (tie.spec run-tape-requires put-types-requires put-answer-requires same_length returns)

@@ -13,5 +13,5 @@ returns c = taken 0 (went c.before.touched.ensures c.if1.true) refl
 returns-2 : tie.Need-returns-2
 returns-2 c = left 1 (went c.before.touched.ensures c.if1.false) refl
 
-pub moonbleat-touched-spec : {M : Type 1} → statement M
-moonbleat-touched-spec = tie.close (tie.spec touched-requires returns returns-2)
+pub moonbleat_touched_spec : {M : Type 1} → statement M
+moonbleat_touched_spec = tie.close (tie.spec touched-requires returns returns-2)

@@ -11,5 +11,5 @@ returns-2 : tie.Need-returns-2
 unfolding between
 returns-2 c = search ways
 
-pub between-spec : {M : Type 1} → statement M
-between-spec = tie.close (tie.spec returns returns-2)
+pub between_spec : {M : Type 1} → statement M
+between_spec = tie.close (tie.spec returns returns-2)

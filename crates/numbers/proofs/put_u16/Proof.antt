@@ -26,8 +26,8 @@ same_length c = search rules
 returns : tie.Need-returns
 returns c = rw add-one (cc)
 
-pub put-u16-spec : {M : Type 1} → statement M
-put-u16-spec =
+pub put_u16_spec : {M : Type 1} → statement M
+put_u16_spec =
     tie.close
     (tie.spec
     low-byte-requires

@@ -1,6 +1,6 @@
 use Prim.Native.Nat.{◌%◌, ◌/◌}
-use Rattle.numbers.specs.Laws.Lists.{puts-after}
-use Rattle.numbers.specs.Little.{u16Bytes}
+use Rattle.numbers.specs.Laws.Lists.{puts_after}
+use Rattle.numbers.specs.Little.{u16_bytes}
 use borrow.Author.Rules.{rules}
 use Rattle.numbers.proofs.put_u32.Statement.{statement}
 use Rattle.numbers.proofs.put_u32.Tie as tie
@@ -26,11 +26,11 @@ same_length c = search rules
 returns : tie.Need-returns
 returns c =
     let a = c.before.before.before.before.before.before.before.before.before.args in
-    puts-after a.out.now a.at (u16Bytes (a.x % 65536)) (u16Bytes (a.x / 65536))
+    puts_after a.out.now a.at (u16_bytes (a.x % 65536)) (u16_bytes (a.x / 65536))
     c.before.before.before.before.before.before.put-u16.ensures c.before.before.put-u162.ensures
 
-pub put-u32-spec : {M : Type 1} → statement M
-put-u32-spec =
+pub put_u32_spec : {M : Type 1} → statement M
+put_u32_spec =
     tie.close
     (tie.spec
     cast-put-u16

@@ -1,4 +1,4 @@
-use Rattle.numbers.specs.Little.{u16At}
+use Rattle.numbers.specs.Little.{u16_at}
 use borrow.Author.Rules.{rules}
 use Rattle.numbers.proofs.u16_at.Statement.{statement}
 use Rattle.numbers.proofs.u16_at.Tie as tie
@@ -25,11 +25,11 @@ add-result : tie.Need-overflow-add-result
 add-result c = search rules
 
 returns : tie.Need-returns
-unfolding u16At
+unfolding u16_at
 returns c = search rules
 
-pub u16-at-spec : {M : Type 1} → statement M
-u16-at-spec =
+pub u16_at_spec : {M : Type 1} → statement M
+u16_at_spec =
     tie.close
     (tie.spec
     shared-slice-read-wide

@@ -10,12 +10,12 @@ use Rattle.numbers.specs.Bytes.{AreBytes}
 pub byte_at : (s : List ℕ) → AreBytes s → (i : ℕ) → get_or s i 0 < 256
 byte_at s b i = by_order i (length s) (b i) (λ h. rw (get_or-eq_default s 0 h) (omega arith))
 
-set-bytes : (s : List ℕ) (p x : ℕ) → AreBytes s → x < 256 → AreBytes (set s p x)
-set-bytes s p x b h i l =
+set_bytes : (s : List ℕ) (p x : ℕ) → AreBytes s → x < 256 → AreBytes (set s p x)
+set_bytes s p x b h i l =
     let m : i < length s = rw (length-set s p x) at l in
     by_place i p (λ e. rw (e, get_or-set_same s p x 0 (omega arith)) h) (λ d. rw (get_or-set_other s p i x 0 d) (b i m))
 
-pub line-bytes : (s : List ℕ) (p : ℕ) (g : ℕ → ℕ) (n : ℕ) → AreBytes s → ((i : ℕ) → g i < 256) → AreBytes (line s p g n)
+pub line_bytes : (s : List ℕ) (p : ℕ) (g : ℕ → ℕ) (n : ℕ) → AreBytes s → ((i : ℕ) → g i < 256) → AreBytes (line s p g n)
 unfolding line
-line-bytes s p g zero b h = b
-line-bytes s p g (suc n) b h = set-bytes (line s p g n) (p + n) (g n) (line-bytes s p g n b h) (h n)
+line_bytes s p g zero b h = b
+line_bytes s p g (suc n) b h = set_bytes (line s p g n) (p + n) (g n) (line_bytes s p g n b h) (h n)

@@ -18,26 +18,26 @@ pub went : {r t b : Bool} → r ≡ t → r ≡ b → t ≡ b
 went p q = sym p ∙ q
 
 -- the same where the branch is on `!call`
-pub went-not : {r t : Bool} → r ≡ t → not r ≡ true → t ≡ false
-went-not p q = sym p ∙ not-true _ q
+pub went_not : {r t : Bool} → r ≡ t → not r ≡ true → t ≡ false
+went_not p q = sym p ∙ not-true _ q
 
-pub went-past : {r t : Bool} → r ≡ t → not r ≡ false → t ≡ true
-went-past p q = sym p ∙ not-false _ q
+pub went_past : {r t : Bool} → r ≡ t → not r ≡ false → t ≡ true
+went_past p q = sym p ∙ not-false _ q
 
-pub ne-not : (a b : ℕ) → (a ≡ b → ⊥) → not (eqb a b) ≡ true
-ne-not a b h = rw (ne_eqb a b h)
+pub ne_not : (a b : ℕ) → (a ≡ b → ⊥) → not (eqb a b) ≡ true
+ne_not a b h = rw (ne_eqb a b h)
 
-pub eq-not : (a b : ℕ) → a ≡ b → not (eqb a b) ≡ false
-eq-not a b h = rw (eq-eqb a b h)
+pub eq_not : (a b : ℕ) → a ≡ b → not (eqb a b) ≡ false
+eq_not a b h = rw (eq-eqb a b h)
 
 -- for `search`: which way each test of a nest of choices went
-pub ruleset ways = (taken, left, lt-ltb, le-ltb, le-leb, lt-leb, eq-eqb, ne_eqb, ne-not, eq-not)
+pub ruleset ways = (taken, left, lt-ltb, le-ltb, le-leb, lt-leb, eq-eqb, ne_eqb, ne_not, eq_not)
 
 -- the same where some tests are calls
-pub ruleset calls = (taken, left, went, went-not, went-past, lt-ltb, le-ltb, le-leb, lt-leb, eq-eqb, ne_eqb, ne-not, eq-not)
+pub ruleset calls = (taken, left, went, went_not, went_past, lt-ltb, le-ltb, le-leb, lt-leb, eq-eqb, ne_eqb, ne_not, eq_not)
 
 -- for `search`: which way one test went
-pub ruleset tests = (went, went-not, went-past, lt-ltb, le-ltb, le-leb, lt-leb, eq-eqb, ne_eqb, ne-not, eq-not)
+pub ruleset tests = (went, went_not, went_past, lt-ltb, le-ltb, le-leb, lt-leb, eq-eqb, ne_eqb, ne_not, eq_not)
 
 -- a row of tests joined by `both`: the first that is false decides
 pub stop : {a : Bool} (b : Bool) → a ≡ false → false ≡ both a b
@@ -55,10 +55,10 @@ pick_inv true x y e = inl (refl, e)
 pick_inv false x y e = inr (refl, e)
 
 -- what holds of both answers holds of a choice, each by its way
-pub pick-case : {A : Type 0} (P : A → Type 0) (t : Bool) (x y : A) → (t ≡ true → P x) → (t ≡ false → P y) → P (pick t x y)
+pub pick_case : {A : Type 0} (P : A → Type 0) (t : Bool) (x y : A) → (t ≡ true → P x) → (t ≡ false → P y) → P (pick t x y)
 unfolding pick
-pick-case P true x y f g = f refl
-pick-case P false x y f g = g refl
+pick_case P true x y f g = f refl
+pick_case P false x y f g = g refl
 
 pub both_left : (a b : Bool) → both a b ≡ true → a ≡ true
 unfolding both pick
@@ -76,41 +76,41 @@ both_true true b p q = q
 both_true false b p q = p
 
 -- a range as orders, and back
-pub between-low : (low high x : ℕ) → between low high x ≡ true → low ≤ x
+pub between_low : (low high x : ℕ) → between low high x ≡ true → low ≤ x
 unfolding between pick
-between-low low high x e = pick-case (λ (b : Bool). b ≡ true → low ≤ x) (ltb x low) false (leb x high)
+between_low low high x e = pick_case (λ (b : Bool). b ≡ true → low ≤ x) (ltb x low) false (leb x high)
     (λ p q. absurd (true≢false (sym q)))
     (λ p q. ltb-false x low p) e
 
-pub between-high : (low high x : ℕ) → between low high x ≡ true → x ≤ high
+pub between_high : (low high x : ℕ) → between low high x ≡ true → x ≤ high
 unfolding between pick
-between-high low high x e = pick-case (λ (b : Bool). b ≡ true → x ≤ high) (ltb x low) false (leb x high)
+between_high low high x e = pick_case (λ (b : Bool). b ≡ true → x ≤ high) (ltb x low) false (leb x high)
     (λ p q. absurd (true≢false (sym q)))
     (λ p q. leb-true x high q) e
 
-pub between-true : (low high x : ℕ) → low ≤ x → x ≤ high → between low high x ≡ true
+pub between_true : (low high x : ℕ) → low ≤ x → x ≤ high → between low high x ≡ true
 unfolding between pick
-between-true low high x p q = rw (le-ltb x low p, le-leb x high q)
+between_true low high x p q = rw (le-ltb x low p, le-leb x high q)
 
 -- by cases of a test, keeping the equation
-pub by-test : {P : Type 0} (b : Bool) → (b ≡ true → P) → (b ≡ false → P) → P
-by-test true f g = f refl
-by-test false f g = g refl
+pub by_test : {P : Type 0} (b : Bool) → (b ≡ true → P) → (b ≡ false → P) → P
+by_test true f g = f refl
+by_test false f g = g refl
 
 -- a place is the one in question, or another
 pub by_place : {P : Type 0} (k n : ℕ) → (k ≡ n → P) → ((k ≡ n → ⊥) → P) → P
-by_place k n f g = by-test (eqb k n) (λ q. f (eqb-true k n q)) (λ q. g (eqb-false k n q))
+by_place k n f g = by_test (eqb k n) (λ q. f (eqb-true k n q)) (λ q. g (eqb-false k n q))
 
 pub by_order : {P : Type 0} (k n : ℕ) → (k < n → P) → (n ≤ k → P) → P
-by_order k n f g = by-test (ltb k n) (λ q. f (ltb-true k n q)) (λ q. g (ltb-false k n q))
+by_order k n f g = by_test (ltb k n) (λ q. f (ltb-true k n q)) (λ q. g (ltb-false k n q))
 
 -- the choice and the conjunction are the library's, kept folded
-pub pick-cond : {A : Type 0} (b : Bool) (x y : A) → pick b x y ≡ cond b x y
+pub pick_cond : {A : Type 0} (b : Bool) (x y : A) → pick b x y ≡ cond b x y
 unfolding pick
-pick-cond true x y = refl
-pick-cond false x y = refl
+pick_cond true x y = refl
+pick_cond false x y = refl
 
-pub both-and : (a b : Bool) → both a b ≡ (a && b)
+pub both_and : (a b : Bool) → both a b ≡ (a && b)
 unfolding both pick
-both-and true b = refl
-both-and false b = refl
+both_and true b = refl
+both_and false b = refl

@@ -27,17 +27,17 @@ module _ {B : Type 0} where
       )
 
   -- each of one length, of at most one, of one element at least
-  pub length-each : (w n : ℕ) (f : ℕ → List B) → ((k : ℕ) → k < n → length (f k) ≡ w) → length (each n f) ≡ n * w
+  pub length_each : (w n : ℕ) (f : ℕ → List B) → ((k : ℕ) → k < n → length (f k) ≡ w) → length (each n f) ≡ n * w
   unfolding each
-  length-each w zero f h = omega arith
-  length-each w (suc n) f h =
-      rw (length-append (each n f) (f n), length-each w n f (λ k l. h k (omega arith)), h n (omega arith)) (sym (suc-mul n w))
+  length_each w zero f h = omega arith
+  length_each w (suc n) f h =
+      rw (length-append (each n f) (f n), length_each w n f (λ k l. h k (omega arith)), h n (omega arith)) (sym (suc-mul n w))
 
-  pub each-short : (w n : ℕ) (f : ℕ → List B) → ((k : ℕ) → k < n → length (f k) ≤ w) → length (each n f) ≤ n * w
+  pub each_short : (w n : ℕ) (f : ℕ → List B) → ((k : ℕ) → k < n → length (f k) ≤ w) → length (each n f) ≤ n * w
   unfolding each
-  each-short w zero f h = omega arith
-  each-short w (suc n) f h =
-      rw (length-append (each n f) (f n), suc-mul n w) (omega (arith, each-short w n f (λ k l. h k (omega arith)), h n (omega arith)))
+  each_short w zero f h = omega arith
+  each_short w (suc n) f h =
+      rw (length-append (each n f) (f n), suc-mul n w) (omega (arith, each_short w n f (λ k l. h k (omega arith)), h n (omega arith)))
 
   pub each_long : (n : ℕ) (f : ℕ → List B) → ((k : ℕ) → 1 ≤ length (f k)) → n ≤ length (each n f)
   unfolding each
@@ -45,12 +45,12 @@ module _ {B : Type 0} where
   each_long (suc n) f h = omega (arith, length-append (each n f) (f n), each_long n f h, h n)
 
   -- the first m, and the others
-  pub each-join : (m n : ℕ) (f : ℕ → List B) → each (m + n) f ≡ each m f ++ each n (λ (k : ℕ). f (m + k))
+  pub each_join : (m n : ℕ) (f : ℕ → List B) → each (m + n) f ≡ each m f ++ each n (λ (k : ℕ). f (m + k))
   unfolding each
-  each-join m zero f = rw (add-zero m) (sym (append-nil (each m f)))
-  each-join m (suc n) f =
+  each_join m zero f = rw (add-zero m) (sym (append-nil (each m f)))
+  each_join m (suc n) f =
       let e : m + suc n ≡ suc (m + n) = omega arith in
-      rw (e, each-join m n f) (append_assoc (each m f) (each n (λ (k : ℕ). f (m + k))) (f (m + n)))
+      rw (e, each_join m n f) (append_assoc (each m f) (each n (λ (k : ℕ). f (m + k))) (f (m + n)))
 
 -- place j of list i of n lists of one length
 pub each_part : {A : Type 0} (w n : ℕ) (f : ℕ → List A) (i j : ℕ) (d : A) → ((k : ℕ) → k < n → length (f k) ≡ w) → i < n → j < w
@@ -58,7 +58,7 @@ pub each_part : {A : Type 0} (w n : ℕ) (f : ℕ → List A) (i j : ℕ) (d : A
 unfolding each
 each_part w zero f i j d long h l = absurd (not-suc-le-zero h)
 each_part w (suc n) f i j d long h l =
-    let before : length (each n f) ≡ n * w = length-each w n f (λ k q. long k (omega arith)) in
+    let before : length (each n f) ≡ n * w = length_each w n f (λ k q. long k (omega arith)) in
     by_order i n
     (λ q.
     let most : suc i * w ≤ n * w = mul-le-mul_right w q in

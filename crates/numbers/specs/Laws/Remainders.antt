@@ -8,18 +8,18 @@ abbrev pub quotient : ℤ → ℕ → ℤ
 quotient (pos a) n = pos (a / n)
 quotient (negsuc a) n = negsuc (a / n)
 
-pub remainder-lt : (c : ℤ) {n : ℕ} → 0 < n → remainder c n < n
-remainder-lt (pos a) {n} h = mod-lt a h
-remainder-lt (negsuc a) {n} h = omega arith
+pub remainder_lt : (c : ℤ) {n : ℕ} → 0 < n → remainder c n < n
+remainder_lt (pos a) {n} h = mod-lt a h
+remainder_lt (negsuc a) {n} h = omega arith
 
 -- -x for a positive x
 negative : (x : ℕ) → 0 < x → neg_ℤ (pos x) ≡ negsuc (x - 1)
 negative zero h = absurd (omega arith)
 negative (suc x) h = ap negsuc (omega arith)
 
-pub remainder-right : (c : ℤ) (n : ℕ) → 0 < n → quotient c n *ℤ pos n +ℤ pos (remainder c n) ≡ c
-remainder-right (pos a) n h = ap pos (div-add-mod' a n)
-remainder-right (negsuc a) n h =
+pub remainder_right : (c : ℤ) (n : ℕ) → 0 < n → quotient c n *ℤ pos n +ℤ pos (remainder c n) ≡ c
+remainder_right (pos a) n h = ap pos (div-add-mod' a n)
+remainder_right (negsuc a) n h =
     let r : a % n < n = mod-lt a h in
     let e : a / n * n + a % n ≡ a = div-add-mod' a n in
     let m : suc (a / n) * n ≡ a / n * n + n = suc-mul (a / n) n in

@@ -26,8 +26,8 @@ module _ {A : Type 0} (k d : ℕ) (f g : ℕ → List A) (first : g k ≡ f (k +
   abbrev after : List A
   after = each d (λ (j : ℕ). f (k + 1 + 1 + j))
 
-  pub each-exchanged : (head : List A) → Exchanged (head ++ each (k + 1 + 1 + d) f) (head ++ each (k + 1 + 1 + d) g) (f k) (f (k + 1))
-  each-exchanged head =
+  pub each_exchanged : (head : List A) → Exchanged (head ++ each (k + 1 + 1 + d) f) (head ++ each (k + 1 + 1 + d) g) (f k) (f (k + 1))
+  each_exchanged head =
       let before = each_same k g f (λ i l. others i (λ e. omega arith) (λ e. omega arith)) in
       let rest = each_same d (λ (j : ℕ). g (k + 1 + 1 + j)) (λ (j : ℕ). f (k + 1 + 1 + j)) (λ j l. others (k + 1 + 1 + j) (λ e. omega arith) (λ e. omega arith)) in
       let joined : (x y : List A) → head ++ (each k f ++ x ++ y ++ after) ≡ head ++ each k f ++ x ++ y ++ after =

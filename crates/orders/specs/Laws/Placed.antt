@@ -11,24 +11,24 @@ use Rattle.numbers.specs.Lists.{each}
 use Rattle.numbers.specs.Laws.Choice.{by_place}
 use Rattle.outcomes.specs.declared.Outcome.{Outcome}
 use Rattle.outcomes.specs.declared.Outcome.TheVariants.{Skipped, Filled, Discarded, Placed}
-use Rattle.accesses.specs.Refusals.{placedOne}
-use Rattle.orders.specs.Orders.{ifPlaced, placed_of}
+use Rattle.accesses.specs.Refusals.{placed_one}
+use Rattle.orders.specs.Orders.{if_placed, placed_of}
 
 -- of one element
 module _ (n : ℕ) where
-  only-itself : (o : Outcome) (k : ℕ) → Mem k (ifPlaced o n) → (k ≡ n) × (placedOne o ≡ 1)
-  only-itself Skipped k m = absurd (not-mem-nil m)
-  only-itself (Filled bits) k m = absurd (not-mem-nil m)
-  only-itself Discarded k m = absurd (not-mem-nil m)
-  only-itself (Placed byte) k m = ((mem-singleton ℕ_set).0 m, refl)
+  only_itself : (o : Outcome) (k : ℕ) → Mem k (if_placed o n) → (k ≡ n) × (placed_one o ≡ 1)
+  only_itself Skipped k m = absurd (not-mem-nil m)
+  only_itself (Filled bits) k m = absurd (not-mem-nil m)
+  only_itself Discarded k m = absurd (not-mem-nil m)
+  only_itself (Placed byte) k m = ((mem-singleton ℕ_set).0 m, refl)
 
-  itself : (o : Outcome) → placedOne o ≡ 1 → Mem n (ifPlaced o n)
+  itself : (o : Outcome) → placed_one o ≡ 1 → Mem n (if_placed o n)
   itself Skipped e = absurd (omega arith)
   itself (Filled bits) e = absurd (omega arith)
   itself Discarded e = absurd (omega arith)
   itself (Placed byte) e = (mem-singleton ℕ_set).1 refl
 
-  once : (o : Outcome) → Nodup (ifPlaced o n)
+  once : (o : Outcome) → Nodup (if_placed o n)
   once Skipped = Nodup-nil
   once (Filled bits) = Nodup-nil
   once Discarded = Nodup-nil
@@ -36,27 +36,27 @@ module _ (n : ℕ) where
 
 -- of n
 module _ (outcome : ℕ → Outcome) where
-  pub placed-only : (n k : ℕ) → Mem k (placed_of outcome n) → (k < n) × (placedOne (outcome k) ≡ 1)
+  pub placed_only : (n k : ℕ) → Mem k (placed_of outcome n) → (k < n) × (placed_one (outcome k) ≡ 1)
   unfolding each
-  placed-only zero k m = absurd (not-mem-nil m)
-  placed-only (suc n) k m =
-      Or.elim (×_prop le_prop (ℕ_set (placedOne (outcome k)) 1)) (mem-append.0 m)
-      (λ before. let h = placed-only n k before in (omega (arith, h.0), h.1))
-      (λ last. let h = only-itself n (outcome n) k last in rw h.0 (omega arith, h.1))
+  placed_only zero k m = absurd (not-mem-nil m)
+  placed_only (suc n) k m =
+      Or.elim (×_prop le_prop (ℕ_set (placed_one (outcome k)) 1)) (mem-append.0 m)
+      (λ before. let h = placed_only n k before in (omega (arith, h.0), h.1))
+      (λ last. let h = only_itself n (outcome n) k last in rw h.0 (omega arith, h.1))
 
-  pub placed-all : (n k : ℕ) → k < n → placedOne (outcome k) ≡ 1 → Mem k (placed_of outcome n)
+  pub placed_all : (n k : ℕ) → k < n → placed_one (outcome k) ≡ 1 → Mem k (placed_of outcome n)
   unfolding each
-  placed-all zero k h e = absurd (omega arith)
-  placed-all (suc n) k h e =
+  placed_all zero k h e = absurd (omega arith)
+  placed_all (suc n) k h e =
       by_place k n (λ q. mem-append_right (placed_of outcome n) (rw q (itself n (outcome n) (rw q at e))))
-      (λ d. mem-append_left (ifPlaced (outcome n) n) (placed-all n k (omega arith) e))
+      (λ d. mem-append_left (if_placed (outcome n) n) (placed_all n k (omega arith) e))
 
-  pub placed-once : (n : ℕ) → Nodup (placed_of outcome n)
+  pub placed_once : (n : ℕ) → Nodup (placed_of outcome n)
   unfolding each
-  placed-once zero = Nodup-nil
-  placed-once (suc n) =
+  placed_once zero = Nodup-nil
+  placed_once (suc n) =
       Nodup-append.1 (
-        placed-once n,
+        placed_once n,
         once n (outcome n),
-        λ k before last. let h = placed-only n k before in let e = only-itself n (outcome n) k last in omega (arith, h.0, e.0),
+        λ k before last. let h = placed_only n k before in let e = only_itself n (outcome n) k last in omega (arith, h.0, e.0),
       )

@@ -29,8 +29,8 @@ returns c =
     six a.tape.now a.at (pos a.op) (pos a.register) (pos a.first) (pos a.count) (pos a.byte) (difference a.up a.down)
     c.before.before.before.before.before.before.before.put_four.ensures c.before.before.before.before.put-natural.ensures c.before.put-difference.ensures
 
-pub put-bytes-spec : {M : Type 1} → statement M
-put-bytes-spec =
+pub put_bytes_spec : {M : Type 1} → statement M
+put_bytes_spec =
     tie.close
     (tie.spec
     put-four-requires

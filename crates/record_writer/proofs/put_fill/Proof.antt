@@ -29,8 +29,8 @@ returns c =
     six a.tape.now a.at (pos 3) (pos a.register) (pos a.first) (pos a.count) (signed_of a.value) (pos 0)
     c.before.before.before.before.before.before.before.put_four.ensures c.before.before.before.before.put-bits.ensures c.before.put-natural.ensures
 
-pub put-fill-spec : {M : Type 1} → statement M
-put-fill-spec =
+pub put_fill_spec : {M : Type 1} → statement M
+put_fill_spec =
     tie.close
     (tie.spec
     put-four-requires

@@ -34,8 +34,8 @@ returns c =
     four a.tape.now a.at (pos a.op) (pos a.a) (pos a.b) (pos a.c)
     c.before.before.before.before.before.before.before.before.before.before.put-natural.ensures c.before.before.before.before.before.before.before.put-natural2.ensures c.before.before.before.before.put-natural3.ensures c.before.put-natural4.ensures
 
-pub put-four-spec : {M : Type 1} → statement M
-put-four-spec =
+pub put_four_spec : {M : Type 1} → statement M
+put_four_spec =
     tie.close
     (tie.spec
     put-natural-requires

@@ -28,8 +28,8 @@ returns c =
     six a.tape.now a.at (pos a.op) (pos a.a) (pos a.b) (pos 0) (pos 0) (pos 0)
     c.before.before.before.before.before.before.before.put_four.ensures c.before.before.before.before.put-natural.ensures c.before.put-natural2.ensures
 
-pub put-plain-spec : {M : Type 1} → statement M
-put-plain-spec =
+pub put_plain_spec : {M : Type 1} → statement M
+put_plain_spec =
     tie.close
     (tie.spec
     put-four-requires

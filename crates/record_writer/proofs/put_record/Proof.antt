@@ -71,8 +71,8 @@ same-length-5 c = search rules
 returns-5 : tie.Need-returns-5
 returns-5 c = rw c.before.before.before.before.r5.given.1 c.before.put-plain2.ensures
 
-pub put-record-spec : {M : Type 1} → statement M
-put-record-spec =
+pub put_record_spec : {M : Type 1} → statement M
+put_record_spec =
     tie.close
     (tie.spec
     enum-known-r

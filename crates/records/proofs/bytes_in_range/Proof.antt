@@ -1,5 +1,5 @@
 use Rattle.numbers.specs.Laws.Choice.{tests, stop, pass}
-use Rattle.records.specs.Records.{bytesInRange}
+use Rattle.records.specs.Records.{bytes_in_range}
 use borrow.Author.Rules.{rules}
 use Rattle.records.proofs.bytes_in_range.Statement.{statement}
 use Rattle.records.proofs.bytes_in_range.Tie as tie
@@ -11,7 +11,7 @@ spans-requires : tie.Need-spans-requires
 spans-requires c κs = search rules
 
 returns : tie.Need-returns
-unfolding bytesInRange
+unfolding bytes_in_range
 returns c = stop _ (search tests)
 
 add-at-least : tie.Need-overflow-add-at-least
@@ -21,7 +21,7 @@ at-least-requires : tie.Need-at-least-requires
 at-least-requires c κs = search rules
 
 returns-2 : tie.Need-returns-2
-unfolding bytesInRange
+unfolding bytes_in_range
 returns-2 c = pass (search tests) (stop _ (search tests))
 
 add-at-least-2 : tie.Need-overflow-add-at-least-2
@@ -31,7 +31,7 @@ at-least-requires-2 : tie.Need-at-least-requires-2
 at-least-requires-2 c κs = search rules
 
 returns-3 : tie.Need-returns-3
-unfolding bytesInRange
+unfolding bytes_in_range
 returns-3 c = pass (search tests) (pass (search tests) (stop _ (search tests)))
 
 add-at-least-3 : tie.Need-overflow-add-at-least-3
@@ -41,7 +41,7 @@ at-least-requires-3 : tie.Need-at-least-requires-3
 at-least-requires-3 c κs = search rules
 
 returns-4 : tie.Need-returns-4
-unfolding bytesInRange
+unfolding bytes_in_range
 returns-4 c = pass (search tests) (pass (search tests) (pass (search tests) (stop _ (search tests))))
 
 add-spans-2 : tie.Need-overflow-add-spans-2
@@ -51,11 +51,11 @@ spans-requires-2 : tie.Need-spans-requires-2
 spans-requires-2 c κs = search rules
 
 returns-5 : tie.Need-returns-5
-unfolding bytesInRange
+unfolding bytes_in_range
 returns-5 c = pass (search tests) (pass (search tests) (pass (search tests) (pass (search tests) (search tests))))
 
-pub bytes-in-range-spec : {M : Type 1} → statement M
-bytes-in-range-spec =
+pub bytes_in_range_spec : {M : Type 1} → statement M
+bytes_in_range_spec =
     tie.close
     (tie.spec
     add-spans

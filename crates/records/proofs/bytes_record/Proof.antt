@@ -1,8 +1,8 @@
 use mathlib.Core.Path.{refl}
-use Rattle.numbers.specs.Laws.Choice.{taken, left, went-not, went-past}
-use Rattle.records.specs.Records.{movedOf}
-use Rattle.records.specs.Laws.Records.{moved-within}
-use Rattle.records.proofs.Laws.{bytes-register, bytes_count, bytes-step, elements-read, bytes_read}
+use Rattle.numbers.specs.Laws.Choice.{taken, left, went_not, went_past}
+use Rattle.records.specs.Records.{moved_of}
+use Rattle.records.specs.Laws.Records.{moved_within}
+use Rattle.records.proofs.Laws.{bytes_register, bytes_count, bytes_step, elements_read, bytes_read}
 use native.Mathlib.Omega.{arith}
 use borrow.Author.Rules.{rules}
 use Rattle.records.proofs.bytes_record.Statement.{statement}
@@ -12,14 +12,14 @@ bytes-in-range-requires : tie.Need-bytes-in-range-requires
 bytes-in-range-requires c κs = search rules
 
 returns : tie.Need-returns
-unfolding movedOf
-returns c = (left _ (went-not c.before.bytes-in-range.ensures c.if1.true) refl, tt)
+unfolding moved_of
+returns c = (left _ (went_not c.before.bytes-in-range.ensures c.if1.true) refl, tt)
 
 add-register-at : tie.Need-overflow-add-register-at
 add-register-at c = search rules
 
 register-at-requires : tie.Need-register-at-requires
-register-at-requires c κs = (omega arith, bytes-register _ _ _ _ _ (went-past c.before.bytes-in-range.ensures c.if1.false))
+register-at-requires c κs = (omega arith, bytes_register _ _ _ _ _ (went_past c.before.bytes-in-range.ensures c.if1.false))
 
 add-rise : tie.Need-overflow-add-rise
 add-rise c = search rules
@@ -55,24 +55,24 @@ moved-requires : tie.Need-moved-requires
 moved-requires c κs = search rules
 
 returns-2 : tie.Need-returns-2
-unfolding movedOf
+unfolding moved_of
 returns-2 c =
     let s = c.before.before.before.before.before.before.before in
-    let ok = went-past s.before.bytes-in-range.ensures s.if1.false in (
+    let ok = went_past s.before.bytes-in-range.ensures s.if1.false in (
       taken _ ok (cc),
       rw c.moved.ensures
-          (moved-within s.before.before.args.take
-          (elements-read _ (bytes_count _ _ _ _ _ ok) c.before.before.before.before.before.before.register-at.ensures.1
+          (moved_within s.before.before.args.take
+          (elements_read _ (bytes_count _ _ _ _ _ ok) c.before.before.before.before.before.before.register-at.ensures.1
           c.before.before.before.before.before.rise.ensures.1
           c.before.before.before.before.rise2.ensures.0
           c.before.before.before.before.rise2.ensures.1)
-          (bytes_read _ (bytes-step _ _ _ _ _ ok) c.before.before.before.rise3.ensures.1
+          (bytes_read _ (bytes_step _ _ _ _ _ ok) c.before.before.before.rise3.ensures.1
           c.before.before.rise4.ensures.0
           c.before.fall.ensures)),
     )
 
-pub bytes-record-spec : {M : Type 1} → statement M
-bytes-record-spec =
+pub bytes_record_spec : {M : Type 1} → statement M
+bytes_record_spec =
     tie.close
     (tie.spec
     bytes-in-range-requires

@@ -1,5 +1,5 @@
 use Rattle.numbers.specs.Laws.Choice.{tests, stop, pass}
-use Rattle.records.specs.Records.{copyInRange}
+use Rattle.records.specs.Records.{copy_in_range}
 use borrow.Author.Rules.{rules}
 use Rattle.records.proofs.copy_in_range.Statement.{statement}
 use Rattle.records.proofs.copy_in_range.Tie as tie
@@ -11,7 +11,7 @@ spans-requires : tie.Need-spans-requires
 spans-requires c κs = search rules
 
 returns : tie.Need-returns
-unfolding copyInRange
+unfolding copy_in_range
 returns c = stop _ (search tests)
 
 add-spans-2 : tie.Need-overflow-add-spans-2
@@ -21,7 +21,7 @@ spans-requires-2 : tie.Need-spans-requires-2
 spans-requires-2 c κs = search rules
 
 returns-2 : tie.Need-returns-2
-unfolding copyInRange
+unfolding copy_in_range
 returns-2 c = pass (search tests) (stop _ (search tests))
 
 add_is : tie.Need-overflow-add-is
@@ -31,7 +31,7 @@ is-requires : tie.Need-is-requires
 is-requires c κs = search rules
 
 returns-3 : tie.Need-returns-3
-unfolding copyInRange
+unfolding copy_in_range
 returns-3 c = pass (search tests) (pass (search tests) (stop _ (search tests)))
 
 add-is-2 : tie.Need-overflow-add-is-2
@@ -41,7 +41,7 @@ is-requires-2 : tie.Need-is-requires-2
 is-requires-2 c κs = search rules
 
 returns-4 : tie.Need-returns-4
-unfolding copyInRange
+unfolding copy_in_range
 returns-4 c = pass (search tests) (pass (search tests) (pass (search tests) (stop _ (search tests))))
 
 add-is-3 : tie.Need-overflow-add-is-3
@@ -51,11 +51,11 @@ is-requires-3 : tie.Need-is-requires-3
 is-requires-3 c κs = search rules
 
 returns-5 : tie.Need-returns-5
-unfolding copyInRange
+unfolding copy_in_range
 returns-5 c = pass (search tests) (pass (search tests) (pass (search tests) (pass (search tests) (search tests))))
 
-pub copy-in-range-spec : {M : Type 1} → statement M
-copy-in-range-spec =
+pub copy_in_range_spec : {M : Type 1} → statement M
+copy_in_range_spec =
     tie.close
     (tie.spec
     add-spans

@@ -1,5 +1,5 @@
 use Rattle.numbers.specs.Laws.Choice.{tests, stop, pass}
-use Rattle.records.specs.Records.{wholeInRange}
+use Rattle.records.specs.Records.{whole_in_range}
 use borrow.Author.Rules.{rules}
 use Rattle.records.proofs.whole_in_range.Statement.{statement}
 use Rattle.records.proofs.whole_in_range.Tie as tie
@@ -11,7 +11,7 @@ at-least-requires : tie.Need-at-least-requires
 at-least-requires c κs = search rules
 
 returns : tie.Need-returns
-unfolding wholeInRange
+unfolding whole_in_range
 returns c = stop _ (search tests)
 
 add_is : tie.Need-overflow-add-is
@@ -21,7 +21,7 @@ is-requires : tie.Need-is-requires
 is-requires c κs = search rules
 
 returns-2 : tie.Need-returns-2
-unfolding wholeInRange
+unfolding whole_in_range
 returns-2 c = pass (search tests) (stop _ (search tests))
 
 add-is-2 : tie.Need-overflow-add-is-2
@@ -31,7 +31,7 @@ is-requires-2 : tie.Need-is-requires-2
 is-requires-2 c κs = search rules
 
 returns-3 : tie.Need-returns-3
-unfolding wholeInRange
+unfolding whole_in_range
 returns-3 c = pass (search tests) (pass (search tests) (stop _ (search tests)))
 
 add-is-3 : tie.Need-overflow-add-is-3
@@ -41,7 +41,7 @@ is-requires-3 : tie.Need-is-requires-3
 is-requires-3 c κs = search rules
 
 returns-4 : tie.Need-returns-4
-unfolding wholeInRange
+unfolding whole_in_range
 returns-4 c = pass (search tests) (pass (search tests) (pass (search tests) (stop _ (search tests))))
 
 add-is-4 : tie.Need-overflow-add-is-4
@@ -51,11 +51,11 @@ is-requires-4 : tie.Need-is-requires-4
 is-requires-4 c κs = search rules
 
 returns-5 : tie.Need-returns-5
-unfolding wholeInRange
+unfolding whole_in_range
 returns-5 c = pass (search tests) (pass (search tests) (pass (search tests) (pass (search tests) (search tests))))
 
-pub whole-in-range-spec : {M : Type 1} → statement M
-whole-in-range-spec =
+pub whole_in_range_spec : {M : Type 1} → statement M
+whole_in_range_spec =
     tie.close
     (tie.spec
     add-at-least

@@ -2,7 +2,7 @@ use mathlib.Core.Path.{refl, ◌∙◌}
 use native.Mathlib.Nat.{mul-le-mul}
 use native.Mathlib.Omega.{arith}
 use borrow.Author.Rules.{rules}
-use Rattle.reduces.proofs.Folding.{fold-part}
+use Rattle.reduces.proofs.Folding.{fold_part}
 use Rattle.sheet.specs.declared.ReduceMode.TheVariants.{Both}
 use Rattle.registers.specs.Laws.Sized.{sides}
 use Rattle.registers.specs.Laws.Grids.{block_same}
@@ -37,10 +37,10 @@ returns c =
     let a = c.before.before.before.before.before.before.before.args in
     let p = c.before.before.before.place_of in
     c.fill-block.ensures
-    ∙ block_same _ _ _ _ _ (λ i j l h. c.before.before.fold.ensures ∙ fold-part a.elements.now a.source a.t Both a.combine i j p.result 1 _ refl (λ u. omega (arith, p.ensures)))
+    ∙ block_same _ _ _ _ _ (λ i j l h. c.before.before.fold.ensures ∙ fold_part a.elements.now a.source a.t Both a.combine i j p.result 1 _ refl (λ u. omega (arith, p.ensures)))
 
-pub both-block-spec : {M : Type 1} → statement M
-both-block-spec =
+pub both_block_spec : {M : Type 1} → statement M
+both_block_spec =
     tie.close
     (tie.spec
     cast-m

@@ -2,7 +2,7 @@ use mathlib.Core.Path.{refl, ◌∙◌}
 use Prim.Native.Nat.{◌+◌, ◌*◌}
 use native.Mathlib.Omega.{arith}
 use borrow.Author.Rules.{rules}
-use Rattle.reduces.proofs.Folding.{part-at}
+use Rattle.reduces.proofs.Folding.{part_at_lem}
 use Rattle.sheet.specs.declared.ReduceMode.TheVariants.{Column}
 use Rattle.registers.specs.Laws.Grids.{block_same}
 use Rattle.reduces.proofs.column_block.Statement.{statement}
@@ -35,11 +35,11 @@ returns c =
     let p = c.before.before.before.before.place_of in
     c.spread.ensures
     ∙ block_same _ _ _ _ _ (λ i j l h.
-    part-at a.elements.now a.source a.t Column a.combine i j p.result 1 a.t.columns _ a.columns j (0 + i * 0 + j * 1)
+    part_at_lem a.elements.now a.source a.t Column a.combine i j p.result 1 a.t.columns _ a.columns j (0 + i * 0 + j * 1)
     c.before.before.before.fold-parts.ensures (omega arith) h (omega arith) refl (λ u. omega (arith, p.ensures)))
 
-pub column-block-spec : {M : Type 1} → statement M
-column-block-spec =
+pub column_block_spec : {M : Type 1} → statement M
+column_block_spec =
     tie.close
     (tie.spec
     cast-m

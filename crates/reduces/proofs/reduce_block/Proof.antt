@@ -38,8 +38,8 @@ returns-3 c = cc
 returns-4 : tie.Need-returns-4
 returns-4 c = cc
 
-pub reduce-block-spec : {M : Type 1} → statement M
-reduce-block-spec =
+pub reduce_block_spec : {M : Type 1} → statement M
+reduce_block_spec =
     tie.close
     (tie.spec
     enum_told

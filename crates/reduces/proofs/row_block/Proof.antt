@@ -2,7 +2,7 @@ use mathlib.Core.Path.{refl, ◌∙◌}
 use Prim.Native.Nat.{◌+◌, ◌*◌}
 use native.Mathlib.Omega.{arith}
 use borrow.Author.Rules.{rules}
-use Rattle.reduces.proofs.Folding.{part-at}
+use Rattle.reduces.proofs.Folding.{part_at_lem}
 use Rattle.sheet.specs.declared.ReduceMode.TheVariants.{Row}
 use Rattle.registers.specs.Laws.Grids.{block_same}
 use Rattle.reduces.proofs.row_block.Statement.{statement}
@@ -32,11 +32,11 @@ returns c =
     let p = c.before.before.before.before.place_of in
     c.spread.ensures
     ∙ block_same _ _ _ _ _ (λ i j l h.
-    part-at a.elements.now a.source a.t Row a.combine i j p.result a.t.columns 1 _ a.rows i (0 + i * 1 + j * 0)
+    part_at_lem a.elements.now a.source a.t Row a.combine i j p.result a.t.columns 1 _ a.rows i (0 + i * 1 + j * 0)
     c.before.before.before.fold-parts.ensures (omega arith) l (omega arith) refl (λ u. omega (arith, p.ensures)))
 
-pub row-block-spec : {M : Type 1} → statement M
-row-block-spec =
+pub row_block_spec : {M : Type 1} → statement M
+row_block_spec =
     tie.close
     (tie.spec
     cast-n

@@ -2,7 +2,7 @@ use mathlib.Core.Path.{◌≡◌, sym}
 use Prim.Native.Nat.{◌-◌}
 use native.Mathlib.Omega.{arith}
 use borrow.Author.Rules.{rules}
-use Rattle.numbers.specs.Laws.Lists.{line-none}
+use Rattle.numbers.specs.Laws.Lists.{line_none}
 use Rattle.registers.proofs.clear_elements.Statement.{statement}
 use Rattle.registers.proofs.clear_elements.Tie as tie
 
@@ -19,8 +19,8 @@ returns-2 : tie.Need-returns-2
 returns-2 c =
     let a = c.before.args in
     let e : a.end - a.first ≡ 0 = omega (arith, c.if1.false) in
-    rw e (sym (line-none _ _ _))
+    rw e (sym (line_none _ _ _))
 
-pub clear-elements-spec : {M : Type 1} → statement M
-clear-elements-spec =
+pub clear_elements_spec : {M : Type 1} → statement M
+clear_elements_spec =
     tie.close (tie.spec sub-fill-elements fill-elements-requires returns returns-2)

@@ -14,5 +14,5 @@ element-copy-out-result c = search rules
 returns : tie.Need-returns
 returns c = rw c.before.place_of.ensures
 
-pub element-of-spec : {M : Type 1} → statement M
-element-of-spec = tie.close (tie.spec place-of-requires mul-result element-copy-out-result returns)
+pub element_of_spec : {M : Type 1} → statement M
+element_of_spec = tie.close (tie.spec place-of-requires mul-result element-copy-out-result returns)

@@ -1,5 +1,5 @@
 use borrow.Author.Rules.{rules}
-use Rattle.registers.specs.Registers.{emptyRegisters}
+use Rattle.registers.specs.Registers.{empty_registers}
 use Rattle.registers.proofs.empty_types.Statement.{statement}
 use Rattle.registers.proofs.empty_types.Tie as tie
 
@@ -7,8 +7,8 @@ no-type-requires : tie.Need-no-type-requires
 no-type-requires c κs = search rules
 
 returns : tie.Need-returns
-unfolding emptyRegisters
+unfolding empty_registers
 returns c = rw c.no-type.ensures
 
-pub empty-types-spec : {M : Type 1} → statement M
-empty-types-spec = tie.close (tie.spec no-type-requires returns)
+pub empty_types_spec : {M : Type 1} → statement M
+empty_types_spec = tie.close (tie.spec no-type-requires returns)

@@ -14,6 +14,6 @@ element-write-elements c = search rules
 returns : tie.Need-returns
 returns c = rw c.place_of.ensures
 
-pub put-element-of-spec : {M : Type 1} → statement M
-put-element-of-spec =
+pub put_element_of_spec : {M : Type 1} → statement M
+put_element_of_spec =
     tie.close (tie.spec place-of-requires mul-elements element-write-elements returns)

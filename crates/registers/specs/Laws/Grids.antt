@@ -6,20 +6,20 @@ use Rattle.std.proofs.Math.Nat.{mul-add-div_right, mul-add-mod_self_right, div-e
 use native.Mathlib.Omega.{arith}
 use Rattle.std.proofs.Math.ListN.{length}
 use Rattle.numbers.specs.Lists.{line}
-use Rattle.numbers.specs.Laws.Lists.{line-none, length-line}
-use Rattle.numbers.specs.Laws.Lines.{line-inside, line_same, line-joined}
-use Rattle.numbers.specs.Laws.Places.{places-given, places-past}
-use Rattle.sheet.specs.Sizes.{sidePlaces, matrixPlaces}
+use Rattle.numbers.specs.Laws.Lists.{line_none, length_line}
+use Rattle.numbers.specs.Laws.Lines.{line_inside, line_same, line_joined}
+use Rattle.numbers.specs.Laws.Places.{places_given, places_past}
+use Rattle.sheet.specs.Sizes.{side_places, matrix_places}
 use Rattle.registers.specs.Laws.Sized.{sides}
-use Rattle.registers.specs.Grids.{numbered, blank, block, blockOn}
+use Rattle.registers.specs.Grids.{numbered, blank, block, block_on}
 
 -- the elements of a row stand before the next row's start
-pub row-end : (i m n j : ℕ) → i < m → j < n → i * n + j < m * n
-row-end i m n j l h = let e : suc i * n ≤ m * n = mul-le-mul_right n l in omega (arith, suc-mul i n)
+pub row_end : (i m n j : ℕ) → i < m → j < n → i * n + j < m * n
+row_end i m n j l h = let e : suc i * n ≤ m * n = mul-le-mul_right n l in omega (arith, suc-mul i n)
 
 -- a row ends within the places of a matrix
-pub row_fits : (i n : ℕ) → i < sidePlaces → n ≤ sidePlaces → i * n + n ≤ matrixPlaces
-row_fits i n p q = let h : suc i * n ≤ matrixPlaces = sides (suc i) n p q in omega (arith, suc-mul i n)
+pub row_fits : (i n : ℕ) → i < side_places → n ≤ side_places → i * n + n ≤ matrix_places
+row_fits i n p q = let h : suc i * n ≤ matrix_places = sides (suc i) n p q in omega (arith, suc-mul i n)
 
 -- element (i, j) has number i * columns + j
 pub number_at : (columns : ℕ) (f : ℕ → ℕ → ℕ) (i j : ℕ) → j < columns → numbered columns f (i * columns + j) ≡ f i j
@@ -30,26 +30,26 @@ number_at columns f i j h =
     ap₂ f d r
 
 -- a number of the matrix is that of a row and a column
-pub number-row : (rows columns e : ℕ) → e < rows * columns → e / columns < rows
-number-row rows zero e h = absurd (not-suc-le-zero (rw (mul-zero rows) at h))
-number-row rows (suc n) e h = (div-lt_iff_lt-mul {k = suc n} {x = e} {y = rows} (omega arith)).1 h
+pub number_row : (rows columns e : ℕ) → e < rows * columns → e / columns < rows
+number_row rows zero e h = absurd (not-suc-le-zero (rw (mul-zero rows) at h))
+number_row rows (suc n) e h = (div-lt_iff_lt-mul {k = suc n} {x = e} {y = rows} (omega arith)).1 h
 
-pub number-column : (rows columns e : ℕ) → e < rows * columns → e % columns < columns
-number-column rows zero e h = absurd (not-suc-le-zero (rw (mul-zero rows) at h))
-number-column rows (suc n) e h = mod-lt e (omega arith)
+pub number_column : (rows columns e : ℕ) → e < rows * columns → e % columns < columns
+number_column rows zero e h = absurd (not-suc-le-zero (rw (mul-zero rows) at h))
+number_column rows (suc n) e h = mod-lt e (omega arith)
 
 -- blocks of equal elements are equal
 pub block_same : (d : List ℕ) (rows columns : ℕ) (f h : ℕ → ℕ → ℕ) → ((i j : ℕ) → i < rows → j < columns → f i j ≡ h i j)
-    → blockOn d rows columns f ≡ blockOn d rows columns h
-unfolding blockOn
+    → block_on d rows columns f ≡ block_on d rows columns h
+unfolding block_on
 block_same d rows columns f h e =
     line_same d 0 (numbered columns f) (numbered columns h) (rows * columns)
-    (λ k l. e (k / columns) (k % columns) (number-row rows columns k l) (number-column rows columns k l))
+    (λ k l. e (k / columns) (k % columns) (number_row rows columns k l) (number_column rows columns k l))
 
 -- a block of one column
-pub column-block : (d : List ℕ) (rows : ℕ) (g : ℕ → ℕ) → line d 0 g rows ≡ blockOn d rows 1 (λ (i j : ℕ). g i)
-unfolding blockOn
-column-block d rows g =
+pub column_block : (d : List ℕ) (rows : ℕ) (g : ℕ → ℕ) → line d 0 g rows ≡ block_on d rows 1 (λ (i j : ℕ). g i)
+unfolding block_on
+column_block d rows g =
     let e : rows ≡ rows * 1 = omega arith in
     line_same d 0 g (numbered 1 (λ (i j : ℕ). g i)) rows (λ k l. let q : k ≡ k / 1 = omega arith in ap g q)
     ∙ ap (λ (n : ℕ). line d 0 (numbered 1 (λ (i j : ℕ). g i)) n) e
@@ -60,10 +60,10 @@ rows_of d columns f i = line d 0 (numbered columns f) (i * columns)
 
 pub rows_none : (d : List ℕ) (columns : ℕ) (f : ℕ → ℕ → ℕ) → d ≡ rows_of d columns f 0
 unfolding rows_of
-rows_none d columns f = rw (zero-mul columns) (sym (line-none d 0 (numbered columns f)))
+rows_none d columns f = rw (zero-mul columns) (sym (line_none d 0 (numbered columns f)))
 
-pub rows_all : (d : List ℕ) (rows columns : ℕ) (f : ℕ → ℕ → ℕ) → rows_of d columns f rows ≡ blockOn d rows columns f
-unfolding rows_of blockOn
+pub rows_all : (d : List ℕ) (rows columns : ℕ) (f : ℕ → ℕ → ℕ) → rows_of d columns f rows ≡ block_on d rows columns f
+unfolding rows_of block_on
 rows_all d rows columns f = refl
 
 -- one more row
@@ -76,35 +76,35 @@ rows_more d₀ columns f i g e o h =
     ∙ ap (λ (l : List ℕ). line l (i * columns) g columns) e
     ∙ line_same _ (i * columns) g (λ (j : ℕ). numbered columns f (i * columns + j)) columns (λ j l. h j l ∙ sym (number_at columns f i j l))
     ∙ ap (λ (p : ℕ). line (line d₀ 0 (numbered columns f) (i * columns)) p (λ (j : ℕ). numbered columns f (i * columns + j)) columns) (sym (zero-add (i * columns)))
-    ∙ line-joined d₀ 0 (numbered columns f) (i * columns) columns
+    ∙ line_joined d₀ 0 (numbered columns f) (i * columns) columns
     ∙ ap (λ (k : ℕ). line d₀ 0 (numbered columns f) k) n
 
 -- a block has its elements, and 0 past them; on another list of as many places it has the same elements
-module _ (rows columns : ℕ) (f : ℕ → ℕ → ℕ) (h : rows * columns ≤ matrixPlaces) where
-  pub block-given : (e : ℕ) → e < rows * columns → get_or (block rows columns f) e 0 ≡ numbered columns f e
+module _ (rows columns : ℕ) (f : ℕ → ℕ → ℕ) (h : rows * columns ≤ matrix_places) where
+  pub block_given : (e : ℕ) → e < rows * columns → get_or (block rows columns f) e 0 ≡ numbered columns f e
   unfolding block blank
-  block-given e l = places-given matrixPlaces 0 0 (numbered columns f) (rows * columns) h e l
+  block_given e l = places_given matrix_places 0 0 (numbered columns f) (rows * columns) h e l
 
-  pub block-past : (e : ℕ) → rows * columns ≤ e → e < matrixPlaces → get_or (block rows columns f) e 0 ≡ 0
+  pub block_past : (e : ℕ) → rows * columns ≤ e → e < matrix_places → get_or (block rows columns f) e 0 ≡ 0
   unfolding block blank
-  block-past e l m = places-past matrixPlaces 0 0 (numbered columns f) (rows * columns) h e l m
+  block_past e l m = places_past matrix_places 0 0 (numbered columns f) (rows * columns) h e l m
 
-  pub on-given : (d : List ℕ) → length d ≡ matrixPlaces → (e : ℕ) → e < rows * columns → get_or (blockOn d rows columns f) e 0 ≡ get_or (block rows columns f) e 0
-  unfolding blockOn
-  on-given d q e l =
+  pub on_given : (d : List ℕ) → length d ≡ matrix_places → (e : ℕ) → e < rows * columns → get_or (block_on d rows columns f) e 0 ≡ get_or (block rows columns f) e 0
+  unfolding block_on
+  on_given d q e l =
       let fits : 0 + rows * columns ≤ length d = omega arith in
-      rw zero-add at (line-inside d 0 (numbered columns f) (rows * columns) e 0 l fits) ∙ sym (block-given e l)
+      rw zero-add at (line_inside d 0 (numbered columns f) (rows * columns) e 0 l fits) ∙ sym (block_given e l)
 
-pub on-length : (d : List ℕ) (rows columns : ℕ) (f : ℕ → ℕ → ℕ) → length (blockOn d rows columns f) ≡ length d
-unfolding blockOn
-on-length d rows columns f = length-line d 0 (numbered columns f) (rows * columns)
+pub on_length : (d : List ℕ) (rows columns : ℕ) (f : ℕ → ℕ → ℕ) → length (block_on d rows columns f) ≡ length d
+unfolding block_on
+on_length d rows columns f = length_line d 0 (numbered columns f) (rows * columns)
 
 -- what is written from the first place on stands there, and 0 past it
-module _ (g : ℕ → ℕ) (n : ℕ) (h : n ≤ matrixPlaces) where
-  pub blank-given : (e : ℕ) → e < n → get_or (line blank 0 g n) e 0 ≡ g e
+module _ (g : ℕ → ℕ) (n : ℕ) (h : n ≤ matrix_places) where
+  pub blank_given : (e : ℕ) → e < n → get_or (line blank 0 g n) e 0 ≡ g e
   unfolding blank
-  blank-given e l = places-given matrixPlaces 0 0 g n h e l
+  blank_given e l = places_given matrix_places 0 0 g n h e l
 
-  pub blank-past : (e : ℕ) → n ≤ e → e < matrixPlaces → get_or (line blank 0 g n) e 0 ≡ 0
+  pub blank_past : (e : ℕ) → n ≤ e → e < matrix_places → get_or (line blank 0 g n) e 0 ≡ 0
   unfolding blank
-  blank-past e l m = places-past matrixPlaces 0 0 g n h e l m
+  blank_past e l m = places_past matrix_places 0 0 g n h e l m

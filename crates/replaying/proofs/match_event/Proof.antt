@@ -22,5 +22,5 @@ add-t7 c = search rules
 returns-2 : tie.Need-returns-2
 returns-2 c = let s = c.before.before.before.before in one_out _ s.args.m s.args.e (went c.before.before.goes_on.ensures c.before.if1.false)
 
-pub match-event-spec : {M : Type 1} → statement M
-match-event-spec = tie.close (tie.spec goes-on-requires add-t5 add-t6 returns add-t7 returns-2)
+pub match_event_spec : {M : Type 1} → statement M
+match_event_spec = tie.close (tie.spec goes-on-requires add-t5 add-t6 returns add-t7 returns-2)

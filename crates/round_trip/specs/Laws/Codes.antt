@@ -5,11 +5,11 @@ use Rattle.std.proofs.Math.Path.{refl}
 use Rattle.std.proofs.Common.{arith}
 use borrow.Author.Tests.{ltb-true, ne_eqb, not-true}
 use Rattle.numbers.specs.Choice.{pick}
-use Rattle.numbers.specs.Laws.Choice.{by_place, pick-case}
-use Rattle.sheet.specs.Sizes.{viewPlaces}
-use Rattle.sheet.specs.Editions.{objectIsZeros, noObject}
-use Rattle.sheet.specs.Codes.{clampCode, clampMode, reduceCode, reduceMode, combineCode, combineOf, memoryLayoutCode, memoryLayout, flag_code, none, objectCode, objectOf, viewingCode, viewingOf}
-use Rattle.sheet_ranges.specs.Steps.{objectOk, viewingOk}
+use Rattle.numbers.specs.Laws.Choice.{by_place, pick_case}
+use Rattle.sheet.specs.Sizes.{view_places}
+use Rattle.sheet.specs.Editions.{object_is_zeros, no_object}
+use Rattle.sheet.specs.Codes.{clamp_code, clamp_mode, reduce_code, reduce_mode, combine_code, combine_of, memory_layout_code, memory_layout, flag_code, none, object_code, object_of, viewing_code, viewing_of}
+use Rattle.sheet_ranges.specs.Steps.{object_ok, viewing_ok}
 use Rattle.sheet.specs.declared.ClampMode.{ClampMode}
 use Rattle.sheet.specs.declared.ClampMode.TheVariants.{Undefined, Constant, ClampToEdge, Repeat, MirrorRepeat}
 use Rattle.sheet.specs.declared.ReduceMode.{ReduceMode}
@@ -33,126 +33,126 @@ one_of P low zero f x h l = absurd (omega arith)
 one_of P low (suc n) f x h l =
     by_place x low (λ q. rw q f.0) (λ q. one_of P (low + 1) n f.1 x (omega arith) (omega arith))
 
-pub clamp-mode-of : (m : ClampMode) → clampMode (clampCode m) ≡ m
-unfolding clampMode pick
-clamp-mode-of Undefined = refl
-clamp-mode-of Constant = refl
-clamp-mode-of ClampToEdge = refl
-clamp-mode-of Repeat = refl
-clamp-mode-of MirrorRepeat = refl
+pub clamp_mode_of : (m : ClampMode) → clamp_mode (clamp_code m) ≡ m
+unfolding clamp_mode pick
+clamp_mode_of Undefined = refl
+clamp_mode_of Constant = refl
+clamp_mode_of ClampToEdge = refl
+clamp_mode_of Repeat = refl
+clamp_mode_of MirrorRepeat = refl
 
-pub clamp-code-small : (m : ClampMode) → clampCode m ≤ 4
-clamp-code-small Undefined = omega arith
-clamp-code-small Constant = omega arith
-clamp-code-small ClampToEdge = omega arith
-clamp-code-small Repeat = omega arith
-clamp-code-small MirrorRepeat = omega arith
+pub clamp_code_small : (m : ClampMode) → clamp_code m ≤ 4
+clamp_code_small Undefined = omega arith
+clamp_code_small Constant = omega arith
+clamp_code_small ClampToEdge = omega arith
+clamp_code_small Repeat = omega arith
+clamp_code_small MirrorRepeat = omega arith
 
-pub clamp-code-of : (x : ℕ) → x ≤ 4 → clampCode (clampMode x) ≡ x
-unfolding clampMode pick
-clamp-code-of x h =
-    one_of (λ (x : ℕ). clampCode (clampMode x) ≡ x) 0 5 (refl, (refl, (refl, (refl, (refl, tt))))) x (omega arith) (omega arith)
+pub clamp_code_of : (x : ℕ) → x ≤ 4 → clamp_code (clamp_mode x) ≡ x
+unfolding clamp_mode pick
+clamp_code_of x h =
+    one_of (λ (x : ℕ). clamp_code (clamp_mode x) ≡ x) 0 5 (refl, (refl, (refl, (refl, (refl, tt))))) x (omega arith) (omega arith)
 
-pub reduce-mode-of : (m : ReduceMode) → reduceMode (reduceCode m) ≡ m
-unfolding reduceMode pick
-reduce-mode-of Row = refl
-reduce-mode-of Column = refl
-reduce-mode-of Both = refl
-reduce-mode-of TwoByTwo = refl
+pub reduce_mode_of : (m : ReduceMode) → reduce_mode (reduce_code m) ≡ m
+unfolding reduce_mode pick
+reduce_mode_of Row = refl
+reduce_mode_of Column = refl
+reduce_mode_of Both = refl
+reduce_mode_of TwoByTwo = refl
 
-pub reduce-code-between : (m : ReduceMode) → (1 ≤ reduceCode m) × (reduceCode m ≤ 4)
-reduce-code-between Row = omega arith
-reduce-code-between Column = omega arith
-reduce-code-between Both = omega arith
-reduce-code-between TwoByTwo = omega arith
+pub reduce_code_between : (m : ReduceMode) → (1 ≤ reduce_code m) × (reduce_code m ≤ 4)
+reduce_code_between Row = omega arith
+reduce_code_between Column = omega arith
+reduce_code_between Both = omega arith
+reduce_code_between TwoByTwo = omega arith
 
-pub reduce-code-of : (x : ℕ) → 1 ≤ x → x ≤ 4 → reduceCode (reduceMode x) ≡ x
-unfolding reduceMode pick
-reduce-code-of x h l =
-    one_of (λ (x : ℕ). reduceCode (reduceMode x) ≡ x) 1 4 (refl, (refl, (refl, (refl, tt)))) x h (omega arith)
+pub reduce_code_of : (x : ℕ) → 1 ≤ x → x ≤ 4 → reduce_code (reduce_mode x) ≡ x
+unfolding reduce_mode pick
+reduce_code_of x h l =
+    one_of (λ (x : ℕ). reduce_code (reduce_mode x) ≡ x) 1 4 (refl, (refl, (refl, (refl, tt)))) x h (omega arith)
 
-pub combine-of : (c : Combine) → combineOf (combineCode c) ≡ c
-unfolding combineOf pick
-combine-of Add = refl
-combine-of Min = refl
-combine-of Max = refl
-combine-of And = refl
-combine-of Or = refl
-combine-of Xor = refl
+pub combine_of_lem : (c : Combine) → combine_of (combine_code c) ≡ c
+unfolding combine_of pick
+combine_of_lem Add = refl
+combine_of_lem Min = refl
+combine_of_lem Max = refl
+combine_of_lem And = refl
+combine_of_lem Or = refl
+combine_of_lem Xor = refl
 
-pub combine-code-small : (c : Combine) → combineCode c ≤ 5
-combine-code-small Add = omega arith
-combine-code-small Min = omega arith
-combine-code-small Max = omega arith
-combine-code-small And = omega arith
-combine-code-small Or = omega arith
-combine-code-small Xor = omega arith
+pub combine_code_small : (c : Combine) → combine_code c ≤ 5
+combine_code_small Add = omega arith
+combine_code_small Min = omega arith
+combine_code_small Max = omega arith
+combine_code_small And = omega arith
+combine_code_small Or = omega arith
+combine_code_small Xor = omega arith
 
-pub combine-code-of : (x : ℕ) → x ≤ 5 → combineCode (combineOf x) ≡ x
-unfolding combineOf pick
-combine-code-of x h =
-    one_of (λ (x : ℕ). combineCode (combineOf x) ≡ x) 0 6 (refl, (refl, (refl, (refl, (refl, (refl, tt)))))) x (omega arith) (omega arith)
+pub combine_code_of : (x : ℕ) → x ≤ 5 → combine_code (combine_of x) ≡ x
+unfolding combine_of pick
+combine_code_of x h =
+    one_of (λ (x : ℕ). combine_code (combine_of x) ≡ x) 0 6 (refl, (refl, (refl, (refl, (refl, (refl, tt)))))) x (omega arith) (omega arith)
 
-pub memory-layout-of : (l : MemoryLayout) → memoryLayout (memoryLayoutCode l) ≡ l
-unfolding memoryLayout pick
-memory-layout-of RowMajor = refl
-memory-layout-of ColumnMajor = refl
+pub memory_layout_of : (l : MemoryLayout) → memory_layout (memory_layout_code l) ≡ l
+unfolding memory_layout pick
+memory_layout_of RowMajor = refl
+memory_layout_of ColumnMajor = refl
 
-pub memory-layout-code-small : (l : MemoryLayout) → memoryLayoutCode l ≤ 1
-memory-layout-code-small RowMajor = omega arith
-memory-layout-code-small ColumnMajor = omega arith
+pub memory_layout_code_small : (l : MemoryLayout) → memory_layout_code l ≤ 1
+memory_layout_code_small RowMajor = omega arith
+memory_layout_code_small ColumnMajor = omega arith
 
-pub memory-layout-code-of : (x : ℕ) → x ≤ 1 → memoryLayoutCode (memoryLayout x) ≡ x
-unfolding memoryLayout pick
-memory-layout-code-of x h =
-    one_of (λ (x : ℕ). memoryLayoutCode (memoryLayout x) ≡ x) 0 2 (refl, (refl, tt)) x (omega arith) (omega arith)
+pub memory_layout_code_of : (x : ℕ) → x ≤ 1 → memory_layout_code (memory_layout x) ≡ x
+unfolding memory_layout pick
+memory_layout_code_of x h =
+    one_of (λ (x : ℕ). memory_layout_code (memory_layout x) ≡ x) 0 2 (refl, (refl, tt)) x (omega arith) (omega arith)
 
-pub flag-of : (b : Bool) → eqb (flag_code b) 1 ≡ b
+pub flag_of : (b : Bool) → eqb (flag_code b) 1 ≡ b
 unfolding flag_code pick
-flag-of true = refl
-flag-of false = refl
+flag_of true = refl
+flag_of false = refl
 
-pub flag-code-small : (b : Bool) → flag_code b ≤ 1
+pub flag_code_small : (b : Bool) → flag_code b ≤ 1
 unfolding flag_code pick
-flag-code-small true = omega arith
-flag-code-small false = omega arith
+flag_code_small true = omega arith
+flag_code_small false = omega arith
 
-pub flag-code-of : (x : ℕ) → x ≤ 1 → flag_code (eqb x 1) ≡ x
+pub flag_code_of : (x : ℕ) → x ≤ 1 → flag_code (eqb x 1) ≡ x
 unfolding flag_code pick
-flag-code-of x h = one_of (λ (x : ℕ). flag_code (eqb x 1) ≡ x) 0 2 (refl, (refl, tt)) x (omega arith) (omega arith)
+flag_code_of x h = one_of (λ (x : ℕ). flag_code (eqb x 1) ≡ x) 0 2 (refl, (refl, tt)) x (omega arith) (omega arith)
 
 -- no register and no view has the number that stands for none
 module _ (edition : ℕ) where
-  pub object_of : (o : Object) → objectOk edition o ≡ true → objectOf (noObject edition) (objectCode o) ≡ o
-  unfolding objectOf noObject pick
-  object_of Kept e = rw (not-true (objectIsZeros edition) e)
-  object_of Zeros e = rw e
-  object_of (Register register) e = rw (ne_eqb register none (λ q. omega (arith, ltb-true register 4 e)))
+  pub object_of_lem : (o : Object) → object_ok edition o ≡ true → object_of (no_object edition) (object_code o) ≡ o
+  unfolding object_of no_object pick
+  object_of_lem Kept e = rw (not-true (object_is_zeros edition) e)
+  object_of_lem Zeros e = rw e
+  object_of_lem (Register register) e = rw (ne_eqb register none (λ q. omega (arith, ltb-true register 4 e)))
 
-  pub object-code-small : (o : Object) → objectOk edition o ≡ true → objectCode o < 256
-  object-code-small Kept e = omega arith
-  object-code-small Zeros e = omega arith
-  object-code-small (Register register) e = omega (arith, ltb-true register 4 e)
+  pub object_code_small : (o : Object) → object_ok edition o ≡ true → object_code o < 256
+  object_code_small Kept e = omega arith
+  object_code_small Zeros e = omega arith
+  object_code_small (Register register) e = omega (arith, ltb-true register 4 e)
 
   -- what no object means is written as none
-  no-object-code : objectCode (noObject edition) ≡ none
-  unfolding noObject
-  no-object-code = pick-case (λ (o : Object). objectCode o ≡ none) (objectIsZeros edition) Zeros Kept (λ q. refl) (λ q. refl)
+  no_object_code : object_code (no_object edition) ≡ none
+  unfolding no_object
+  no_object_code = pick_case (λ (o : Object). object_code o ≡ none) (object_is_zeros edition) Zeros Kept (λ q. refl) (λ q. refl)
 
-  pub object-code-of : (x : ℕ) → objectCode (objectOf (noObject edition) x) ≡ x
-  unfolding objectOf pick
-  object-code-of x = by_place x none (λ q. rw q no-object-code) (λ q. rw (ne_eqb x none q))
+  pub object_code_of : (x : ℕ) → object_code (object_of (no_object edition) x) ≡ x
+  unfolding object_of pick
+  object_code_of x = by_place x none (λ q. rw q no_object_code) (λ q. rw (ne_eqb x none q))
 
-module _ (views : ℕ) (few : views ≤ viewPlaces) where
-  pub viewing-of : (v : Viewing) → viewingOk views v ≡ true → viewingOf (viewingCode v) ≡ v
-  unfolding viewingOf pick
-  viewing-of Plain e = refl
-  viewing-of (Through view) e = rw (ne_eqb view none (λ q. omega (arith, ltb-true view views e)))
+module _ (views : ℕ) (few : views ≤ view_places) where
+  pub viewing_of_lem : (v : Viewing) → viewing_ok views v ≡ true → viewing_of (viewing_code v) ≡ v
+  unfolding viewing_of pick
+  viewing_of_lem Plain e = refl
+  viewing_of_lem (Through view) e = rw (ne_eqb view none (λ q. omega (arith, ltb-true view views e)))
 
-  pub viewing-code-small : (v : Viewing) → viewingOk views v ≡ true → viewingCode v < 256
-  viewing-code-small Plain e = omega arith
-  viewing-code-small (Through view) e = omega (arith, ltb-true view views e)
+  pub viewing_code_small : (v : Viewing) → viewing_ok views v ≡ true → viewing_code v < 256
+  viewing_code_small Plain e = omega arith
+  viewing_code_small (Through view) e = omega (arith, ltb-true view views e)
 
-pub viewing-code-of : (x : ℕ) → viewingCode (viewingOf x) ≡ x
-unfolding viewingOf pick
-viewing-code-of x = by_place x none (λ q. rw q) (λ q. rw (ne_eqb x none q))
+pub viewing_code_of : (x : ℕ) → viewing_code (viewing_of x) ≡ x
+unfolding viewing_of pick
+viewing_code_of x = by_place x none (λ q. rw q) (λ q. rw (ne_eqb x none q))

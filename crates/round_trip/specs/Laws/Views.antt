@@ -8,310 +8,310 @@ use native.Mathlib.Omega.{arith}
 use borrow.Author.Tests.{eqb-true, leb-true, le-leb, le-ltb, eq-eqb, not-true}
 use Rattle.std.proofs.Math.ListN.{length, get_or, length-append}
 use Rattle.numbers.specs.Choice.{pick, both, between}
-use Rattle.numbers.specs.Laws.Choice.{both_left, both_right, both_true, between-low, between-true}
-use Rattle.numbers.specs.Laws.All.{all-at}
-use Rattle.numbers.specs.Little.{u16At, u16Bytes}
+use Rattle.numbers.specs.Laws.Choice.{both_left, both_right, both_true, between_low, between_true}
+use Rattle.numbers.specs.Laws.All.{all_at}
+use Rattle.numbers.specs.Little.{u16_at, u16_bytes}
 use Rattle.numbers.specs.Lists.{line}
-use Rattle.numbers.specs.Laws.Places.{places-given, places-past, places_count, places-are, places-all, Held, held}
+use Rattle.numbers.specs.Laws.Places.{places_given, places_past, places_count, places_are, places_all, Held, held}
 use Rattle.numbers.specs.Bytes.{AreBytes}
-use Rattle.sheet.specs.Sizes.{rankPlaces, sizeOk}
+use Rattle.sheet.specs.Sizes.{rank_places, size_ok}
 use Rattle.sheet.specs.Codes.{flag_code}
-use Rattle.tensor_ranges.specs.Views.{noViewDimension, noClip, no_view, theViewDimension, entryOk, permutationOk, viewDimensionUnused, viewDimensionAtOk, viewDimensionsOk, sizedRank, viewOk, clipUnused, viewUnused}
-use Rattle.tensor_ranges.specs.Laws.Facts.{view-some, view-most}
+use Rattle.tensor_ranges.specs.Views.{no_view_dimension, no_clip, no_view, the_view_dimension, entry_ok, permutation_ok, view_dimension_unused, view_dimension_at_ok, view_dimensions_ok, sized_rank, view_ok, clip_unused, view_unused}
+use Rattle.tensor_ranges.specs.Laws.Facts.{view_some, view_most}
 use Rattle.sheet.specs.declared.ViewDimension.{ViewDimension}
 use Rattle.sheet.specs.declared.Clip.{Clip}
 use Rattle.sheet.specs.declared.View.{View}
-use Rattle.contents.specs.Contents.{permutationAt, viewDimensionAt, viewDimensionsAt, clipAt, view_of, hasDimensions, viewAt, viewLength, viewLengthOk, viewHeadOk}
-use Rattle.contents.specs.Laws.Heads.{sized-few, view-head}
-use Rattle.sheet_bytes.specs.Bytes.{entriesBytes, viewDimensionBytes, viewDimensionsBytes, clipBytes, viewBytes}
-use Rattle.sheet_bytes.specs.Laws.Lengths.{length-entries, length-view-dimension, length-view-dimensions, length-clip, length-view}
-use Rattle.fields.specs.Laws.Stretches.{Has, has-at, has-shift, has-back, has_left, has_right, has_join, has-rows-at, has-rows, u16-of, low-at, high-at, u16-below}
-use Rattle.round_trip.specs.Laws.Codes.{one_of, flag-of, flag-code-small, flag-code-of}
+use Rattle.contents.specs.Contents.{permutation_at, view_dimension_at, view_dimensions_at, clip_at, view_of, has_dimensions, view_at, view_length, view_length_ok, view_head_ok}
+use Rattle.contents.specs.Laws.Heads.{sized_few, view_head}
+use Rattle.sheet_bytes.specs.Bytes.{entries_bytes, view_dimension_bytes, view_dimensions_bytes, clip_bytes, view_bytes}
+use Rattle.sheet_bytes.specs.Laws.Lengths.{length_entries, length_view_dimension, length_view_dimensions, length_clip, length_view}
+use Rattle.fields.specs.Laws.Stretches.{Has, has_at, has_shift, has_back, has_left, has_right, has_join, has_rows_at, has_rows, u16_of, low_at, high_at, u16_below}
+use Rattle.round_trip.specs.Laws.Codes.{one_of, flag_of, flag_code_small, flag_code_of}
 use Rattle.round_trip.specs.Typed.{U16, ClipFits, ViewFits, ViewArrays}
 
 -- two numbers of 16 bits, one after the other: a view dimension with its stride, and one side of the clip
 module _ (s : List ℕ) (p : ℕ) where
-  two-of : (x y : ℕ) → Has s p 0 (u16Bytes x ++ u16Bytes y) → (u16At s p ≡ x) × (u16At s (p + 2) ≡ y)
-  two-of x y h = (rw add-zero at (u16-of s p 0 x h.0 h.1.0), u16-of s p 2 y h.1.1.0 h.1.1.1.0)
+  two_of : (x y : ℕ) → Has s p 0 (u16_bytes x ++ u16_bytes y) → (u16_at s p ≡ x) × (u16_at s (p + 2) ≡ y)
+  two_of x y h = (rw add-zero at (u16_of s p 0 x h.0 h.1.0), u16_of s p 2 y h.1.1.0 h.1.1.1.0)
 
-  has-two : AreBytes s → Has s p 0 (u16Bytes (u16At s p) ++ u16Bytes (u16At s (p + 2)))
-  has-two b =
-      let l = rw add-zero at (low-at s b p 0) in
-      let h = rw add-zero at (high-at s b p 0) in
-      (rw add-zero l, (h, (low-at s b p 2, (high-at s b p 2, tt))))
+  has_two : AreBytes s → Has s p 0 (u16_bytes (u16_at s p) ++ u16_bytes (u16_at s (p + 2)))
+  has_two b =
+      let l = rw add-zero at (low_at s b p 0) in
+      let h = rw add-zero at (high_at s b p 0) in
+      (rw add-zero l, (h, (low_at s b p 2, (high_at s b p 2, tt))))
 
-  view-dimension-of : (d : ViewDimension) → Has s p 0 (viewDimensionBytes d) → viewDimensionAt s p ≡ d
-  unfolding viewDimensionAt viewDimensionBytes
-  view-dimension-of d h = let e = two-of d.size d.stride h in λ i. record { size = e.0 i; stride = e.1 i }
+  view_dimension_of : (d : ViewDimension) → Has s p 0 (view_dimension_bytes d) → view_dimension_at s p ≡ d
+  unfolding view_dimension_at view_dimension_bytes
+  view_dimension_of d h = let e = two_of d.size d.stride h in λ i. record { size = e.0 i; stride = e.1 i }
 
-  has-view-dimension : AreBytes s → Has s p 0 (viewDimensionBytes (viewDimensionAt s p))
-  unfolding viewDimensionAt viewDimensionBytes
-  has-view-dimension b = has-two b
+  has_view_dimension : AreBytes s → Has s p 0 (view_dimension_bytes (view_dimension_at s p))
+  unfolding view_dimension_at view_dimension_bytes
+  has_view_dimension b = has_two b
 
-  clip-of : (c : Clip) → Has s p 0 (clipBytes c) → clipAt s p ≡ c
-  unfolding clipAt clipBytes
-  clip-of c h = let e = two-of c.offset c.span h in λ i. record { offset = e.0 i; span = e.1 i }
+  clip_of : (c : Clip) → Has s p 0 (clip_bytes c) → clip_at s p ≡ c
+  unfolding clip_at clip_bytes
+  clip_of c h = let e = two_of c.offset c.span h in λ i. record { offset = e.0 i; span = e.1 i }
 
-  has-clip : AreBytes s → Has s p 0 (clipBytes (clipAt s p))
-  unfolding clipAt clipBytes
-  has-clip b = has-two b
+  has_clip : AreBytes s → Has s p 0 (clip_bytes (clip_at s p))
+  unfolding clip_at clip_bytes
+  has_clip b = has_two b
 
-  clip-fits : AreBytes s → ClipFits (clipAt s p)
-  unfolding clipAt
-  clip-fits b = record { offset = u16-below s b p; span = u16-below s b (p + 2) }
+  clip_fits : AreBytes s → ClipFits (clip_at s p)
+  unfolding clip_at
+  clip_fits b = record { offset = u16_below s b p; span = u16_below s b (p + 2) }
 
 -- the bytes of permutation entry k, and of view dimension k
 abbrev entry : List ℕ → ℕ → List ℕ
 entry ps k = get_or ps k 0 ∷ []
 
 abbrev row : List ViewDimension → ℕ → List ℕ
-row ds k = viewDimensionBytes (theViewDimension ds k)
+row ds k = view_dimension_bytes (the_view_dimension ds k)
 
 -- how many dimensions and strides of its own a view has
 abbrev own : View → ℕ
-own v = sizedRank v.sized v.rank
+own v = sized_rank v.sized v.rank
 
 -- a view of 1 to 5 dimensions in five places, the others unused
 pub record ViewShaped (v : View) : Type 0 where
   pub some : 1 ≤ v.rank
-  pub few : v.rank ≤ rankPlaces
-  pub entries : length v.permutation ≡ rankPlaces
-  pub five : length v.dimensions ≡ rankPlaces
-  pub entry_past : (k : ℕ) → v.rank ≤ k → k < rankPlaces → get_or v.permutation k 0 ≡ 0
-  pub past : (k : ℕ) → sizedRank v.sized v.rank ≤ k → k < rankPlaces → theViewDimension v.dimensions k ≡ noViewDimension
+  pub few : v.rank ≤ rank_places
+  pub entries : length v.permutation ≡ rank_places
+  pub five : length v.dimensions ≡ rank_places
+  pub entry_past : (k : ℕ) → v.rank ≤ k → k < rank_places → get_or v.permutation k 0 ≡ 0
+  pub past : (k : ℕ) → sized_rank v.sized v.rank ≤ k → k < rank_places → the_view_dimension v.dimensions k ≡ no_view_dimension
 
-no-view-dimension : (d : ViewDimension) → viewDimensionUnused d ≡ true → d ≡ noViewDimension
-unfolding viewDimensionUnused
-no-view-dimension d e =
+no_view_dimension_lem : (d : ViewDimension) → view_dimension_unused d ≡ true → d ≡ no_view_dimension
+unfolding view_dimension_unused
+no_view_dimension_lem d e =
     let z = eqb-true d.size 0 (both_left _ _ e) in
     let t = eqb-true d.stride 0 (both_right _ _ e) in
     λ i. record { size = z i; stride = t i }
 
-no-clip : (c : Clip) → clipUnused c ≡ true → c ≡ noClip
-unfolding clipUnused
-no-clip c e =
+no_clip_lem : (c : Clip) → clip_unused c ≡ true → c ≡ no_clip
+unfolding clip_unused
+no_clip_lem c e =
     let o = eqb-true c.offset 0 (both_left _ _ e) in
     let n = eqb-true c.span 0 (both_right _ _ e) in
     λ i. record { offset = o i; span = n i }
 
-view-dimensions-held : (n : ℕ) (ds : List ViewDimension) → n ≤ rankPlaces → viewDimensionsOk n ds ≡ true → Held rankPlaces (λ (d : ViewDimension). sizeOk d.size) viewDimensionUnused noViewDimension n ds
-unfolding viewDimensionAtOk
-view-dimensions-held n ds h e = held rankPlaces (λ (d : ViewDimension). sizeOk d.size) viewDimensionUnused noViewDimension n ds h e
+view_dimensions_held : (n : ℕ) (ds : List ViewDimension) → n ≤ rank_places → view_dimensions_ok n ds ≡ true → Held rank_places (λ (d : ViewDimension). size_ok d.size) view_dimension_unused no_view_dimension n ds
+unfolding view_dimension_at_ok
+view_dimensions_held n ds h e = held rank_places (λ (d : ViewDimension). size_ok d.size) view_dimension_unused no_view_dimension n ds h e
 
-entry-unused : (rank : ℕ) (ps : List ℕ) → permutationOk rank ps ≡ true → (k : ℕ) → rank ≤ k → k < rankPlaces → get_or ps k 0 ≡ 0
-unfolding entryOk pick
-entry-unused rank ps e k h l = eqb-true (get_or ps k 0) 0 (rw (le-ltb k rank h) at (all-at rankPlaces (entryOk rank ps) e k l))
+entry_unused : (rank : ℕ) (ps : List ℕ) → permutation_ok rank ps ≡ true → (k : ℕ) → rank ≤ k → k < rank_places → get_or ps k 0 ≡ 0
+unfolding entry_ok pick
+entry_unused rank ps e k h l = eqb-true (get_or ps k 0) 0 (rw (le-ltb k rank h) at (all_at rank_places (entry_ok rank ps) e k l))
 
-pub view-held : (v : View) → viewOk v ≡ true → Held rankPlaces (λ (d : ViewDimension). sizeOk d.size) viewDimensionUnused noViewDimension (sizedRank v.sized v.rank) v.dimensions
-unfolding viewOk
-view-held v e =
-    let few : own v ≤ rankPlaces = sized-few v.sized v.rank rankPlaces (view-most v e) in
-    view-dimensions-held (own v) v.dimensions few (both_right _ _ (both_right _ _ e))
+pub view_held : (v : View) → view_ok v ≡ true → Held rank_places (λ (d : ViewDimension). size_ok d.size) view_dimension_unused no_view_dimension (sized_rank v.sized v.rank) v.dimensions
+unfolding view_ok
+view_held v e =
+    let few : own v ≤ rank_places = sized_few v.sized v.rank rank_places (view_most v e) in
+    view_dimensions_held (own v) v.dimensions few (both_right _ _ (both_right _ _ e))
 
-pub view-shaped : (v : View) → viewOk v ≡ true → ViewArrays v → ViewShaped v
-unfolding viewOk
-view-shaped v e z =
-    let w = view-held v e in
+pub view_shaped : (v : View) → view_ok v ≡ true → ViewArrays v → ViewShaped v
+unfolding view_ok
+view_shaped v e z =
+    let w = view_held v e in
     record {
-      some = view-some v e;
-      few = view-most v e;
+      some = view_some v e;
+      few = view_most v e;
       entries = z.permutation;
       five = z.dimensions;
-      entry_past = entry-unused v.rank v.permutation (both_left _ _ (both_right _ _ e));
-      past = λ k h m. no-view-dimension (theViewDimension v.dimensions k) (w.past k h m);
+      entry_past = entry_unused v.rank v.permutation (both_left _ _ (both_right _ _ e));
+      past = λ k h m. no_view_dimension_lem (the_view_dimension v.dimensions k) (w.past k h m);
     }
 
 -- an unused view is the one whose every number is zero
-pub no-view : (v : View) → ViewArrays v → viewUnused v ≡ true → v ≡ no_view
-unfolding viewUnused no_view line
-no-view v z e =
+pub no_view_lem : (v : View) → ViewArrays v → view_unused v ≡ true → v ≡ no_view
+unfolding view_unused no_view line
+no_view_lem v z e =
     let e1 = both_right _ _ e in
     let e2 = both_right _ _ e1 in
     let e3 = both_right _ _ e2 in
     let e4 = both_right _ _ e3 in
     let r = eqb-true v.rank 0 (both_left _ _ e) in
     let b = not-true v.sized (both_left _ _ e1) in
-    let p = sym (places-are rankPlaces 0 0 (λ (k : ℕ). 0) 0 (omega arith) v.permutation z.permutation (λ k l. absurd (omega arith)) (entry-unused 0 v.permutation (both_left _ _ e2))) in
-    let w = view-dimensions-held 0 v.dimensions (omega arith) (both_left _ _ e3) in
-    let d = sym (places-are rankPlaces noViewDimension noViewDimension (λ (k : ℕ). noViewDimension) 0 (omega arith) v.dimensions z.dimensions (λ k l. absurd (omega arith)) (λ k l m. no-view-dimension (theViewDimension v.dimensions k) (w.past k l m))) in
-    let rs = no-clip v.rows (both_left _ _ e4) in
-    let cs = no-clip v.columns (both_right _ _ e4) in
+    let p = sym (places_are rank_places 0 0 (λ (k : ℕ). 0) 0 (omega arith) v.permutation z.permutation (λ k l. absurd (omega arith)) (entry_unused 0 v.permutation (both_left _ _ e2))) in
+    let w = view_dimensions_held 0 v.dimensions (omega arith) (both_left _ _ e3) in
+    let d = sym (places_are rank_places no_view_dimension no_view_dimension (λ (k : ℕ). no_view_dimension) 0 (omega arith) v.dimensions z.dimensions (λ k l. absurd (omega arith)) (λ k l m. no_view_dimension_lem (the_view_dimension v.dimensions k) (w.past k l m))) in
+    let rs = no_clip_lem v.rows (both_left _ _ e4) in
+    let cs = no_clip_lem v.columns (both_right _ _ e4) in
     λ i. record { rank = r i; sized = b i; permutation = p i; dimensions = d i; rows = rs i; columns = cs i }
 
 -- from the bytes to the view
-permutation-of : (s : List ℕ) (p rank : ℕ) (ps : List ℕ) → rank ≤ rankPlaces → length ps ≡ rankPlaces → ((k : ℕ) → rank ≤ k → k < rankPlaces → get_or ps k 0 ≡ 0) → Has s p 0 (entriesBytes rank ps) → permutationAt s p rank ≡ ps
-unfolding permutationAt
-permutation-of s p rank ps h z u b =
-    places-are rankPlaces 0 0 (λ (k : ℕ). get_or s (p + k) 0) rank h ps z
+permutation_of : (s : List ℕ) (p rank : ℕ) (ps : List ℕ) → rank ≤ rank_places → length ps ≡ rank_places → ((k : ℕ) → rank ≤ k → k < rank_places → get_or ps k 0 ≡ 0) → Has s p 0 (entries_bytes rank ps) → permutation_at s p rank ≡ ps
+unfolding permutation_at
+permutation_of s p rank ps h z u b =
+    places_are rank_places 0 0 (λ (k : ℕ). get_or s (p + k) 0) rank h ps z
     (λ k l.
     let e : p + k * 1 + 0 ≡ p + k = omega arith in
-    rw e at (has-rows-at s p 1 rank (entry ps) (λ k l. refl) b k l).0)
+    rw e at (has_rows_at s p 1 rank (entry ps) (λ k l. refl) b k l).0)
     u
 
-view-dimensions-of : (s : List ℕ) (p n : ℕ) (ds : List ViewDimension) → n ≤ rankPlaces → length ds ≡ rankPlaces → ((k : ℕ) → n ≤ k → k < rankPlaces → theViewDimension ds k ≡ noViewDimension) → Has s p 0 (viewDimensionsBytes n ds) → viewDimensionsAt s p n ≡ ds
-unfolding viewDimensionsAt
-view-dimensions-of s p n ds h z u b =
-    places-are rankPlaces noViewDimension noViewDimension (λ (k : ℕ). viewDimensionAt s (p + k * 4)) n h ds z
-    (λ k l. view-dimension-of s (p + k * 4) (theViewDimension ds k) (has-rows-at s p 4 n (row ds) (λ k l. length-view-dimension (theViewDimension ds k)) b k l))
+view_dimensions_of : (s : List ℕ) (p n : ℕ) (ds : List ViewDimension) → n ≤ rank_places → length ds ≡ rank_places → ((k : ℕ) → n ≤ k → k < rank_places → the_view_dimension ds k ≡ no_view_dimension) → Has s p 0 (view_dimensions_bytes n ds) → view_dimensions_at s p n ≡ ds
+unfolding view_dimensions_at
+view_dimensions_of s p n ds h z u b =
+    places_are rank_places no_view_dimension no_view_dimension (λ (k : ℕ). view_dimension_at s (p + k * 4)) n h ds z
+    (λ k l. view_dimension_of s (p + k * 4) (the_view_dimension ds k) (has_rows_at s p 4 n (row ds) (λ k l. length_view_dimension (the_view_dimension ds k)) b k l))
     u
 
 -- where the parts of a view's content stand
 record Parts (s : List ℕ) (p : ℕ) (v : View) : Type 0 where
   count : get_or s p 0 ≡ v.rank
   has : get_or s (p + 1) 0 ≡ flag_code v.sized
-  entries : Has s (p + 2) 0 (entriesBytes v.rank v.permutation)
-  dimensions : Has s (p + 2 + v.rank) 0 (viewDimensionsBytes (own v) v.dimensions)
-  rows : Has s (p + 2 + v.rank + own v * 4) 0 (clipBytes v.rows)
-  columns : Has s (p + 6 + v.rank + own v * 4) 0 (clipBytes v.columns)
+  entries : Has s (p + 2) 0 (entries_bytes v.rank v.permutation)
+  dimensions : Has s (p + 2 + v.rank) 0 (view_dimensions_bytes (own v) v.dimensions)
+  rows : Has s (p + 2 + v.rank + own v * 4) 0 (clip_bytes v.rows)
+  columns : Has s (p + 6 + v.rank + own v * 4) 0 (clip_bytes v.columns)
 
 module _ (s : List ℕ) (p : ℕ) (v : View) where
-  parts : Has s p 0 (viewBytes v) → Parts s p v
-  unfolding viewBytes
+  parts : Has s p 0 (view_bytes v) → Parts s p v
+  unfolding view_bytes
   parts h =
-      let b = entriesBytes v.rank v.permutation in
-      let c = viewDimensionsBytes (own v) v.dimensions in
-      let d = clipBytes v.rows in
-      let e = clipBytes v.columns in
-      let lb = length-entries v.rank v.permutation in
-      let lc = length-view-dimensions (own v) v.dimensions in
-      let ld = length-clip v.rows in
-      let t4 = has-shift s p 2 0 (b ++ c ++ d ++ e) h.1.1 in
+      let b = entries_bytes v.rank v.permutation in
+      let c = view_dimensions_bytes (own v) v.dimensions in
+      let d = clip_bytes v.rows in
+      let e = clip_bytes v.columns in
+      let lb = length_entries v.rank v.permutation in
+      let lc = length_view_dimensions (own v) v.dimensions in
+      let ld = length_clip v.rows in
+      let t4 = has_shift s p 2 0 (b ++ c ++ d ++ e) h.1.1 in
       let t3 = has_left s (p + 2) 0 (b ++ c ++ d) e t4 in
       let t2 = has_left s (p + 2) 0 (b ++ c) d t3 in
       record {
         count = rw add-zero at h.0;
         has = h.1.0;
         entries = has_left s (p + 2) 0 b c t2;
-        dimensions = has-at s (p + 2 + length b) (p + 2 + v.rank) c (omega arith) (has_right s (p + 2) b c t2);
-        rows = has-at s (p + 2 + length (b ++ c)) (p + 2 + v.rank + own v * 4) d (omega (arith, length-append b c)) (has_right s (p + 2) (b ++ c) d t3);
+        dimensions = has_at s (p + 2 + length b) (p + 2 + v.rank) c (omega arith) (has_right s (p + 2) b c t2);
+        rows = has_at s (p + 2 + length (b ++ c)) (p + 2 + v.rank + own v * 4) d (omega (arith, length-append b c)) (has_right s (p + 2) (b ++ c) d t3);
         columns =
-            has-at s (p + 2 + length (b ++ c ++ d)) (p + 6 + v.rank + own v * 4) e
+            has_at s (p + 2 + length (b ++ c ++ d)) (p + 6 + v.rank + own v * 4) e
             (omega (arith, length-append b c, length-append (b ++ c) d)) (has_right s (p + 2) (b ++ c ++ d) e t4);
       }
 
-  whole : Parts s p v → Has s p 0 (viewBytes v)
-  unfolding viewBytes
+  whole : Parts s p v → Has s p 0 (view_bytes v)
+  unfolding view_bytes
   whole w =
-      let b = entriesBytes v.rank v.permutation in
-      let c = viewDimensionsBytes (own v) v.dimensions in
-      let d = clipBytes v.rows in
-      let e = clipBytes v.columns in
-      let lb = length-entries v.rank v.permutation in
-      let lc = length-view-dimensions (own v) v.dimensions in
-      let ld = length-clip v.rows in
-      let t2 = has_join s (p + 2) b c w.entries (has-at s (p + 2 + v.rank) (p + 2 + length b) c (omega arith) w.dimensions) in
-      let t3 = has_join s (p + 2) (b ++ c) d t2 (has-at s (p + 2 + v.rank + own v * 4) (p + 2 + length (b ++ c)) d (omega (arith, length-append b c)) w.rows) in
+      let b = entries_bytes v.rank v.permutation in
+      let c = view_dimensions_bytes (own v) v.dimensions in
+      let d = clip_bytes v.rows in
+      let e = clip_bytes v.columns in
+      let lb = length_entries v.rank v.permutation in
+      let lc = length_view_dimensions (own v) v.dimensions in
+      let ld = length_clip v.rows in
+      let t2 = has_join s (p + 2) b c w.entries (has_at s (p + 2 + v.rank) (p + 2 + length b) c (omega arith) w.dimensions) in
+      let t3 = has_join s (p + 2) (b ++ c) d t2 (has_at s (p + 2 + v.rank + own v * 4) (p + 2 + length (b ++ c)) d (omega (arith, length-append b c)) w.rows) in
       let t4 =
       has_join s (p + 2) (b ++ c ++ d) e t3
-      (has-at s (p + 6 + v.rank + own v * 4) (p + 2 + length (b ++ c ++ d)) e
+      (has_at s (p + 6 + v.rank + own v * 4) (p + 2 + length (b ++ c ++ d)) e
       (omega (arith, length-append b c, length-append (b ++ c) d)) w.columns) in
-      (rw add-zero w.count, (w.has, has-back s p 2 0 (b ++ c ++ d ++ e) t4))
+      (rw add-zero w.count, (w.has, has_back s p 2 0 (b ++ c ++ d ++ e) t4))
 
-pub view-length-ok : (b : Bool) (rank : ℕ) → 1 ≤ rank → rank ≤ rankPlaces → viewLengthOk (viewLength rank (sizedRank b rank)) ≡ true
-unfolding viewLengthOk pick between both sizedRank
-view-length-ok true rank h l =
-    one_of (λ (rank : ℕ). viewLengthOk (viewLength rank (sizedRank true rank)) ≡ true) 1 5 (refl, (refl, (refl, (refl, (refl, tt))))) rank h (omega arith)
-view-length-ok false rank h l =
-    one_of (λ (rank : ℕ). viewLengthOk (viewLength rank (sizedRank false rank)) ≡ true) 1 5 (refl, (refl, (refl, (refl, (refl, tt))))) rank h (omega arith)
+pub view_length_ok_lem : (b : Bool) (rank : ℕ) → 1 ≤ rank → rank ≤ rank_places → view_length_ok (view_length rank (sized_rank b rank)) ≡ true
+unfolding view_length_ok pick between both sized_rank
+view_length_ok_lem true rank h l =
+    one_of (λ (rank : ℕ). view_length_ok (view_length rank (sized_rank true rank)) ≡ true) 1 5 (refl, (refl, (refl, (refl, (refl, tt))))) rank h (omega arith)
+view_length_ok_lem false rank h l =
+    one_of (λ (rank : ℕ). view_length_ok (view_length rank (sized_rank false rank)) ≡ true) 1 5 (refl, (refl, (refl, (refl, (refl, tt))))) rank h (omega arith)
 
-module _ (s : List ℕ) (p : ℕ) (v : View) (w : ViewShaped v) (h : Has s p 0 (viewBytes v)) where
-  has_of : hasDimensions s p ≡ v.sized
-  has_of = rw (parts s p v h).has (flag-of v.sized)
+module _ (s : List ℕ) (p : ℕ) (v : View) (w : ViewShaped v) (h : Has s p 0 (view_bytes v)) where
+  has_of : has_dimensions s p ≡ v.sized
+  has_of = rw (parts s p v h).has (flag_of v.sized)
 
-  pub view-of : viewAt s p ≡ v
-  unfolding viewAt view_of
-  view-of =
+  pub view_of_lem : view_at s p ≡ v
+  unfolding view_at view_of
+  view_of_lem =
       let g = parts s p v h in
-      let few : own v ≤ rankPlaces = sized-few v.sized v.rank rankPlaces w.few in
-      let ps = permutation-of s (p + 2) v.rank v.permutation w.few w.entries w.entry_past g.entries in
-      let ds = view-dimensions-of s (p + 2 + v.rank) (own v) v.dimensions few w.five w.past g.dimensions in
-      let rs = clip-of s (p + 2 + v.rank + own v * 4) v.rows g.rows in
-      let cs = clip-of s (p + 6 + v.rank + own v * 4) v.columns g.columns in
+      let few : own v ≤ rank_places = sized_few v.sized v.rank rank_places w.few in
+      let ps = permutation_of s (p + 2) v.rank v.permutation w.few w.entries w.entry_past g.entries in
+      let ds = view_dimensions_of s (p + 2 + v.rank) (own v) v.dimensions few w.five w.past g.dimensions in
+      let rs = clip_of s (p + 2 + v.rank + own v * 4) v.rows g.rows in
+      let cs = clip_of s (p + 6 + v.rank + own v * 4) v.columns g.columns in
       rw (g.count, has_of)
       (λ i. record { rank = v.rank; sized = v.sized; permutation = ps i; dimensions = ds i; rows = rs i; columns = cs i })
 
-  pub view-head-ok : viewHeadOk s p (length (viewBytes v)) ≡ true
-  unfolding viewHeadOk
-  view-head-ok =
+  pub view_head_ok_lem : view_head_ok s p (length (view_bytes v)) ≡ true
+  unfolding view_head_ok
+  view_head_ok_lem =
       let g = parts s p v h in
-      rw (has_of, g.count, g.has, length-view v)
-      (both_true _ _ (between-true 1 rankPlaces v.rank w.some w.few)
-      (both_true _ _ (le-leb (flag_code v.sized) 1 (flag-code-small v.sized)) (eq-eqb (viewLength v.rank (own v)) _ refl)))
+      rw (has_of, g.count, g.has, length_view v)
+      (both_true _ _ (between_true 1 rank_places v.rank w.some w.few)
+      (both_true _ _ (le-leb (flag_code v.sized) 1 (flag_code_small v.sized)) (eq-eqb (view_length v.rank (own v)) _ refl)))
 
 -- from the view that was read to the bytes
-module _ (s : List ℕ) (p len : ℕ) (e : viewHeadOk s p len ≡ true) where
-  few : get_or s p 0 ≤ rankPlaces
-  few = (view-head s p len e).few
+module _ (s : List ℕ) (p len : ℕ) (e : view_head_ok s p len ≡ true) where
+  few : get_or s p 0 ≤ rank_places
+  few = (view_head s p len e).few
 
-  own-few : sizedRank (hasDimensions s p) (get_or s p 0) ≤ rankPlaces
-  own-few = (view-head s p len e).own
+  own_few : sized_rank (has_dimensions s p) (get_or s p 0) ≤ rank_places
+  own_few = (view_head s p len e).own
 
   some : 1 ≤ get_or s p 0
-  unfolding viewHeadOk
-  some = between-low 1 rankPlaces (get_or s p 0) (both_left _ _ e)
+  unfolding view_head_ok
+  some = between_low 1 rank_places (get_or s p 0) (both_left _ _ e)
 
   has : get_or s (p + 1) 0 ≤ 1
-  unfolding viewHeadOk
+  unfolding view_head_ok
   has = leb-true _ _ (both_left _ _ (both_right _ _ e))
 
-  pub view-at-shaped : ViewShaped (viewAt s p)
-  unfolding viewAt view_of permutationAt viewDimensionsAt
-  view-at-shaped =
+  pub view_at_shaped : ViewShaped (view_at s p)
+  unfolding view_at view_of permutation_at view_dimensions_at
+  view_at_shaped =
       let g : ℕ → ℕ = λ k. get_or s (p + 2 + k) 0 in
-      let f : ℕ → ViewDimension = λ k. viewDimensionAt s (p + 2 + get_or s p 0 + k * 4) in
-      let n = sizedRank (hasDimensions s p) (get_or s p 0) in
+      let f : ℕ → ViewDimension = λ k. view_dimension_at s (p + 2 + get_or s p 0 + k * 4) in
+      let n = sized_rank (has_dimensions s p) (get_or s p 0) in
       record {
         some = some;
         few = few;
-        entries = places_count rankPlaces 0 0 g (get_or s p 0) few;
-        five = places_count rankPlaces noViewDimension noViewDimension f n own-few;
-        entry_past = places-past rankPlaces 0 0 g (get_or s p 0) few;
-        past = places-past rankPlaces noViewDimension noViewDimension f n own-few;
+        entries = places_count rank_places 0 0 g (get_or s p 0) few;
+        five = places_count rank_places no_view_dimension no_view_dimension f n own_few;
+        entry_past = places_past rank_places 0 0 g (get_or s p 0) few;
+        past = places_past rank_places no_view_dimension no_view_dimension f n own_few;
       }
 
-  pub view-at-long : length (viewBytes (viewAt s p)) ≡ len
-  unfolding viewAt view_of
-  view-at-long = length-view (viewAt s p) ∙ (view-head s p len e).fills
+  pub view_at_long : length (view_bytes (view_at s p)) ≡ len
+  unfolding view_at view_of
+  view_at_long = length_view (view_at s p) ∙ (view_head s p len e).fills
 
-  entry_at : (k : ℕ) → k < get_or s p 0 → get_or (viewAt s p).permutation k 0 ≡ get_or s (p + 2 + k) 0
-  unfolding viewAt view_of permutationAt
-  entry_at k h = places-given rankPlaces 0 0 (λ (k : ℕ). get_or s (p + 2 + k) 0) (get_or s p 0) few k h
+  entry_at : (k : ℕ) → k < get_or s p 0 → get_or (view_at s p).permutation k 0 ≡ get_or s (p + 2 + k) 0
+  unfolding view_at view_of permutation_at
+  entry_at k h = places_given rank_places 0 0 (λ (k : ℕ). get_or s (p + 2 + k) 0) (get_or s p 0) few k h
 
-  view-dimension-at : (k : ℕ) → k < sizedRank (hasDimensions s p) (get_or s p 0) → theViewDimension (viewAt s p).dimensions k ≡ viewDimensionAt s (p + 2 + get_or s p 0 + k * 4)
-  unfolding viewAt view_of viewDimensionsAt
-  view-dimension-at k h =
-      places-given rankPlaces noViewDimension noViewDimension (λ (k : ℕ). viewDimensionAt s (p + 2 + get_or s p 0 + k * 4)) _ own-few k h
+  view_dimension_at_lem : (k : ℕ) → k < sized_rank (has_dimensions s p) (get_or s p 0) → the_view_dimension (view_at s p).dimensions k ≡ view_dimension_at s (p + 2 + get_or s p 0 + k * 4)
+  unfolding view_at view_of view_dimensions_at
+  view_dimension_at_lem k h =
+      places_given rank_places no_view_dimension no_view_dimension (λ (k : ℕ). view_dimension_at s (p + 2 + get_or s p 0 + k * 4)) _ own_few k h
 
-  pub has-view : AreBytes s → Has s p 0 (viewBytes (viewAt s p))
-  unfolding viewAt view_of
-  has-view b =
+  pub has_view : AreBytes s → Has s p 0 (view_bytes (view_at s p))
+  unfolding view_at view_of
+  has_view b =
       let q = p + 2 + get_or s p 0 in
-      let n = sizedRank (hasDimensions s p) (get_or s p 0) in
-      let ps = (viewAt s p).permutation in
-      let ds = (viewAt s p).dimensions in
-      whole s p (viewAt s p)
+      let n = sized_rank (has_dimensions s p) (get_or s p 0) in
+      let ps = (view_at s p).permutation in
+      let ds = (view_at s p).dimensions in
+      whole s p (view_at s p)
       (record {
         count = refl;
-        has = sym (flag-code-of (get_or s (p + 1) 0) has);
+        has = sym (flag_code_of (get_or s (p + 1) 0) has);
         entries =
-            has-rows s (p + 2) 1 (get_or s p 0) (entry ps) (λ k h. refl)
+            has_rows s (p + 2) 1 (get_or s p 0) (entry ps) (λ k h. refl)
             (λ k h. let i : p + 2 + k * 1 + 0 ≡ p + 2 + k = omega arith in (rw i (sym (entry_at k h)), tt));
         dimensions =
-            has-rows s q 4 n (row ds) (λ k h. length-view-dimension (theViewDimension ds k))
-            (λ k h. rw (view-dimension-at k h) (has-view-dimension s (q + k * 4) b));
-        rows = has-clip s (q + n * 4) b;
-        columns = has-clip s (p + 6 + get_or s p 0 + n * 4) b;
+            has_rows s q 4 n (row ds) (λ k h. length_view_dimension (the_view_dimension ds k))
+            (λ k h. rw (view_dimension_at_lem k h) (has_view_dimension s (q + k * 4) b));
+        rows = has_clip s (q + n * 4) b;
+        columns = has_clip s (p + 6 + get_or s p 0 + n * 4) b;
       })
 
-  pub view-at-fits : AreBytes s → ViewFits (viewAt s p)
-  unfolding viewAt view_of viewDimensionsAt viewDimensionAt
-  view-at-fits b =
+  pub view_at_fits : AreBytes s → ViewFits (view_at s p)
+  unfolding view_at view_of view_dimensions_at view_dimension_at
+  view_at_fits b =
       let q = p + 2 + get_or s p 0 in
-      let n = sizedRank (hasDimensions s p) (get_or s p 0) in
+      let n = sized_rank (has_dimensions s p) (get_or s p 0) in
       record {
         stride =
-            places-all (λ (d : ViewDimension). U16 d.stride) rankPlaces noViewDimension (λ (k : ℕ). viewDimensionAt s (q + k * 4)) n own-few
-            (omega arith) (λ k h. u16-below s b (q + k * 4 + 2));
-        rows = clip-fits s (q + n * 4) b;
-        columns = clip-fits s (p + 6 + get_or s p 0 + n * 4) b;
+            places_all (λ (d : ViewDimension). U16 d.stride) rank_places no_view_dimension (λ (k : ℕ). view_dimension_at s (q + k * 4)) n own_few
+            (omega arith) (λ k h. u16_below s b (q + k * 4 + 2));
+        rows = clip_fits s (q + n * 4) b;
+        columns = clip_fits s (p + 6 + get_or s p 0 + n * 4) b;
       }

@@ -41,8 +41,8 @@ returns-2 c = rw (c.before.before.before.before.before.sort-of.ensures, c.before
 returns-3 : tie.Need-returns-3
 returns-3 c = rw (c.before.before.before.before.before.sort-of.ensures, c.before.before.before.before.value_of_lem.ensures, c.before.before.outside2.given.1) refl
 
-pub put-outcome-spec : {M : Type 1} → statement M
-put-outcome-spec =
+pub put_outcome_spec : {M : Type 1} → statement M
+put_outcome_spec =
     tie.close
     (tie.spec
     sort-of-requires

@@ -19,5 +19,5 @@ returns c = search rules
 returns-2 : tie.Need-returns-2
 returns-2 c = rw c.before.before.verdict.given.1 refl
 
-pub put-verdict-spec : {M : Type 1} → statement M
-put-verdict-spec = tie.close (tie.spec enum_told enum-known-verdict cast-t4 returns returns-2)
+pub put_verdict_spec : {M : Type 1} → statement M
+put_verdict_spec = tie.close (tie.spec enum_told enum-known-verdict cast-t4 returns returns-2)

@@ -1,8 +1,8 @@
 use mathlib.Core.Path.{refl, sym}
 use mathlib.Core.Bool.{true≢false}
 use borrow.Author.Tests.{eqb-true}
-use Rattle.whole_steps.specs.Laws.Within.{whole-ok}
-use Rattle.carrying.specs.Steps.{machine, registersOf, performedStep}
+use Rattle.whole_steps.specs.Laws.Within.{whole_ok_lem}
+use Rattle.carrying.specs.Steps.{machine, registers_of, performed_step}
 use borrow.Author.Rules.{rules}
 use Rattle.running.proofs.perform_named.Statement.{statement}
 use Rattle.running.proofs.perform_named.Tie as tie
@@ -23,10 +23,10 @@ perform-whole-requires : tie.Need-perform-whole-requires
 perform-whole-requires c κs =
     let s = c.before.before.before.before.before.before in
     let e = c.before.before.before.step.given.1 in
-    ((whole-ok _ _ (rw e at (s.requires.0.1.1.ok (rw e refl))), s.requires.0.0, (s.requires.0.1.0, eqb-true _ _ (rw e at s.requires.0.1.2))), s.requires.1)
+    ((whole_ok_lem _ _ (rw e at (s.requires.0.1.1.ok (rw e refl))), s.requires.0.0, (s.requires.0.1.0, eqb-true _ _ (rw e at s.requires.0.1.2))), s.requires.1)
 
 returns : tie.Need-returns
-unfolding performedStep
+unfolding performed_step
 returns c = (c.before.before.before.requires.1.2, λ tensors n. rw c.enum_told.given.1)
 
 returns-2 : tie.Need-returns-2
@@ -38,14 +38,14 @@ returns-3 c =
     absurd (true≢false (sym (rw c.enum-told3.given.1 at c.before.before.before.requires.0.1.2)))
 
 returns-4 : tie.Need-returns-4
-unfolding performedStep
+unfolding performed_step
 returns-4 c =
     let s = c.before.before.before.before.before.before.before in
     let p = c.perform-whole.ensures in
-    (p.1.0, λ tensors n. rw c.before.before.before.before.step.given.1 (λ i. machine (registersOf (p.0 i) (p.1.1 i)) s.args.memory.now n))
+    (p.1.0, λ tensors n. rw c.before.before.before.before.step.given.1 (λ i. machine (registers_of (p.0 i) (p.1.1 i)) s.args.memory.now n))
 
-pub perform-named-spec : {M : Type 1} → statement M
-perform-named-spec =
+pub perform_named_spec : {M : Type 1} → statement M
+perform_named_spec =
     tie.close
     (tie.spec
     enum_told

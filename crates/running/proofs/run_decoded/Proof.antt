@@ -23,6 +23,6 @@ returns c = let e = c.before.before.run-record.ensures in (e.0, λ tensors. rw c
 returns-2 : tie.Need-returns-2
 returns-2 c = (c.before.before.before.requires.1.1.2, λ tensors. rw c.enum_told.given.1)
 
-pub run-decoded-spec : {M : Type 1} → statement M
-run-decoded-spec =
+pub run_decoded_spec : {M : Type 1} → statement M
+run_decoded_spec =
     tie.close (tie.spec enum-known-d run-record-requires enum_told same_length returns returns-2)

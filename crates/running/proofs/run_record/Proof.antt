@@ -2,8 +2,8 @@ use mathlib.Core.Path.{ap}
 use Rattle.registers.specs.declared.Registers.{Registers}
 use Rattle.carrying.specs.Steps.{machine}
 use Rattle.numbers.specs.Laws.Choice.{both_right}
-use Rattle.judging.specs.Records.{wholeRecordOk}
-use Rattle.running.specs.Records.{ranRecordWith}
+use Rattle.judging.specs.Records.{whole_record_ok}
+use Rattle.running.specs.Records.{ran_record_with}
 use native.Mathlib.Omega.{arith}
 use borrow.Author.Rules.{rules}
 use Rattle.running.proofs.run_record.Statement.{statement}
@@ -56,13 +56,13 @@ enum_told : tie.Need-enum-told
 enum_told c = search rules
 
 perform-named-requires : tie.Need-perform-named-requires
-unfolding wholeRecordOk
+unfolding whole_record_ok
 perform-named-requires c κs =
     let s = c.before.before.before.before.before.before in
     ((s.requires.0.0, (s.requires.1.0.0, s.requires.1.0.2, both_right _ _ (rw c.before.before.before.enum_told.given.1 at s.requires.1.0.3))), s.requires.1.1)
 
 returns : tie.Need-returns
-unfolding ranRecordWith
+unfolding ran_record_with
 returns c =
     let s = c.before.before.before.before.before.before in
     let a = s.args in
@@ -72,29 +72,29 @@ same_length : tie.Need-same-length
 same_length c = search rules
 
 returns-2 : tie.Need-returns-2
-unfolding ranRecordWith
+unfolding ran_record_with
 returns-2 c = (c.before.before.before.before.before.before.before.before.requires.1.1.2, λ tensors. rw (c.before.before.before.before.before.r2.given.1, c.more-placed.ensures) (c.before.take.ensures c.before.before.before.before.before.before.before.before.args.counted))
 
 same-length-2 : tie.Need-same-length-2
 same-length-2 c = search rules
 
 returns-3 : tie.Need-returns-3
-unfolding ranRecordWith
+unfolding ran_record_with
 returns-3 c = (c.before.before.before.before.before.before.before.before.before.before.requires.1.1.2, λ tensors. rw (c.before.before.before.before.before.before.before.r3.given.1, c.more-placed2.ensures) (c.before.before.before.put.ensures c.before.before.before.before.before.before.before.before.before.before.args.counted))
 
 returns-4 : tie.Need-returns-4
-unfolding ranRecordWith
+unfolding ran_record_with
 returns-4 c = let a = c.before.before.before.before.before.before.args in (c.before.before.before.before.before.before.requires.1.1.2, λ tensors. rw c.before.before.before.r4.given.1 (c.fill.ensures a.memory.now a.counted))
 
 same-length-3 : tie.Need-same-length-3
 same-length-3 c = search rules
 
 returns-5 : tie.Need-returns-5
-unfolding ranRecordWith
+unfolding ran_record_with
 returns-5 c = (c.perform-named.ensures.0, λ tensors. rw c.before.before.before.before.enum_told.given.1 (c.perform-named.ensures.1 tensors c.before.before.before.before.before.before.before.args.counted))
 
-pub run-record-spec : {M : Type 1} → statement M
-run-record-spec =
+pub run_record_spec : {M : Type 1} → statement M
+run_record_spec =
     tie.close
     (tie.spec
     enum-known-r

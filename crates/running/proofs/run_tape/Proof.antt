@@ -2,15 +2,15 @@ use lib.ListN.{length}
 use Prim.Native.Nat.{◌<◌, ◌≤◌}
 use mathlib.Core.Path.{◌≡◌, sym, ap, ap₂, ◌∙◌}
 use Rattle.refusals.specs.declared.Refusal.{Refusal}
-use Rattle.sheet_reader.specs.Parts.{sheetOf}
+use Rattle.sheet_reader.specs.Parts.{sheet_of}
 use Rattle.checking.specs.Checking.{admitted}
-use Rattle.carrying.specs.Steps.{registersOf}
-use Rattle.carrying.specs.Carrying.{carryAnswer, answerWith}
-use Rattle.records.specs.Laws.Records.{fit-few, fit-room}
-use Rattle.judging.specs.Judging.{tapeRefusal}
-use Rattle.judging.specs.Laws.Turns.{tape-fit, tape-clear}
-use Rattle.running.specs.Running.{runRefusal}
-use Rattle.running.specs.Laws.Answers.{run-unread, run-readable, run-refused, ran-refused, run-accepted, ran-accepted}
+use Rattle.carrying.specs.Steps.{registers_of}
+use Rattle.carrying.specs.Carrying.{carry_answer, answer_with}
+use Rattle.records.specs.Laws.Records.{fit_few, fit_room}
+use Rattle.judging.specs.Judging.{tape_refusal}
+use Rattle.judging.specs.Laws.Turns.{tape_fit, tape_clear}
+use Rattle.running.specs.Running.{run_refusal}
+use Rattle.running.specs.Laws.Answers.{run-unread, run-readable, run-refused, ran-refused, run_accepted, ran-accepted}
 use native.Mathlib.Omega.{arith}
 use borrow.Author.Rules.{rules}
 use Rattle.running.proofs.run_tape.Statement.{statement}
@@ -37,7 +37,7 @@ returns c =
     let e = c.before.before.before.before.admit.ensures.0 in
     let n : 0 < (admitted s (length m)).refusal.number = rw e at c.before.if1.true in
     let u = run-unread s t a.records (length m) n ∙ sym e in
-    (ap₂ answerWith c.carry-refused.ensures c.before.before.before.before.before.before.before.empty-elements.ensures ∙ run-refused s t a.records m u c.before.if1.true, ran-refused s t a.records m u c.before.if1.true)
+    (ap₂ answer_with c.carry-refused.ensures c.before.before.before.before.before.before.before.empty-elements.ensures ∙ run-refused s t a.records m u c.before.if1.true, ran-refused s t a.records m u c.before.if1.true)
 
 tape-refusal-requires : tie.Need-tape-refusal-requires
 tape-refusal-requires c κs = c.before.before.before.before.before.admit.ensures.1 (omega (arith, c.before.before.if1.false))
@@ -46,7 +46,7 @@ carry-refused-requires-2 : tie.Need-carry-refused-requires-2
 carry-refused-requires-2 c κs = search rules
 
 -- the tape of an admitted sheet, judged
-told : (c : tie.After-tape-refusal) → let a = c.before.before.before.before.before.before.before.before.before.before.before.before.before.args in runRefusal a.sheet.now a.tape.now a.records (length a.memory.now) ≡ c.tape-refusal.result
+told : (c : tie.After-tape-refusal) → let a = c.before.before.before.before.before.before.before.before.before.before.before.before.before.args in run_refusal a.sheet.now a.tape.now a.records (length a.memory.now) ≡ c.tape-refusal.result
 told c =
     let a = c.before.before.before.before.before.before.before.before.before.before.before.before.before.args in
     let j = c.before.before.before.before.before.before.admit in
@@ -61,18 +61,18 @@ returns-2 c =
     let t = a.tape.now in
     let m = a.memory.now in
     let u = told c.before.before.before in
-    (ap₂ answerWith c.carry-refused2.ensures c.before.before.before.before.before.before.before.before.before.before.before.before.empty-elements.ensures ∙ run-refused s t a.records m u c.before.if2.true, ran-refused s t a.records m u c.before.if2.true)
+    (ap₂ answer_with c.carry-refused2.ensures c.before.before.before.before.before.before.before.before.before.before.before.before.empty-elements.ensures ∙ run-refused s t a.records m u c.before.if2.true, ran-refused s t a.records m u c.before.if2.true)
 
 run-records-requires : tie.Need-run-records-requires
 run-records-requires c κs =
     let a = c.before.before.before.before.before.before.before.before.before.before.before.before.before.before.before.before.before.before.args in
     let t = a.tape.now in
-    let sh = sheetOf a.sheet.now in
+    let sh = sheet_of a.sheet.now in
     let len = length a.memory.now in
-    let y : (tapeRefusal sh t a.records len).number ≤ 0 = rw c.before.before.before.before.before.tape-refusal.ensures at c.before.before.before.if2.false in
-    let f = tape-fit sh t a.records len (omega arith) in
+    let y : (tape_refusal sh t a.records len).number ≤ 0 = rw c.before.before.before.before.before.tape-refusal.ensures at c.before.before.before.if2.false in
+    let f = tape_fit sh t a.records len (omega arith) in
     let o = c.before.before.before.before.before.before.before.before.before.before.before.admit.ensures.1 (omega (arith, c.before.before.before.before.before.before.before.before.if1.false)) in
-    (c.before.before.before.before.before.before.before.before.before.before.before.before.before.before.empty-elements.ensures, ((o, fit-few _ _ _ f, fit-room _ _ _ f), tape-clear sh t a.records len (omega arith)))
+    (c.before.before.before.before.before.before.before.before.before.before.before.before.before.before.empty-elements.ensures, ((o, fit_few _ _ _ f, fit_room _ _ _ f), tape_clear sh t a.records len (omega arith)))
 
 not-refused-requires : tie.Need-not-refused-requires
 not-refused-requires c κs = search rules
@@ -90,10 +90,10 @@ returns-3 c =
     let y : q.tape-refusal.result.number ≡ 0 = omega (arith, c.before.before.before.before.before.before.before.before.before.if2.false) in
     let n = ap (λ (r : Refusal). r.number) (told q) ∙ y in
     let g = c.before.before.before.before.before.run-records in
-    (ap (λ (r : Refusal). carryAnswer r (registersOf g.result.types g.new.1.1.1.1.1.1.0) g.result.counts) c.not-refused.ensures ∙ run-accepted s t a.records m n g.ensures, ran-accepted s t a.records m n g.ensures)
+    (ap (λ (r : Refusal). carry_answer r (registers_of g.result.types g.new.1.1.1.1.1.1.0) g.result.counts) c.not-refused.ensures ∙ run_accepted s t a.records m n g.ensures, ran-accepted s t a.records m n g.ensures)
 
-pub run-tape-spec : {M : Type 1} → statement M
-run-tape-spec =
+pub run_tape_spec : {M : Type 1} → statement M
+run_tape_spec =
     tie.close
     (tie.spec
     empty-elements-requires

@@ -37,8 +37,8 @@ returns-3 : tie.Need-returns-3
 unfolding next
 returns-3 c = rw c.before.before.r.given.1 c.meet-byte.ensures
 
-pub next-byte-spec : {M : Type 1} → statement M
-next-byte-spec =
+pub next_byte_spec : {M : Type 1} → statement M
+next_byte_spec =
     tie.close
     (tie.spec
     enum_told

@@ -37,8 +37,8 @@ returns-3 : tie.Need-returns-3
 unfolding next
 returns-3 c = rw c.before.before.r.given.1 c.meet-fill.ensures
 
-pub next-fill-spec : {M : Type 1} → statement M
-next-fill-spec =
+pub next_fill_spec : {M : Type 1} → statement M
+next_fill_spec =
     tie.close
     (tie.spec
     enum_told

@@ -45,8 +45,8 @@ returns-3 c = rw c.before.before.o.given.1 c.next-byte.ensures
 returns-4 : tie.Need-returns-4
 returns-4 c = rw c.before.before.o2.given.1 c.next-fill.ensures
 
-pub next-run-spec : {M : Type 1} → statement M
-next-run-spec =
+pub next_run_spec : {M : Type 1} → statement M
+next_run_spec =
     tie.close
     (tie.spec
     enum_told

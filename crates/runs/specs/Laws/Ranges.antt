@@ -5,29 +5,29 @@ use Rattle.std.proofs.Common.{subst, arith}
 use Rattle.numbers.specs.Lists.{each}
 use Rattle.numbers.specs.Laws.Choice.{by_order}
 use Rattle.outcomes.specs.declared.Outcome.{Outcome}
-use Rattle.sheet.specs.Sizes.{registerCount, memoryLimit}
+use Rattle.sheet.specs.Sizes.{register_count, memory_limit}
 use Rattle.records.specs.declared.Record.{Record}
 use Rattle.records.specs.declared.Record.TheVariants.{Fill}
 use Rattle.records.specs.Records.{moved}
 use Rattle.records.specs.Ranges.{Elements, InRange, AllRecords, AllInRange}
-use Rattle.records.specs.Laws.Records.{all_append, moved-within}
+use Rattle.records.specs.Laws.Records.{all_append, moved_within}
 use Rattle.runs.specs.declared.Run.{Run}
 use Rattle.runs.specs.declared.Run.TheVariants.{Idle, Bytes, Fills}
-use Rattle.runs.specs.Runs.{held, ending, runRecords, endedRecords, runsRecords}
-use Rattle.runs.specs.Theorems.Longest.{Going, Pouring, Open, held-open, ending-open}
+use Rattle.runs.specs.Runs.{held, ending, run_records, ended_records, runs_records}
+use Rattle.runs.specs.Theorems.Longest.{Going, Pouring, Open, held_open, ending_open}
 use Rattle.runs.specs.Ranges.{Fitting, Steady, Full, SmallRun}
 
 module _ (f : ℕ → Outcome) (k : ℕ) (near : (i : ℕ) → i < k → Fitting (f i)) where
   module _ (e m b u d : ℕ) (g : Going f k e m b u d) where
-    byte-near : (i : ℕ) → i < m → b + i * u - i * d < memoryLimit
-    byte-near i l = subst Fitting (g.at i l) (near (e + i) (omega (arith, g.ends)))
+    byte_near : (i : ℕ) → i < m → b + i * u - i * d < memory_limit
+    byte_near i l = subst Fitting (g.at i l) (near (e + i) (omega (arith, g.ends)))
 
-    step-near : (u < memoryLimit) × (d < memoryLimit)
-    step-near =
+    step_near : (u < memory_limit) × (d < memory_limit)
+    step_near =
         by_order 1 m
         (λ h.
-        let p = byte-near 0 (omega arith) in
-        let q = byte-near 1 h in
+        let p = byte_near 0 (omega arith) in
+        let q = byte_near 1 h in
         let s = g.low 1 h in
         (omega (arith, g.way), omega (arith, g.way)))
         (λ h. let z = g.lone (omega (arith, g.some)) in (omega (arith, z.0), omega (arith, z.1)))
@@ -37,9 +37,9 @@ module _ (f : ℕ → Outcome) (k : ℕ) (near : (i : ℕ) → i < k → Fitting
         record {
           ends = g.ends;
           some = g.some;
-          byte = omega (arith, byte-near 0 g.some);
-          up = step-near.0;
-          down = step-near.1;
+          byte = omega (arith, byte_near 0 g.some);
+          up = step_near.0;
+          down = step_near.1;
           way = g.way;
         }
 
@@ -53,10 +53,10 @@ module _ (f : ℕ → Outcome) (k : ℕ) (near : (i : ℕ) → i < k → Fitting
   small (Fills e m v) g = full e m v g
 
   pub held_small : SmallRun k (held f k)
-  held_small = small (held f k) (held-open f k)
+  held_small = small (held f k) (held_open f k)
 
-  pub ending-small : SmallRun k (ending f k)
-  ending-small = small (ending f k) (ending-open f k)
+  pub ending_small : SmallRun k (ending f k)
+  ending_small = small (ending f k) (ending_open f k)
 
 -- ---- records
 
@@ -64,47 +64,47 @@ module _ (f : ℕ → Outcome) (k : ℕ) (near : (i : ℕ) → i < k → Fitting
 module _ (P : Record → Type 0) (load : Bool) (register : ℕ) (f : ℕ → Outcome) (n : ℕ)
     (moves : (k e m b u d : ℕ) → k ≤ n → Going f k e m b u d → P (moved load register e m b u d))
     (fills : (k e m v : ℕ) → k ≤ n → Pouring f k e m v → P (Fill register e m v)) where
-  run-all : (k : ℕ) (r : Run) → k ≤ n → Open f k r → AllRecords P (runRecords load register r)
-  run-all k Idle h g = tt
-  run-all k (Bytes e m b u d) h g = (moves k e m b u d h g, tt)
-  run-all k (Fills e m v) h g = (fills k e m v h g, tt)
+  run_all : (k : ℕ) (r : Run) → k ≤ n → Open f k r → AllRecords P (run_records load register r)
+  run_all k Idle h g = tt
+  run_all k (Bytes e m b u d) h g = (moves k e m b u d h g, tt)
+  run_all k (Fills e m v) h g = (fills k e m v h g, tt)
 
-  pub ending-all : (k : ℕ) → k ≤ n → AllRecords P (runRecords load register (ending f k))
-  ending-all k h = run-all k (ending f k) h (ending-open f k)
+  pub ending_all : (k : ℕ) → k ≤ n → AllRecords P (run_records load register (ending f k))
+  ending_all k h = run_all k (ending f k) h (ending_open f k)
 
-  pub held_all : (k : ℕ) → k ≤ n → AllRecords P (runRecords load register (held f k))
-  held_all k h = run-all k (held f k) h (held-open f k)
+  pub held_all : (k : ℕ) → k ≤ n → AllRecords P (run_records load register (held f k))
+  held_all k h = run_all k (held f k) h (held_open f k)
 
-  ended-all : (k : ℕ) → k ≤ n → AllRecords P (endedRecords load register f k)
+  ended_all : (k : ℕ) → k ≤ n → AllRecords P (ended_records load register f k)
   unfolding each
-  ended-all zero h = tt
-  ended-all (suc k) h =
-      all_append P (endedRecords load register f k) (runRecords load register (ending f k)) (ended-all k (omega arith)) (ending-all k (omega arith))
+  ended_all zero h = tt
+  ended_all (suc k) h =
+      all_append P (ended_records load register f k) (run_records load register (ending f k)) (ended_all k (omega arith)) (ending_all k (omega arith))
 
-  pub records-all : AllRecords P (runsRecords load register f n)
-  unfolding runsRecords
-  records-all =
-      all_append P (endedRecords load register f n) (runRecords load register (held f n)) (ended-all n (omega arith)) (held_all n (omega arith))
+  pub records_all : AllRecords P (runs_records load register f n)
+  unfolding runs_records
+  records_all =
+      all_append P (ended_records load register f n) (run_records load register (held f n)) (ended_all n (omega arith)) (held_all n (omega arith))
 
 -- the records of a step's runs are within their ranges
-module _ (load : Bool) (register : ℕ) (few : register < registerCount) (f : ℕ → Outcome) (n : ℕ) (l : n < 2 ^ 31) (near : (i : ℕ) → i < n → Fitting (f i)) where
+module _ (load : Bool) (register : ℕ) (few : register < register_count) (f : ℕ → Outcome) (n : ℕ) (l : n < 2 ^ 31) (near : (i : ℕ) → i < n → Fitting (f i)) where
   elements : {k e m : ℕ} → k ≤ n → e + m ≡ k → 1 ≤ m → Elements register e m
   elements h e s = record { register = few; first = omega arith; some = s; count = omega arith }
 
-  move-within : (k e m b u d : ℕ) → k ≤ n → Going f k e m b u d → InRange (moved load register e m b u d)
-  move-within k e m b u d h g =
+  move_within : (k e m b u d : ℕ) → k ≤ n → Going f k e m b u d → InRange (moved load register e m b u d)
+  move_within k e m b u d h g =
       let s = steady f k (λ i q. near i (omega arith)) e m b u d g in
-      moved-within load (elements h g.ends g.some)
+      moved_within load (elements h g.ends g.some)
       (record { byte = omega (arith, s.byte); up = omega (arith, s.up); down = omega (arith, s.down); way = s.way })
 
-  fill-within : (k e m v : ℕ) → k ≤ n → Pouring f k e m v → InRange (Fill register e m v)
-  fill-within k e m v h g = (elements h g.ends g.some, (full f k (λ i q. near i (omega arith)) e m v g).value)
+  fill_within : (k e m v : ℕ) → k ≤ n → Pouring f k e m v → InRange (Fill register e m v)
+  fill_within k e m v h g = (elements h g.ends g.some, (full f k (λ i q. near i (omega arith)) e m v g).value)
 
-  pub ending-within : (k : ℕ) → k ≤ n → AllInRange (runRecords load register (ending f k))
-  ending-within = ending-all InRange load register f n move-within fill-within
+  pub ending_within : (k : ℕ) → k ≤ n → AllInRange (run_records load register (ending f k))
+  ending_within = ending_all InRange load register f n move_within fill_within
 
-  pub held-within : (k : ℕ) → k ≤ n → AllInRange (runRecords load register (held f k))
-  held-within = held_all InRange load register f n move-within fill-within
+  pub held_within : (k : ℕ) → k ≤ n → AllInRange (run_records load register (held f k))
+  held_within = held_all InRange load register f n move_within fill_within
 
-  pub runs-within : AllInRange (runsRecords load register f n)
-  runs-within = records-all InRange load register f n move-within fill-within
+  pub runs_within : AllInRange (runs_records load register f n)
+  runs_within = records_all InRange load register f n move_within fill_within

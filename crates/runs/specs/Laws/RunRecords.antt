@@ -7,52 +7,52 @@ use mathlib.Core.List.{List, [], ◌∷◌, ◌++◌, map, append_assoc}
 use Rattle.numbers.specs.Lists.{each}
 use Rattle.outcomes.specs.declared.Outcome.{Outcome}
 use Rattle.records.specs.declared.Record.{Record}
-use Rattle.records.specs.Records.{tapeNumbers, moved}
-use Rattle.records.specs.Laws.ByteSteps.{difference-parts}
+use Rattle.records.specs.Records.{tape_numbers, moved}
+use Rattle.records.specs.Laws.ByteSteps.{difference_parts}
 use Rattle.runs.specs.declared.Run.{Run}
 use Rattle.runs.specs.declared.Run.TheVariants.{Idle, Bytes, Fills}
-use Rattle.runs.specs.Runs.{emit, held, ending, ended, runs, runRecords, endedRecords, runsRecords}
+use Rattle.runs.specs.Runs.{emit, held, ending, ended, runs, run_records, ended_records, runs_records}
 use Rattle.runs.specs.Even.{Stretch, bytes, fills, Given}
-use Rattle.runs.specs.Theorems.Unique.{run_of, runs-only}
-use Rattle.runs.specs.RunRecords.{runNumbers}
+use Rattle.runs.specs.Theorems.Unique.{run_of, runs_only}
+use Rattle.runs.specs.RunRecords.{run_numbers}
 
 module _ (load : Bool) (register : ℕ) where
   -- the records of runs, in order
-  abbrev pub recordsOf : List Run → List Record
-  recordsOf [] = []
-  recordsOf (r ∷ rs) = runRecords load register r ++ recordsOf rs
+  abbrev pub records_of : List Run → List Record
+  records_of [] = []
+  records_of (r ∷ rs) = run_records load register r ++ records_of rs
 
-  of-append : (rs qs : List Run) → recordsOf (rs ++ qs) ≡ recordsOf rs ++ recordsOf qs
-  of-append [] qs = refl
-  of-append (r ∷ rs) qs = rw (of-append rs qs) (sym (append_assoc (runRecords load register r) (recordsOf rs) (recordsOf qs)))
+  of_append : (rs qs : List Run) → records_of (rs ++ qs) ≡ records_of rs ++ records_of qs
+  of_append [] qs = refl
+  of_append (r ∷ rs) qs = rw (of_append rs qs) (sym (append_assoc (run_records load register r) (records_of rs) (records_of qs)))
 
-  of-emit : (r : Run) → recordsOf (emit r) ≡ runRecords load register r
-  of-emit Idle = refl
-  of-emit (Bytes first count byte up down) = refl
-  of-emit (Fills first count value) = refl
+  of_emit : (r : Run) → records_of (emit r) ≡ run_records load register r
+  of_emit Idle = refl
+  of_emit (Bytes first count byte up down) = refl
+  of_emit (Fills first count value) = refl
 
   module _ (f : ℕ → Outcome) where
-    of-ended : (n : ℕ) → recordsOf (ended f n) ≡ endedRecords load register f n
+    of_ended : (n : ℕ) → records_of (ended f n) ≡ ended_records load register f n
     unfolding each
-    of-ended zero = refl
-    of-ended (suc n) = of-append (ended f n) (emit (ending f n)) ∙ ap₂ (λ (a b : List Record). a ++ b) (of-ended n) (of-emit (ending f n))
+    of_ended zero = refl
+    of_ended (suc n) = of_append (ended f n) (emit (ending f n)) ∙ ap₂ (λ (a b : List Record). a ++ b) (of_ended n) (of_emit (ending f n))
 
-    pub of-runs : (n : ℕ) → recordsOf (runs f n) ≡ runsRecords load register f n
-    unfolding runs runsRecords
-    of-runs n = of-append (ended f n) (emit (held f n)) ∙ ap₂ (λ (a b : List Record). a ++ b) (of-ended n) (of-emit (held f n))
+    pub of_runs : (n : ℕ) → records_of (runs f n) ≡ runs_records load register f n
+    unfolding runs runs_records
+    of_runs n = of_append (ended f n) (emit (held f n)) ∙ ap₂ (λ (a b : List Record). a ++ b) (of_ended n) (of_emit (held f n))
 
 -- ---- the six numbers
 
-same_numbers : (load : Bool) (register : ℕ) (rs : List Stretch) → tapeNumbers (recordsOf load register (map run_of rs)) ≡ runNumbers load register rs
+same_numbers : (load : Bool) (register : ℕ) (rs : List Stretch) → tape_numbers (records_of load register (map run_of rs)) ≡ run_numbers load register rs
 unfolding moved
 same_numbers load register [] = refl
-same_numbers true register (bytes e m b s ∷ rs) = rw (difference-parts s, same_numbers true register rs)
-same_numbers false register (bytes e m b s ∷ rs) = rw (difference-parts s, same_numbers false register rs)
+same_numbers true register (bytes e m b s ∷ rs) = rw (difference_parts s, same_numbers true register rs)
+same_numbers false register (bytes e m b s ∷ rs) = rw (difference_parts s, same_numbers false register rs)
 same_numbers load register (fills e m v ∷ rs) = rw (same_numbers load register rs)
 
 module _ (load : Bool) (register : ℕ) (f : ℕ → Outcome) (n : ℕ) (rs : List Stretch) (given : Given f n rs) where
-  pub given-records : runsRecords load register f n ≡ recordsOf load register (map run_of rs)
-  given-records = sym (of-runs load register f n) ∙ ap (recordsOf load register) (runs-only f n rs given)
+  pub given_records : runs_records load register f n ≡ records_of load register (map run_of rs)
+  given_records = sym (of_runs load register f n) ∙ ap (records_of load register) (runs_only f n rs given)
 
-  pub given-numbers : tapeNumbers (runsRecords load register f n) ≡ runNumbers load register rs
-  given-numbers = ap tapeNumbers given-records ∙ same_numbers load register rs
+  pub given_numbers : tape_numbers (runs_records load register f n) ≡ run_numbers load register rs
+  given_numbers = ap tape_numbers given_records ∙ same_numbers load register rs

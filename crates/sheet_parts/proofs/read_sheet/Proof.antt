@@ -6,7 +6,7 @@ use Rattle.sheet.specs.declared.Sheet.{Sheet}
 use Rattle.sheet_reader.specs.Parts.{Outlined}
 use Rattle.sheet_reader.specs.declared.Given.{Given}
 use Rattle.sheet_reader.specs.declared.Outline.{Outline}
-use Rattle.sheet_parts.specs.Laws.{refused-empty}
+use Rattle.sheet_parts.specs.Laws.{refused_empty}
 use Rattle.sheet_parts.proofs.read_sheet.Statement.{statement}
 use Rattle.sheet_parts.proofs.read_sheet.Tie as tie
 
@@ -23,7 +23,7 @@ returns : tie.Need-returns
 returns c =
     let e = ap (λ (x : Outline). x.refusal) c.before.before.before.before.outline-sheet.ensures.0 in
     ap₂ (λ (r : Refusal) (sh : Sheet). record { refusal = r; sheet = sh }) e
-    (c.empty-sheet.ensures ∙ refused-empty _ (rw e at c.before.if1.true))
+    (c.empty-sheet.ensures ∙ refused_empty _ (rw e at c.before.if1.true))
 
 -- a reading that is not refused
 outlined : (c : tie.Else1) → Outlined c.before.before.before.before.before.before.before.args.s.now c.before.before.before.outline-sheet.new.1.0 c.before.before.before.outline-sheet.result.given
@@ -64,8 +64,8 @@ returns-2 c =
           };
     }
 
-pub read-sheet-spec : {M : Type 1} → statement M
-read-sheet-spec =
+pub read_sheet_spec : {M : Type 1} → statement M
+read_sheet_spec =
     tie.close
     (tie.spec
     no-parts-requires

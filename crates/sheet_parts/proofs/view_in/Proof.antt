@@ -3,23 +3,23 @@ use native.Mathlib.Omega.{arith}
 use borrow.Author.Rules.{rules}
 use Rattle.fields.specs.Laws.Bounds.{field_in}
 use Rattle.sheet_reader.specs.Parts.{ViewIn}
-use Rattle.sheet_parts.specs.Laws.{view-place, view-here, field-short, view-content}
+use Rattle.sheet_parts.specs.Laws.{view_place, view_here, field_short, view_content}
 use Rattle.sheet_parts.proofs.view_in.Statement.{statement}
 use Rattle.sheet_parts.proofs.view_in.Tie as tie
 
 add-t7 : tie.Need-overflow-add-t7
-add-t7 c = omega (arith, view-place c.before.requires.0.1 _ c.before.requires.1)
+add-t7 c = omega (arith, view_place c.before.requires.0.1 _ c.before.requires.1)
 
 mul-t8 : tie.Need-overflow-mul-t8
-mul-t8 c = omega (arith, view-place c.before.requires.0.1 _ c.before.requires.1)
+mul-t8 c = omega (arith, view_place c.before.requires.0.1 _ c.before.requires.1)
 
 element-copy-out-t11 : tie.Need-element-copy-out-t11
-element-copy-out-t11 c = omega (arith, view-place c.before.requires.0.1 _ c.before.requires.1)
+element-copy-out-t11 c = omega (arith, view_place c.before.requires.0.1 _ c.before.requires.1)
 
 field-requires : tie.Need-field-requires
 field-requires c κs =
     let p = c.before.before.requires in
-    omega (arith, field_in _ _ _ _ _ _ (view-here p.0.1 _ p.1).field)
+    omega (arith, field_in _ _ _ _ _ _ (view_here p.0.1 _ p.1).field)
 
 enum-known-start : tie.Need-enum-known-start
 enum-known-start c = search rules
@@ -33,21 +33,21 @@ no-view-requires c κs = search rules
 returns : tie.Need-returns
 returns c =
     let p = c.before.before.before.before.before.before.requires in
-    absurd (field-short (view-here p.0.1 _ p.1).field (sym c.before.before.before.field.ensures ∙ c.before.enum_told.given.1))
+    absurd (field_short (view_here p.0.1 _ p.1).field (sym c.before.before.before.field.ensures ∙ c.before.enum_told.given.1))
 
 view-at-requires : tie.Need-view-at-requires
 view-at-requires c κs =
     let p = c.before.before.before.before.before.before.requires in
-    (view-content (sym c.before.before.before.field.ensures ∙ c.before.start.given.1) (view-here p.0.1 _ p.1)).0
+    (view_content (sym c.before.before.before.field.ensures ∙ c.before.start.given.1) (view_here p.0.1 _ p.1)).0
 
 returns-2 : tie.Need-returns-2
 returns-2 c =
     let p = c.before.before.before.before.before.before.before.requires in
     c.view-at.ensures
-    ∙ (view-content (sym c.before.before.before.before.field.ensures ∙ c.before.before.start.given.1) (view-here p.0.1 _ p.1)).1
+    ∙ (view_content (sym c.before.before.before.before.field.ensures ∙ c.before.before.start.given.1) (view_here p.0.1 _ p.1)).1
 
-pub view-in-spec : {M : Type 1} → statement M
-view-in-spec =
+pub view_in_spec : {M : Type 1} → statement M
+view_in_spec =
     tie.close
     (tie.spec
     add-t7

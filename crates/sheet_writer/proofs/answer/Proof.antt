@@ -8,5 +8,5 @@ refusal-at-requires c κs = search rules
 returns : tie.Need-returns
 returns c = rw c.refusal-at.ensures
 
-pub answer-spec : {M : Type 1} → statement M
-answer-spec = tie.close (tie.spec refusal-at-requires returns)
+pub answer_spec : {M : Type 1} → statement M
+answer_spec = tie.close (tie.spec refusal-at-requires returns)

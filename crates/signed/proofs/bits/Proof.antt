@@ -36,8 +36,8 @@ cast-result-2 c = rw (above c).read (tt, omega (arith, (above c).low))
 returns-2 : tie.Need-returns-2
 returns-2 c = rw (above c).read (sym (ap bits_of (above c).is))
 
-pub bits-spec : {M : Type 1} → statement M
-bits-spec =
+pub bits_spec : {M : Type 1} → statement M
+bits_spec =
     tie.close
     (tie.spec
     mul-x

@@ -34,7 +34,7 @@ returns c = rw ((below c).flipped, add-one) (sym (ap fall (below c).is))
 returns-2 : tie.Need-returns-2
 returns-2 c = sym (ap fall (above c).is)
 
-pub fall-spec : {M : Type 1} → statement M
-fall-spec =
+pub fall_spec : {M : Type 1} → statement M
+fall_spec =
     tie.close
     (tie.spec mul-x shared-slice-copy-out-x sub-result cast-result add-result returns returns-2)

@@ -18,5 +18,5 @@ same_length c = search rules
 returns : tie.Need-returns
 returns c = rw (to_z-of_z (record { sfits = c.signed.type-inv }), c.signed.ensures)
 
-pub put-bits-spec : {M : Type 1} → statement M
-put-bits-spec = tie.close (tie.spec signed-requires mul-t5 slice-set-from-s same_length returns)
+pub put_bits_spec : {M : Type 1} → statement M
+put_bits_spec = tie.close (tie.spec signed-requires mul-t5 slice-set-from-s same_length returns)

@@ -19,5 +19,5 @@ same_length c = search rules
 returns : tie.Need-returns
 returns c = rw (to_z_pos w32 c.requires.1)
 
-pub put-natural-spec : {M : Type 1} → statement M
-put-natural-spec = tie.close (tie.spec cast-s mul-t5 slice-set-from-s same_length returns)
+pub put_natural_spec : {M : Type 1} → statement M
+put_natural_spec = tie.close (tie.spec cast-s mul-t5 slice-set-from-s same_length returns)

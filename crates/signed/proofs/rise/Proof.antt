@@ -27,5 +27,5 @@ cast-result c = rw (above c).read (tt, omega (arith, (above c).low))
 returns-2 : tie.Need-returns-2
 returns-2 c = rw (above c).read (sym (ap rise (above c).is), (above c).low)
 
-pub rise-spec : {M : Type 1} → statement M
-rise-spec = tie.close (tie.spec mul-x shared-slice-copy-out-x returns cast-result returns-2)
+pub rise_spec : {M : Type 1} → statement M
+rise_spec = tie.close (tie.spec mul-x shared-slice-copy-out-x returns cast-result returns-2)

@@ -31,6 +31,6 @@ returns-2 c =
     let h : 2 ^ 32 - 1 - c.before.args.bits < 2 ^ 31 = omega arith in
     to_z-of_z (sub-result-2 c) ∙ rw (to_z_pos w32 h, less) (sym (upper c.before.args.bits (omega arith) (omega arith)))
 
-pub signed-spec : {M : Type 1} → statement M
-signed-spec =
+pub signed_spec : {M : Type 1} → statement M
+signed_spec =
     tie.close (tie.spec cast-result returns sub-result cast-result-2 sub-result-2 returns-2)

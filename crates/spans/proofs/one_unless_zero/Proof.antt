@@ -11,5 +11,5 @@ returns c = left _ (search tests) refl
 returns-2 : tie.Need-returns-2
 returns-2 c = taken _ (lt-ltb 0 c.before.args.index (omega arith)) refl
 
-pub one-unless-zero-spec : {M : Type 1} → statement M
-one-unless-zero-spec = tie.close (tie.spec returns returns-2)
+pub one_unless_zero_spec : {M : Type 1} → statement M
+one_unless_zero_spec = tie.close (tie.spec returns returns-2)

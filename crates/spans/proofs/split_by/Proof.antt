@@ -1,7 +1,7 @@
 use native.Mathlib.Omega.{arith}
 use mathlib.Core.Path.{sym}
 use borrow.Author.Rules.{rules}
-use Rattle.spans.proofs.Laws.{split_one, split_below, split-above}
+use Rattle.spans.proofs.Laws.{split_one, split_below, split_above}
 use Rattle.spans.proofs.split_by.Statement.{statement}
 use Rattle.spans.proofs.split_by.Tie as tie
 
@@ -21,8 +21,8 @@ div-t6 : tie.Need-nonzero-div-t6
 div-t6 c = search rules
 
 returns-3 : tie.Need-returns-3
-returns-3 c = split-above _ _ (omega arith) (omega arith)
+returns-3 c = split_above _ _ (omega arith) (omega arith)
 
-pub split-by-spec : {M : Type 1} → statement M
-split-by-spec =
+pub split_by_spec : {M : Type 1} → statement M
+split_by_spec =
     tie.close (tie.spec one-unless-zero-requires returns returns-2 rem-t5 div-t6 returns-3)

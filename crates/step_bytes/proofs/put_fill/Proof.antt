@@ -1,7 +1,7 @@
 use mathlib.Core.List.{[], ◌∷◌}
 use borrow.Author.Rules.{rules}
-use Rattle.numbers.specs.Laws.Lists.{puts-after}
-use Rattle.numbers.specs.Little.{u32Bytes}
+use Rattle.numbers.specs.Laws.Lists.{puts_after}
+use Rattle.numbers.specs.Little.{u32_bytes}
 use Rattle.step_bytes.proofs.put_fill.Statement.{statement}
 use Rattle.step_bytes.proofs.put_fill.Tie as tie
 
@@ -20,8 +20,8 @@ same_length c = search rules
 returns : tie.Need-returns
 returns c =
     let a = c.before.before.before.before.before.before.before.before.before.args in
-    puts-after a.out.now a.at (a.register ∷ a.rows ∷ a.columns ∷ a.kind ∷ []) (u32Bytes a.value) c.before.before.before.before.before.before.put_four.ensures c.before.before.put-u32.ensures
+    puts_after a.out.now a.at (a.register ∷ a.rows ∷ a.columns ∷ a.kind ∷ []) (u32_bytes a.value) c.before.before.before.before.before.before.put_four.ensures c.before.before.put-u32.ensures
 
-pub put-fill-spec : {M : Type 1} → statement M
-put-fill-spec =
+pub put_fill_spec : {M : Type 1} → statement M
+put_fill_spec =
     tie.close (tie.spec put-four-requires add-put-u32 put-u32-requires same_length returns)

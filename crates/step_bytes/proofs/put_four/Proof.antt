@@ -1,6 +1,6 @@
 use mathlib.Core.List.{[], ◌∷◌}
 use borrow.Author.Rules.{rules}
-use Rattle.numbers.specs.Laws.Lists.{puts-after}
+use Rattle.numbers.specs.Laws.Lists.{puts_after}
 use Rattle.step_bytes.proofs.put_four.Statement.{statement}
 use Rattle.step_bytes.proofs.put_four.Tie as tie
 
@@ -19,8 +19,8 @@ same_length c = search rules
 returns : tie.Need-returns
 returns c =
     let a = c.before.before.before.before.before.before.before.before.before.args in
-    puts-after a.out.now a.at (a.a ∷ a.b ∷ []) (a.c ∷ a.d ∷ []) c.before.before.before.before.before.before.put-pair.ensures c.before.before.put-pair2.ensures
+    puts_after a.out.now a.at (a.a ∷ a.b ∷ []) (a.c ∷ a.d ∷ []) c.before.before.before.before.before.before.put-pair.ensures c.before.before.put-pair2.ensures
 
-pub put-four-spec : {M : Type 1} → statement M
-put-four-spec =
+pub put_four_spec : {M : Type 1} → statement M
+put_four_spec =
     tie.close (tie.spec put-pair-requires add-put-pair put-pair-requires-2 same_length returns)

@@ -1,8 +1,8 @@
 use mathlib.Core.List.{[], ◌∷◌}
 use borrow.Author.Rules.{rules}
-use Rattle.numbers.specs.Laws.Lists.{puts-after}
-use Rattle.sheet.specs.Codes.{objectCode}
-use Rattle.step_bytes.specs.Bytes.{windowBytes}
+use Rattle.numbers.specs.Laws.Lists.{puts_after}
+use Rattle.sheet.specs.Codes.{object_code}
+use Rattle.step_bytes.specs.Bytes.{window_bytes}
 use Rattle.step_bytes.proofs.put_load.Statement.{statement}
 use Rattle.step_bytes.proofs.put_load.Tie as tie
 
@@ -24,12 +24,12 @@ same_length c = search rules
 returns : tie.Need-returns
 returns c =
     let a = c.before.before.before.before.before.before.before.before.before.before.args in
-    puts-after a.out.now a.at (a.register ∷ objectCode a.object ∷ []) (windowBytes a.window)
+    puts_after a.out.now a.at (a.register ∷ object_code a.object ∷ []) (window_bytes a.window)
     (rw c.before.before.before.before.before.before.before.object-code.ensures at c.before.before.before.before.before.before.put-pair.ensures)
     c.before.before.put-window.ensures
 
-pub put-load-spec : {M : Type 1} → statement M
-put-load-spec =
+pub put_load_spec : {M : Type 1} → statement M
+put_load_spec =
     tie.close
     (tie.spec
     object-code-requires

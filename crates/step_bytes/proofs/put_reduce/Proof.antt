@@ -1,7 +1,7 @@
 use mathlib.Core.List.{[], ◌∷◌}
 use borrow.Author.Rules.{rules}
-use Rattle.numbers.specs.Laws.Lists.{puts-after}
-use Rattle.sheet.specs.Codes.{reduceCode, combineCode}
+use Rattle.numbers.specs.Laws.Lists.{puts_after}
+use Rattle.sheet.specs.Codes.{reduce_code, combine_code}
 use Rattle.step_bytes.proofs.put_reduce.Statement.{statement}
 use Rattle.step_bytes.proofs.put_reduce.Tie as tie
 
@@ -26,12 +26,12 @@ same_length c = search rules
 returns : tie.Need-returns
 returns c =
     let a = c.before.before.before.before.before.before.before.before.before.before.before.args in
-    puts-after a.out.now a.at (a.result ∷ a.source ∷ a.rows ∷ a.columns ∷ []) (reduceCode a.mode ∷ combineCode a.combine ∷ [])
+    puts_after a.out.now a.at (a.result ∷ a.source ∷ a.rows ∷ a.columns ∷ []) (reduce_code a.mode ∷ combine_code a.combine ∷ [])
     c.before.before.before.before.before.before.before.before.put_four.ensures
     (rw (c.before.before.before.before.reduce-code.ensures, c.before.before.before.combine-code.ensures) at c.before.before.put-pair.ensures)
 
-pub put-reduce-spec : {M : Type 1} → statement M
-put-reduce-spec =
+pub put_reduce_spec : {M : Type 1} → statement M
+put_reduce_spec =
     tie.close
     (tie.spec
     put-four-requires

@@ -45,8 +45,8 @@ same-length-3 c = search rules
 returns-4 : tie.Need-returns-4
 returns-4 c = rw c.before.before.before.before.before.s3.given.1 c.before.before.put-whole-content.ensures
 
-pub put-step-content-spec : {M : Type 1} → statement M
-put-step-content-spec =
+pub put_step_content_spec : {M : Type 1} → statement M
+put_step_content_spec =
     tie.close
     (tie.spec
     enum_told

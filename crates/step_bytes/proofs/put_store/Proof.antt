@@ -1,7 +1,7 @@
 use mathlib.Core.List.{[], ◌∷◌}
 use borrow.Author.Rules.{rules}
-use Rattle.numbers.specs.Laws.Lists.{puts-after}
-use Rattle.step_bytes.specs.Bytes.{windowBytes}
+use Rattle.numbers.specs.Laws.Lists.{puts_after}
+use Rattle.step_bytes.specs.Bytes.{window_bytes}
 use Rattle.step_bytes.proofs.put_store.Statement.{statement}
 use Rattle.step_bytes.proofs.put_store.Tie as tie
 
@@ -20,8 +20,8 @@ same_length c = search rules
 returns : tie.Need-returns
 returns c =
     let a = c.before.before.before.before.before.before.before.before.before.args in
-    puts-after a.out.now a.at (a.register ∷ []) (windowBytes a.window) c.before.before.before.before.before.before.put_byte.ensures c.before.before.put-window.ensures
+    puts_after a.out.now a.at (a.register ∷ []) (window_bytes a.window) c.before.before.before.before.before.before.put_byte.ensures c.before.before.put-window.ensures
 
-pub put-store-spec : {M : Type 1} → statement M
-put-store-spec =
+pub put_store_spec : {M : Type 1} → statement M
+put_store_spec =
     tie.close (tie.spec put-byte-requires add-put-window put-window-requires same_length returns)

@@ -1,6 +1,6 @@
 use borrow.Author.Rules.{rules}
-use Rattle.numbers.specs.Laws.Lists.{puts-after}
-use Rattle.step_bytes.specs.Bytes.{vectorOperands, vectorPlaces}
+use Rattle.numbers.specs.Laws.Lists.{puts_after}
+use Rattle.step_bytes.specs.Bytes.{vector_operands, vector_places}
 use Rattle.step_bytes.proofs.put_vector.Statement.{statement}
 use Rattle.step_bytes.proofs.put_vector.Tie as tie
 
@@ -19,10 +19,10 @@ same_length c = search rules
 returns : tie.Need-returns
 returns c =
     let a = c.before.before.before.before.before.before.before.before.before.args in
-    puts-after a.out.now a.at (vectorOperands a.v) (vectorPlaces a.v) c.before.before.before.before.before.before.put-vector-operands.ensures c.before.before.put-vector-places.ensures
+    puts_after a.out.now a.at (vector_operands a.v) (vector_places a.v) c.before.before.before.before.before.before.put-vector-operands.ensures c.before.before.put-vector-places.ensures
 
-pub put-vector-spec : {M : Type 1} → statement M
-put-vector-spec =
+pub put_vector_spec : {M : Type 1} → statement M
+put_vector_spec =
     tie.close
     (tie.spec
     put-vector-operands-requires

@@ -1,7 +1,7 @@
 use mathlib.Core.List.{[], ◌∷◌}
 use borrow.Author.Rules.{rules}
-use Rattle.numbers.specs.Laws.Lists.{puts-after}
-use Rattle.sheet.specs.Codes.{memoryLayoutCode}
+use Rattle.numbers.specs.Laws.Lists.{puts_after}
+use Rattle.sheet.specs.Codes.{memory_layout_code}
 use Rattle.step_bytes.proofs.put_vector_operands.Statement.{statement}
 use Rattle.step_bytes.proofs.put_vector_operands.Tie as tie
 
@@ -24,12 +24,12 @@ returns : tie.Need-returns
 returns c =
     let a = c.before.before.before.before.before.before.before.before.before.before.args in
     let v = a.v in
-    puts-after a.out.now a.at (v.result ∷ v.kind ∷ v.input ∷ v.interpretation ∷ []) (v.matrix ∷ v.rows ∷ v.columns ∷ memoryLayoutCode v.layout ∷ [])
+    puts_after a.out.now a.at (v.result ∷ v.kind ∷ v.input ∷ v.interpretation ∷ []) (v.matrix ∷ v.rows ∷ v.columns ∷ memory_layout_code v.layout ∷ [])
     c.before.before.before.before.before.before.before.put_four.ensures
     (rw c.before.before.before.memory-layout-code.ensures at c.before.before.put-four2.ensures)
 
-pub put-vector-operands-spec : {M : Type 1} → statement M
-put-vector-operands-spec =
+pub put_vector_operands_spec : {M : Type 1} → statement M
+put_vector_operands_spec =
     tie.close
     (tie.spec
     put-four-requires

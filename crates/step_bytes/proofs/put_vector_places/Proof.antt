@@ -1,7 +1,7 @@
 use mathlib.Core.List.{[], ◌∷◌, ◌++◌}
 use borrow.Author.Rules.{rules}
-use Rattle.numbers.specs.Laws.Lists.{puts-after}
-use Rattle.numbers.specs.Little.{u16Bytes, u32Bytes}
+use Rattle.numbers.specs.Laws.Lists.{puts_after}
+use Rattle.numbers.specs.Little.{u16_bytes, u32_bytes}
 use Rattle.sheet.specs.Codes.{flag_code}
 use Rattle.step_bytes.proofs.put_vector_places.Statement.{statement}
 use Rattle.step_bytes.proofs.put_vector_places.Tie as tie
@@ -40,16 +40,16 @@ returns c =
     let stride = offset.before.before.before.before in
     let a = stride.before.before.before.args in
     let l = a.out.now in
-    let x = u16Bytes a.v.stride in
-    let y = u32Bytes a.v.offset in
+    let x = u16_bytes a.v.stride in
+    let y = u32_bytes a.v.offset in
     let z = flag_code a.v.biased ∷ [] in
-    puts-after l a.at (x ++ y ++ z) (u32Bytes a.v.bias)
-    (puts-after l a.at (x ++ y) z (puts-after l a.at x y stride.put-u16.ensures offset.put-u32.ensures)
+    puts_after l a.at (x ++ y ++ z) (u32_bytes a.v.bias)
+    (puts_after l a.at (x ++ y) z (puts_after l a.at x y stride.put-u16.ensures offset.put-u32.ensures)
     (rw byte.before.flag-code.ensures at byte.put_byte.ensures))
     c.before.before.put-u322.ensures
 
-pub put-vector-places-spec : {M : Type 1} → statement M
-put-vector-places-spec =
+pub put_vector_places_spec : {M : Type 1} → statement M
+put_vector_places_spec =
     tie.close
     (tie.spec
     put-u16-requires

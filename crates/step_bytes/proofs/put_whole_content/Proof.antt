@@ -63,8 +63,8 @@ same-length-5 c = search rules
 returns-5 : tie.Need-returns-5
 returns-5 c = rw c.before.before.before.before.before.s5.given.1 c.before.before.put_vector.ensures
 
-pub put-whole-content-spec : {M : Type 1} → statement M
-put-whole-content-spec =
+pub put_whole_content_spec : {M : Type 1} → statement M
+put_whole_content_spec =
     tie.close
     (tie.spec
     enum-known-s

@@ -1,8 +1,8 @@
 use mathlib.Core.List.{[], ◌∷◌}
 use borrow.Author.Rules.{rules}
-use Rattle.numbers.specs.Laws.Lists.{puts-after}
-use Rattle.numbers.specs.Little.{u32Bytes}
-use Rattle.sheet.specs.Codes.{viewingCode}
+use Rattle.numbers.specs.Laws.Lists.{puts_after}
+use Rattle.numbers.specs.Little.{u32_bytes}
+use Rattle.sheet.specs.Codes.{viewing_code}
 use Rattle.step_bytes.proofs.put_window.Statement.{statement}
 use Rattle.step_bytes.proofs.put_window.Tie as tie
 
@@ -24,12 +24,12 @@ same_length c = search rules
 returns : tie.Need-returns
 returns c =
     let a = c.before.before.before.before.before.before.before.before.before.before.args in
-    puts-after a.out.now a.at (a.w.layout ∷ viewingCode a.w.view ∷ []) (u32Bytes a.w.base)
+    puts_after a.out.now a.at (a.w.layout ∷ viewing_code a.w.view ∷ []) (u32_bytes a.w.base)
     (rw c.before.before.before.before.before.before.before.viewing-code.ensures at c.before.before.before.before.before.before.put-pair.ensures)
     c.before.before.put-u32.ensures
 
-pub put-window-spec : {M : Type 1} → statement M
-put-window-spec =
+pub put_window_spec : {M : Type 1} → statement M
+put_window_spec =
     tie.close
     (tie.spec
     viewing-code-requires

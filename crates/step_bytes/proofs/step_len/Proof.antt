@@ -29,8 +29,8 @@ returns-3 c = search rules
 returns-4 : tie.Need-returns-4
 returns-4 c = rw c.before.before.s.given.1 c.whole-len.ensures
 
-pub step-len-spec : {M : Type 1} → statement M
-step-len-spec =
+pub step_len_spec : {M : Type 1} → statement M
+step_len_spec =
     tie.close
     (tie.spec
     enum_told

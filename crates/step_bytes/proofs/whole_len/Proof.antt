@@ -1,6 +1,6 @@
 use native.Mathlib.Omega.{arith}
 use borrow.Author.Rules.{rules}
-use Rattle.sheet.specs.Editions.{fillLength}
+use Rattle.sheet.specs.Editions.{fill_length}
 use Rattle.step_bytes.proofs.whole_len.Statement.{statement}
 use Rattle.step_bytes.proofs.whole_len.Tie as tie
 
@@ -11,7 +11,7 @@ fill-length-requires : tie.Need-fill-length-requires
 fill-length-requires c κs = search rules
 
 cast-result : tie.Need-overflow-cast-result
-unfolding fillLength
+unfolding fill_length
 cast-result c = omega arith
 
 enum-told-2 : tie.Need-enum-told-2
@@ -27,7 +27,7 @@ enum-told-5 : tie.Need-enum-told-5
 enum-told-5 c = search rules
 
 returns : tie.Need-returns
-unfolding fillLength
+unfolding fill_length
 returns c = rw c.before.enum_told.given.1 c.fill-length.ensures
 
 returns-2 : tie.Need-returns-2
@@ -42,8 +42,8 @@ returns-4 c = search rules
 returns-5 : tie.Need-returns-5
 returns-5 c = search rules
 
-pub whole-len-spec : {M : Type 1} → statement M
-whole-len-spec =
+pub whole_len_spec : {M : Type 1} → statement M
+whole_len_spec =
     tie.close
     (tie.spec
     enum_told

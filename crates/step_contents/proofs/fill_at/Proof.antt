@@ -1,7 +1,7 @@
 use mathlib.Core.Path.{refl}
-use Rattle.numbers.specs.Laws.Choice.{went-not, went-past}
-use Rattle.step_contents.specs.Contents.{fillAt}
-use Rattle.step_contents.specs.Laws.Judged.{judged-none, judged-some}
+use Rattle.numbers.specs.Laws.Choice.{went_not, went_past}
+use Rattle.step_contents.specs.Contents.{fill_at}
+use Rattle.step_contents.specs.Laws.Judged.{judged_none, judged_some}
 use borrow.Author.Rules.{rules}
 use Rattle.step_contents.proofs.fill_at.Statement.{statement}
 use Rattle.step_contents.proofs.fill_at.Tie as tie
@@ -37,15 +37,15 @@ fill-ok-requires : tie.Need-fill-ok-requires
 fill-ok-requires c κs = search rules
 
 returns : tie.Need-returns
-unfolding fillAt
-returns c layouts views = rw (← c.before.before.u32-at.ensures) (judged-none _ _ _ refl (went-not c.before.fill-ok.ensures c.if1.true))
+unfolding fill_at
+returns c layouts views = rw (← c.before.before.u32-at.ensures) (judged_none _ _ _ refl (went_not c.before.fill-ok.ensures c.if1.true))
 
 returns-2 : tie.Need-returns-2
-unfolding fillAt
-returns-2 c layouts views = rw (← c.before.before.u32-at.ensures) (judged-some _ _ _ refl (went-past c.before.fill-ok.ensures c.if1.false))
+unfolding fill_at
+returns-2 c layouts views = rw (← c.before.before.u32-at.ensures) (judged_some _ _ _ refl (went_past c.before.fill-ok.ensures c.if1.false))
 
-pub fill-at-spec : {M : Type 1} → statement M
-fill-at-spec =
+pub fill_at_spec : {M : Type 1} → statement M
+fill_at_spec =
     tie.close
     (tie.spec
     shared-slice-read-register

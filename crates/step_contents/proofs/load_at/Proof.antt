@@ -1,7 +1,7 @@
 use mathlib.Core.Path.{refl}
-use Rattle.numbers.specs.Laws.Choice.{went-not, went-past}
-use Rattle.step_contents.specs.Contents.{loadAt}
-use Rattle.step_contents.specs.Laws.Judged.{judged-none, judged-some}
+use Rattle.numbers.specs.Laws.Choice.{went_not, went_past}
+use Rattle.step_contents.specs.Contents.{load_at}
+use Rattle.step_contents.specs.Laws.Judged.{judged_none, judged_some}
 use borrow.Author.Rules.{rules}
 use Rattle.step_contents.proofs.load_at.Statement.{statement}
 use Rattle.step_contents.proofs.load_at.Tie as tie
@@ -31,15 +31,15 @@ load-ok-requires : tie.Need-load-ok-requires
 load-ok-requires c κs = search rules
 
 returns : tie.Need-returns
-unfolding loadAt
-returns c = rw (← c.before.before.before.before.before.no-object.ensures, ← c.before.before.before.object_of.ensures, ← c.before.before.window-at.ensures) (judged-none _ _ _ refl (went-not c.before.load_ok.ensures c.if1.true))
+unfolding load_at
+returns c = rw (← c.before.before.before.before.before.no-object.ensures, ← c.before.before.before.object_of.ensures, ← c.before.before.window-at.ensures) (judged_none _ _ _ refl (went_not c.before.load_ok.ensures c.if1.true))
 
 returns-2 : tie.Need-returns-2
-unfolding loadAt
-returns-2 c = rw (← c.before.before.before.before.before.no-object.ensures, ← c.before.before.before.object_of.ensures, ← c.before.before.window-at.ensures) (judged-some _ _ _ refl (went-past c.before.load_ok.ensures c.if1.false))
+unfolding load_at
+returns-2 c = rw (← c.before.before.before.before.before.no-object.ensures, ← c.before.before.before.object_of.ensures, ← c.before.before.window-at.ensures) (judged_some _ _ _ refl (went_past c.before.load_ok.ensures c.if1.false))
 
-pub load-at-spec : {M : Type 1} → statement M
-load-at-spec =
+pub load_at_spec : {M : Type 1} → statement M
+load_at_spec =
     tie.close
     (tie.spec
     shared-slice-read-register

@@ -1,7 +1,7 @@
 use mathlib.Core.Path.{refl}
-use Rattle.numbers.specs.Laws.Choice.{went-not, went-past}
-use Rattle.step_contents.specs.Contents.{multiplyAt}
-use Rattle.step_contents.specs.Laws.Judged.{judged-none, judged-some}
+use Rattle.numbers.specs.Laws.Choice.{went_not, went_past}
+use Rattle.step_contents.specs.Contents.{multiply_at}
+use Rattle.step_contents.specs.Laws.Judged.{judged_none, judged_some}
 use borrow.Author.Rules.{rules}
 use Rattle.step_contents.proofs.multiply_at.Statement.{statement}
 use Rattle.step_contents.proofs.multiply_at.Tie as tie
@@ -31,15 +31,15 @@ multiply-ok-requires : tie.Need-multiply-ok-requires
 multiply-ok-requires c κs = search rules
 
 returns : tie.Need-returns
-unfolding multiplyAt
-returns c edition layouts views = judged-none _ _ _ refl (went-not c.before.multiply-ok.ensures c.if1.true)
+unfolding multiply_at
+returns c edition layouts views = judged_none _ _ _ refl (went_not c.before.multiply-ok.ensures c.if1.true)
 
 returns-2 : tie.Need-returns-2
-unfolding multiplyAt
-returns-2 c edition layouts views = judged-some _ _ _ refl (went-past c.before.multiply-ok.ensures c.if1.false)
+unfolding multiply_at
+returns-2 c edition layouts views = judged_some _ _ _ refl (went_past c.before.multiply-ok.ensures c.if1.false)
 
-pub multiply-at-spec : {M : Type 1} → statement M
-multiply-at-spec =
+pub multiply_at_spec : {M : Type 1} → statement M
+multiply_at_spec =
     tie.close
     (tie.spec
     shared-slice-read-result

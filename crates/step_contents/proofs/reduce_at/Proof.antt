@@ -1,7 +1,7 @@
 use mathlib.Core.Path.{refl}
-use Rattle.numbers.specs.Laws.Choice.{tests, taken, left, went-not, went-past}
-use Rattle.step_contents.specs.Contents.{reduceAt}
-use Rattle.step_contents.specs.Laws.Judged.{judged-nothing, judged-none, judged-some}
+use Rattle.numbers.specs.Laws.Choice.{tests, taken, left, went_not, went_past}
+use Rattle.step_contents.specs.Contents.{reduce_at}
+use Rattle.step_contents.specs.Laws.Judged.{judged_nothing, judged_none, judged_some}
 use borrow.Author.Rules.{rules}
 use Rattle.step_contents.proofs.reduce_at.Statement.{statement}
 use Rattle.step_contents.proofs.reduce_at.Tie as tie
@@ -28,13 +28,13 @@ between-requires : tie.Need-between-requires
 between-requires c κs = search rules
 
 returns : tie.Need-returns
-unfolding reduceAt
-returns c layouts views = judged-nothing _ _ _ (left _ (rw (← c.before.before.wide.ensures.0) (search tests)) refl)
+unfolding reduce_at
+returns c layouts views = judged_nothing _ _ _ (left _ (rw (← c.before.before.wide.ensures.0) (search tests)) refl)
 
 returns-2 : tie.Need-returns-2
-unfolding reduceAt
+unfolding reduce_at
 returns-2 c layouts views =
-    judged-nothing _ _ _ (taken _ (rw (← c.before.before.before.wide.ensures.0) (search tests)) (left _ (search tests) refl))
+    judged_nothing _ _ _ (taken _ (rw (← c.before.before.before.wide.ensures.0) (search tests)) (left _ (search tests) refl))
 
 shared-slice-read-result : tie.Need-shared-slice-read-result
 shared-slice-read-result c = search rules
@@ -61,10 +61,10 @@ reduce-ok-requires : tie.Need-reduce-ok-requires
 reduce-ok-requires c κs = search rules
 
 returns-3 : tie.Need-returns-3
-unfolding reduceAt
+unfolding reduce_at
 returns-3 c layouts views =
-    judged-none _ _ _ (taken _ (rw (← c.before.before.before.before.before.before.before.before.before.wide.ensures.0) (search tests)) (taken _ (search tests) refl))
-    (went-not c.before.reduce-ok.ensures c.if3.true)
+    judged_none _ _ _ (taken _ (rw (← c.before.before.before.before.before.before.before.before.before.wide.ensures.0) (search tests)) (taken _ (search tests) refl))
+    (went_not c.before.reduce-ok.ensures c.if3.true)
 
 reduce-mode-requires : tie.Need-reduce-mode-requires
 reduce-mode-requires c κs = search rules
@@ -73,13 +73,13 @@ combine-of-requires : tie.Need-combine-of-requires
 combine-of-requires c κs = search rules
 
 returns-4 : tie.Need-returns-4
-unfolding reduceAt
+unfolding reduce_at
 returns-4 c layouts views =
-    judged-some _ _ _ (taken _ (rw (← c.before.before.before.before.before.before.before.before.before.before.before.wide.ensures.0) (search tests)) (taken _ (search tests) (cc)))
-    (went-past c.before.before.before.reduce-ok.ensures c.before.before.if3.false)
+    judged_some _ _ _ (taken _ (rw (← c.before.before.before.before.before.before.before.before.before.before.before.wide.ensures.0) (search tests)) (taken _ (search tests) (cc)))
+    (went_past c.before.before.before.reduce-ok.ensures c.before.before.if3.false)
 
-pub reduce-at-spec : {M : Type 1} → statement M
-reduce-at-spec =
+pub reduce_at_spec : {M : Type 1} → statement M
+reduce_at_spec =
     tie.close
     (tie.spec
     add-mode

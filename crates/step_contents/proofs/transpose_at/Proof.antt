@@ -1,7 +1,7 @@
 use mathlib.Core.Path.{refl}
-use Rattle.numbers.specs.Laws.Choice.{went-not, went-past}
-use Rattle.step_contents.specs.Contents.{transposeAt}
-use Rattle.step_contents.specs.Laws.Judged.{judged-none, judged-some}
+use Rattle.numbers.specs.Laws.Choice.{went_not, went_past}
+use Rattle.step_contents.specs.Contents.{transpose_at}
+use Rattle.step_contents.specs.Laws.Judged.{judged_none, judged_some}
 use borrow.Author.Rules.{rules}
 use Rattle.step_contents.proofs.transpose_at.Statement.{statement}
 use Rattle.step_contents.proofs.transpose_at.Tie as tie
@@ -19,15 +19,15 @@ transpose-ok-requires : tie.Need-transpose-ok-requires
 transpose-ok-requires c κs = search rules
 
 returns : tie.Need-returns
-unfolding transposeAt
-returns c edition layouts views = judged-none _ _ _ refl (went-not c.before.transpose_Ok.ensures c.if1.true)
+unfolding transpose_at
+returns c edition layouts views = judged_none _ _ _ refl (went_not c.before.transpose_Ok.ensures c.if1.true)
 
 returns-2 : tie.Need-returns-2
-unfolding transposeAt
-returns-2 c edition layouts views = judged-some _ _ _ refl (went-past c.before.transpose_Ok.ensures c.if1.false)
+unfolding transpose_at
+returns-2 c edition layouts views = judged_some _ _ _ refl (went_past c.before.transpose_Ok.ensures c.if1.false)
 
-pub transpose-at-spec : {M : Type 1} → statement M
-transpose-at-spec =
+pub transpose_at_spec : {M : Type 1} → statement M
+transpose_at_spec =
     tie.close
     (tie.spec
     shared-slice-read-result

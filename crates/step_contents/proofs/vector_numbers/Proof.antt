@@ -1,4 +1,4 @@
-use Rattle.step_contents.specs.Contents.{vectorNumbers}
+use Rattle.step_contents.specs.Contents.{vector_numbers}
 use borrow.Author.Rules.{rules}
 use Rattle.step_contents.proofs.vector_numbers.Statement.{statement}
 use Rattle.step_contents.proofs.vector_numbers.Tie as tie
@@ -76,12 +76,12 @@ u32-at-requires-2 : tie.Need-u32-at-requires-2
 u32-at-requires-2 c κs = search rules
 
 returns : tie.Need-returns
-unfolding vectorNumbers
+unfolding vector_numbers
 returns c =
     rw (c.before.before.before.before.before.before.before.before.before.before.before.memory-layout.ensures, c.before.before.before.u16-at.ensures, c.before.before.u32-at.ensures, c.u32-at2.ensures)
 
-pub vector-numbers-spec : {M : Type 1} → statement M
-vector-numbers-spec =
+pub vector_numbers_spec : {M : Type 1} → statement M
+vector_numbers_spec =
     tie.close
     (tie.spec
     add-memory-layout

@@ -1,4 +1,4 @@
-use Rattle.step_contents.specs.Contents.{windowAt}
+use Rattle.step_contents.specs.Contents.{window_at}
 use borrow.Author.Rules.{rules}
 use Rattle.step_contents.proofs.window_at.Statement.{statement}
 use Rattle.step_contents.proofs.window_at.Tie as tie
@@ -22,11 +22,11 @@ u32-at-requires : tie.Need-u32-at-requires
 u32-at-requires c κs = search rules
 
 returns : tie.Need-returns
-unfolding windowAt
+unfolding window_at
 returns c = cc
 
-pub window-at-spec : {M : Type 1} → statement M
-window-at-spec =
+pub window_at_spec : {M : Type 1} → statement M
+window_at_spec =
     tie.close
     (tie.spec
     add-viewing-of

@@ -5,11 +5,11 @@ use Rattle.std.proofs.Common.{◌∙◌, arith}
 use Rattle.std.proofs.Math.Bool.{not}
 use borrow.Author.Tests.{lt-ltb, ltb-true, eqb-false, not-true}
 use Rattle.numbers.specs.Choice.{pick, both}
-use Rattle.numbers.specs.Laws.Choice.{both_left, both_right, between-low, between-high}
-use Rattle.numbers.specs.Laws.All.{all-at}
-use Rattle.sheet.specs.Sizes.{rankPlaces, rankOk, sizeLimit, sizeOk, offsetOk}
-use Rattle.tensor_ranges.specs.Layouts.{theDimension, dimensionOk, dimensionAtOk, dimensionsOk, layoutOk}
-use Rattle.tensor_ranges.specs.Views.{theViewDimension, fresh, entryOk, permutationOk, viewDimensionAtOk, viewDimensionsOk, sizedRank, viewOk}
+use Rattle.numbers.specs.Laws.Choice.{both_left, both_right, between_low, between_high}
+use Rattle.numbers.specs.Laws.All.{all_at}
+use Rattle.sheet.specs.Sizes.{rank_places, rank_ok, size_limit, size_ok, offset_ok}
+use Rattle.tensor_ranges.specs.Layouts.{the_dimension, dimension_ok, dimension_at_ok, dimensions_ok, layout_ok}
+use Rattle.tensor_ranges.specs.Views.{the_view_dimension, fresh, entry_ok, permutation_ok, view_dimension_at_ok, view_dimensions_ok, sized_rank, view_ok}
 use Rattle.sheet.specs.declared.Dimension.{Dimension}
 use Rattle.sheet.specs.declared.Layout.{Layout}
 use Rattle.sheet.specs.declared.View.{View}
@@ -17,97 +17,97 @@ use Rattle.sheet.specs.declared.View.{View}
 -- a number from 1 to 4,096
 pub record InSize (x : ℕ) : Type 0 where
   pub some : 0 < x
-  pub most : x ≤ sizeLimit
+  pub most : x ≤ size_limit
 
-in_size : (x : ℕ) → sizeOk x ≡ true → InSize x
-in_size x e = record { some = between-low 1 sizeLimit x e; most = between-high 1 sizeLimit x e }
+in_size : (x : ℕ) → size_ok x ≡ true → InSize x
+in_size x e = record { some = between_low 1 size_limit x e; most = between_high 1 size_limit x e }
 
-taken-way : {A : Type 0} {b : Bool} (x y : A) → b ≡ true → pick b x y ≡ x
+taken_way : {A : Type 0} {b : Bool} (x y : A) → b ≡ true → pick b x y ≡ x
 unfolding pick
-taken-way x y e = rw e
+taken_way x y e = rw e
 
 -- a layout's count of dimensions, and the numbers of each dimension
-module _ (l : Layout) (ok : layoutOk l ≡ true) where
-  pub layout-some : 0 < l.rank
-  unfolding layoutOk
-  layout-some = between-low 1 rankPlaces l.rank (both_left (rankOk l.rank) (dimensionsOk l.rank l.dimensions) ok)
+module _ (l : Layout) (ok : layout_ok l ≡ true) where
+  pub layout_some : 0 < l.rank
+  unfolding layout_ok
+  layout_some = between_low 1 rank_places l.rank (both_left (rank_ok l.rank) (dimensions_ok l.rank l.dimensions) ok)
 
-  pub layout-most : l.rank ≤ rankPlaces
-  unfolding layoutOk
-  layout-most = between-high 1 rankPlaces l.rank (both_left (rankOk l.rank) (dimensionsOk l.rank l.dimensions) ok)
+  pub layout_most : l.rank ≤ rank_places
+  unfolding layout_ok
+  layout_most = between_high 1 rank_places l.rank (both_left (rank_ok l.rank) (dimensions_ok l.rank l.dimensions) ok)
 
   module _ (i : ℕ) (h : i < l.rank) where
     abbrev the : Dimension
-    the = theDimension l.dimensions i
+    the = the_dimension l.dimensions i
 
-    layout-dimension : dimensionOk the ≡ true
-    unfolding layoutOk dimensionAtOk
-    layout-dimension =
-        sym (taken-way _ _ (lt-ltb i l.rank h))
-        ∙ all-at rankPlaces (dimensionAtOk l.rank l.dimensions) (both_right (rankOk l.rank) (dimensionsOk l.rank l.dimensions) ok) i
-        (omega (arith, layout-most))
+    layout_dimension : dimension_ok the ≡ true
+    unfolding layout_ok dimension_at_ok
+    layout_dimension =
+        sym (taken_way _ _ (lt-ltb i l.rank h))
+        ∙ all_at rank_places (dimension_at_ok l.rank l.dimensions) (both_right (rank_ok l.rank) (dimensions_ok l.rank l.dimensions) ok) i
+        (omega (arith, layout_most))
 
-    pub layout-block : InSize (theDimension l.dimensions i).block
-    unfolding dimensionOk
-    layout-block =
+    pub layout_block : InSize (the_dimension l.dimensions i).block
+    unfolding dimension_ok
+    layout_block =
         in_size the.block
-        (both_left (sizeOk the.block) (both (sizeOk the.size) (both (offsetOk the.offset) (sizeOk the.span))) layout-dimension)
+        (both_left (size_ok the.block) (both (size_ok the.size) (both (offset_ok the.offset) (size_ok the.span))) layout_dimension)
 
-    past-block : both (sizeOk the.size) (both (offsetOk the.offset) (sizeOk the.span)) ≡ true
-    unfolding dimensionOk
-    past-block =
-        both_right (sizeOk the.block) (both (sizeOk the.size) (both (offsetOk the.offset) (sizeOk the.span))) layout-dimension
+    past_block : both (size_ok the.size) (both (offset_ok the.offset) (size_ok the.span)) ≡ true
+    unfolding dimension_ok
+    past_block =
+        both_right (size_ok the.block) (both (size_ok the.size) (both (offset_ok the.offset) (size_ok the.span))) layout_dimension
 
-    pub layout-size : InSize (theDimension l.dimensions i).size
-    layout-size = in_size the.size (both_left (sizeOk the.size) (both (offsetOk the.offset) (sizeOk the.span)) past-block)
+    pub layout_size : InSize (the_dimension l.dimensions i).size
+    layout_size = in_size the.size (both_left (size_ok the.size) (both (offset_ok the.offset) (size_ok the.span)) past_block)
 
-    pub layout-span : InSize (theDimension l.dimensions i).span
-    layout-span =
+    pub layout_span : InSize (the_dimension l.dimensions i).span
+    layout_span =
         in_size the.span
-        (both_right (offsetOk the.offset) (sizeOk the.span) (both_right (sizeOk the.size) (both (offsetOk the.offset) (sizeOk the.span)) past-block))
+        (both_right (offset_ok the.offset) (size_ok the.span) (both_right (size_ok the.size) (both (offset_ok the.offset) (size_ok the.span)) past_block))
 
 -- a view's count of dimensions, its permutation entries, and the view dimensions of one that has them
-module _ (v : View) (ok : viewOk v ≡ true) where
-  abbrev sizedOk : Bool
-  sizedOk = viewDimensionsOk (sizedRank v.sized v.rank) v.dimensions
+module _ (v : View) (ok : view_ok v ≡ true) where
+  abbrev sized_ok : Bool
+  sized_ok = view_dimensions_ok (sized_rank v.sized v.rank) v.dimensions
 
-  pub view-some : 0 < v.rank
-  unfolding viewOk
-  view-some = between-low 1 rankPlaces v.rank (both_left (rankOk v.rank) (both (permutationOk v.rank v.permutation) sizedOk) ok)
+  pub view_some : 0 < v.rank
+  unfolding view_ok
+  view_some = between_low 1 rank_places v.rank (both_left (rank_ok v.rank) (both (permutation_ok v.rank v.permutation) sized_ok) ok)
 
-  pub view-most : v.rank ≤ rankPlaces
-  unfolding viewOk
-  view-most = between-high 1 rankPlaces v.rank (both_left (rankOk v.rank) (both (permutationOk v.rank v.permutation) sizedOk) ok)
+  pub view_most : v.rank ≤ rank_places
+  unfolding view_ok
+  view_most = between_high 1 rank_places v.rank (both_left (rank_ok v.rank) (both (permutation_ok v.rank v.permutation) sized_ok) ok)
 
-  past-rank : both (permutationOk v.rank v.permutation) sizedOk ≡ true
-  unfolding viewOk
-  past-rank = both_right (rankOk v.rank) (both (permutationOk v.rank v.permutation) sizedOk) ok
+  past_rank : both (permutation_ok v.rank v.permutation) sized_ok ≡ true
+  unfolding view_ok
+  past_rank = both_right (rank_ok v.rank) (both (permutation_ok v.rank v.permutation) sized_ok) ok
 
   module _ (k : ℕ) (h : k < v.rank) where
-    entry-given : both (ltb (get_or v.permutation k 0) v.rank) (fresh v.permutation k) ≡ true
-    unfolding entryOk
-    entry-given =
-        sym (taken-way _ _ (lt-ltb k v.rank h))
-        ∙ all-at rankPlaces (entryOk v.rank v.permutation) (both_left (permutationOk v.rank v.permutation) sizedOk past-rank) k
-        (omega (arith, view-most))
+    entry_given : both (ltb (get_or v.permutation k 0) v.rank) (fresh v.permutation k) ≡ true
+    unfolding entry_ok
+    entry_given =
+        sym (taken_way _ _ (lt-ltb k v.rank h))
+        ∙ all_at rank_places (entry_ok v.rank v.permutation) (both_left (permutation_ok v.rank v.permutation) sized_ok past_rank) k
+        (omega (arith, view_most))
 
-    pub view-entry : get_or v.permutation k 0 < v.rank
-    view-entry =
+    pub view_entry : get_or v.permutation k 0 < v.rank
+    view_entry =
         ltb-true (get_or v.permutation k 0) v.rank
-        (both_left (ltb (get_or v.permutation k 0) v.rank) (fresh v.permutation k) entry-given)
+        (both_left (ltb (get_or v.permutation k 0) v.rank) (fresh v.permutation k) entry_given)
 
-    pub view-apart : (j : ℕ) → j < k → get_or v.permutation j 0 ≡ get_or v.permutation k 0 → ⊥
+    pub view_apart : (j : ℕ) → j < k → get_or v.permutation j 0 ≡ get_or v.permutation k 0 → ⊥
     unfolding fresh
-    view-apart j l =
+    view_apart j l =
         eqb-false (get_or v.permutation j 0) (get_or v.permutation k 0)
         (not-true _
-        (all-at k (λ (i : ℕ). not (eqb (get_or v.permutation i 0) (get_or v.permutation k 0)))
-        (both_right (ltb (get_or v.permutation k 0) v.rank) (fresh v.permutation k) entry-given) j l))
+        (all_at k (λ (i : ℕ). not (eqb (get_or v.permutation i 0) (get_or v.permutation k 0)))
+        (both_right (ltb (get_or v.permutation k 0) v.rank) (fresh v.permutation k) entry_given) j l))
 
-    pub view-size : v.sized ≡ true → InSize (theViewDimension v.dimensions k).size
-    unfolding viewDimensionAtOk sizedRank
-    view-size e =
-        in_size (theViewDimension v.dimensions k).size
-        (sym (taken-way _ _ (lt-ltb k (sizedRank v.sized v.rank) (rw (taken-way v.rank 0 e) h)))
-        ∙ all-at rankPlaces (viewDimensionAtOk (sizedRank v.sized v.rank) v.dimensions)
-        (both_right (permutationOk v.rank v.permutation) sizedOk past-rank) k (omega (arith, view-most)))
+    pub view_size : v.sized ≡ true → InSize (the_view_dimension v.dimensions k).size
+    unfolding view_dimension_at_ok sized_rank
+    view_size e =
+        in_size (the_view_dimension v.dimensions k).size
+        (sym (taken_way _ _ (lt-ltb k (sized_rank v.sized v.rank) (rw (taken_way v.rank 0 e) h)))
+        ∙ all_at rank_places (view_dimension_at_ok (sized_rank v.sized v.rank) v.dimensions)
+        (both_right (permutation_ok v.rank v.permutation) sized_ok past_rank) k (omega (arith, view_most)))

@@ -1,5 +1,5 @@
 use borrow.Author.Rules.{rules}
-use Rattle.traces.specs.Events.{eventAt}
+use Rattle.traces.specs.Events.{event_at}
 use Rattle.traces.proofs.event_at.Statement.{statement}
 use Rattle.traces.proofs.event_at.Tie as tie
 
@@ -25,11 +25,11 @@ u32-at-requires : tie.Need-u32-at-requires
 u32-at-requires c κs = search rules
 
 returns : tie.Need-returns
-unfolding eventAt
+unfolding event_at
 returns c = cc
 
-pub event-at-spec : {M : Type 1} → statement M
-event-at-spec =
+pub event_at_spec : {M : Type 1} → statement M
+event_at_spec =
     tie.close
     (tie.spec
     u16-at-requires

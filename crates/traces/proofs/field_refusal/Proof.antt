@@ -1,16 +1,16 @@
 use mathlib.Core.Path.{refl}
 use borrow.Author.Rules.{rules}
 use Rattle.numbers.specs.Laws.Choice.{taken, left, tests}
-use Rattle.traces.specs.Reading.{fieldRefusal}
+use Rattle.traces.specs.Reading.{field_refusal}
 use Rattle.traces.proofs.field_refusal.Statement.{statement}
 use Rattle.traces.proofs.field_refusal.Tie as tie
 
 returns : tie.Need-returns
-unfolding fieldRefusal
+unfolding field_refusal
 returns c = left _ (search tests) refl
 
 returns-2 : tie.Need-returns-2
-unfolding fieldRefusal
+unfolding field_refusal
 returns-2 c = taken _ (search tests) (left _ (search tests) refl)
 
 event-at-requires : tie.Need-event-at-requires
@@ -20,24 +20,24 @@ event-ok-requires : tie.Need-event-ok-requires
 event-ok-requires c κs = search rules
 
 returns-3 : tie.Need-returns-3
-unfolding fieldRefusal
+unfolding field_refusal
 returns-3 c = rw (← c.before.before.event-at.ensures) (taken _ (search tests) (taken _ (search tests) (left _ (search tests) refl)))
 
 is-after-requires : tie.Need-is-after-requires
 is-after-requires c κs = search rules
 
 returns-4 : tie.Need-returns-4
-unfolding fieldRefusal
+unfolding field_refusal
 returns-4 c =
     rw (← c.before.before.before.before.event-at.ensures) (taken _ (search tests) (taken _ (search tests) (taken _ (search tests) (left _ (search tests) refl))))
 
 returns-5 : tie.Need-returns-5
-unfolding fieldRefusal
+unfolding field_refusal
 returns-5 c =
     rw (← c.before.before.before.before.event-at.ensures) (taken _ (search tests) (taken _ (search tests) (taken _ (search tests) (taken _ (search tests) refl))))
 
-pub field-refusal-spec : {M : Type 1} → statement M
-field-refusal-spec =
+pub field_refusal_spec : {M : Type 1} → statement M
+field_refusal_spec =
     tie.close
     (tie.spec
     returns

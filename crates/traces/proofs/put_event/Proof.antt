@@ -1,10 +1,10 @@
 use mathlib.Core.List.{[], ◌∷◌, ◌++◌}
 use borrow.Author.Rules.{rules}
-use Rattle.numbers.specs.Little.{u16Bytes, u32Bytes}
-use Rattle.numbers.specs.Laws.Lists.{puts-after}
-use Rattle.fields.specs.Bytes.{headBytes, fieldBytes}
-use Rattle.traces.specs.Events.{eventTag, contentLength}
-use Rattle.traces.specs.Writing.{eventBytes}
+use Rattle.numbers.specs.Little.{u16_bytes, u32_bytes}
+use Rattle.numbers.specs.Laws.Lists.{puts_after}
+use Rattle.fields.specs.Bytes.{head_bytes, field_bytes}
+use Rattle.traces.specs.Events.{event_tag, content_length}
+use Rattle.traces.specs.Writing.{event_bytes}
 use Rattle.traces.proofs.put_event.Statement.{statement}
 use Rattle.traces.proofs.put_event.Tie as tie
 
@@ -36,21 +36,21 @@ same_length : tie.Need-same-length
 same_length c = search rules
 
 returns : tie.Need-returns
-unfolding eventBytes fieldBytes
+unfolding event_bytes field_bytes
 returns c =
     let a = c.before.before.before.before.before.before.before.before.before.before.before.before.before.before.before.before.before.args in
     let e = a.e in
     let out = a.out.now in
-    let head = headBytes eventTag contentLength in
-    let place = head ++ u16Bytes e.step ++ u16Bytes e.element in
-    puts-after out a.at (place ++ (e.sort ∷ [])) (u32Bytes e.byte)
-    (puts-after out a.at place (e.sort ∷ [])
-    (puts-after out a.at head (u16Bytes e.step ++ u16Bytes e.element) c.before.before.before.before.before.before.before.before.before.before.before.before.before.before.put-head.ensures c.before.before.before.before.before.before.before.before.before.before.put-u16s.ensures)
+    let head = head_bytes event_tag content_length in
+    let place = head ++ u16_bytes e.step ++ u16_bytes e.element in
+    puts_after out a.at (place ++ (e.sort ∷ [])) (u32_bytes e.byte)
+    (puts_after out a.at place (e.sort ∷ [])
+    (puts_after out a.at head (u16_bytes e.step ++ u16_bytes e.element) c.before.before.before.before.before.before.before.before.before.before.before.before.before.before.put-head.ensures c.before.before.before.before.before.before.before.before.before.before.put-u16s.ensures)
     c.before.before.before.before.before.before.put_byte.ensures)
     c.before.before.put-u32.ensures
 
-pub put-event-spec : {M : Type 1} → statement M
-put-event-spec =
+pub put_event_spec : {M : Type 1} → statement M
+put_event_spec =
     tie.close
     (tie.spec
     cast-put-head

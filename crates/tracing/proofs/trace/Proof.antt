@@ -2,10 +2,10 @@ use Prim.Native.Nat.{ℕ, ◌*◌, ◌<◌, ◌≤◌}
 use mathlib.Core.Path.{◌≡◌, sym, ap, ◌∙◌}
 use lib.ListN.{length}
 use Rattle.checking.specs.declared.CheckAnswer.{CheckAnswer}
-use Rattle.checking.specs.Laws.Readable.{sheet-readable}
-use Rattle.traces.specs.Events.{eventLength}
-use Rattle.tracing.specs.Tracing.{tracedLength}
-use Rattle.tracing.proofs.Laws.{refused-answer, refused-room, short-answer, short-room, trace-answer, trace-room}
+use Rattle.checking.specs.Laws.Readable.{sheet_readable}
+use Rattle.traces.specs.Events.{event_length}
+use Rattle.tracing.specs.Tracing.{traced_length}
+use Rattle.tracing.proofs.Laws.{refused_answer_lem, refused_room, short_answer, short_room, trace_answer_lem, trace_room}
 use native.Mathlib.Omega.{arith}
 use borrow.Author.Rules.{rules}
 use Rattle.tracing.proofs.trace.Statement.{statement}
@@ -26,7 +26,7 @@ returns c =
     let s = a.sheet.now in
     let is = c.before.before.before.before.before.judge.ensures.0 in
     let n = c.before.if1.true in
-    (c.trace-refused.ensures ∙ refused-answer s a.memory-len is (length a.out.now) n, refused-room s a.memory-len is a.out.now n)
+    (c.trace-refused.ensures ∙ refused_answer_lem s a.memory-len is (length a.out.now) n, refused_room s a.memory-len is a.out.now n)
 
 count-trace-requires : tie.Need-count-trace-requires
 count-trace-requires c κs =
@@ -35,7 +35,7 @@ count-trace-requires c κs =
     let j = c.before.before.before.before.before.before.judge in
     let e = j.ensures in
     let fine : j.result.answer.refusal.number ≡ 0 = omega (arith, c.before.before.if1.false) in
-    let r = sheet-readable s a.memory-len (ap (λ (x : CheckAnswer). x.refusal.number) (sym e.0) ∙ fine) in
+    let r = sheet_readable s a.memory-len (ap (λ (x : CheckAnswer). x.refusal.number) (sym e.0) ∙ fine) in
     (e.1 fine, r.few, r.clear)
 
 mul-bytes : tie.Need-overflow-mul-bytes
@@ -54,9 +54,9 @@ returns-2 c =
     let j = c.before.before.before.before.before.before.before.before.before.before.judge in
     let e = j.ensures in
     let fine : j.result.answer.refusal.number ≡ 0 = omega (arith, c.before.before.before.before.before.before.if1.false) in
-    let short : length a.out.now < tracedLength s a.memory-len = omega (arith, c.before.before.before.count-trace.ensures.0, c.before.before.if2.true) in (
-      c.trace-refused2.ensures ∙ rw c.before.refusal-at.ensures (short-answer s a.memory-len e.0 fine (length a.out.now) short),
-      short-room s a.memory-len e.0 fine a.out.now short,
+    let short : length a.out.now < traced_length s a.memory-len = omega (arith, c.before.before.before.count-trace.ensures.0, c.before.before.if2.true) in (
+      c.trace-refused2.ensures ∙ rw c.before.refusal-at.ensures (short_answer s a.memory-len e.0 fine (length a.out.now) short),
+      short_room s a.memory-len e.0 fine a.out.now short,
     )
 
 write-trace-requires : tie.Need-write-trace-requires
@@ -66,8 +66,8 @@ write-trace-requires c κs =
     let j = c.before.before.before.before.before.before.before.before.before.before.judge in
     let e = j.ensures in
     let fine : j.result.answer.refusal.number ≡ 0 = omega (arith, c.before.before.before.before.before.before.if1.false) in
-    let r = sheet-readable s a.memory-len (ap (λ (x : CheckAnswer). x.refusal.number) (sym e.0) ∙ fine) in
-    let room : tracedLength s a.memory-len ≤ length a.out.now = omega (arith, c.before.before.before.count-trace.ensures.0, c.before.before.if2.false) in
+    let r = sheet_readable s a.memory-len (ap (λ (x : CheckAnswer). x.refusal.number) (sym e.0) ∙ fine) in
+    let room : traced_length s a.memory-len ≤ length a.out.now = omega (arith, c.before.before.before.count-trace.ensures.0, c.before.before.if2.false) in
     ((e.1 fine, r.few, r.clear), room)
 
 not-refused-requires : tie.Need-not-refused-requires
@@ -83,14 +83,14 @@ returns-3 c =
     let j = c.before.before.before.before.before.before.before.before.before.before.before.before.before.before.judge in
     let e = j.ensures in
     let fine : j.result.answer.refusal.number ≡ 0 = omega (arith, c.before.before.before.before.before.before.before.before.before.before.if1.false) in
-    let bytes : c.before.before.before.before.before.before.before.count-trace.result * eventLength ≡ tracedLength s a.memory-len = ap (λ (x : ℕ). x * eventLength) c.before.before.before.before.before.before.before.count-trace.ensures.0 in
-    let room : tracedLength s a.memory-len ≤ length a.out.now = omega (arith, bytes, c.before.before.before.before.before.before.if2.false) in (
-      rw (c.not-refused.ensures, bytes) (trace-answer s a.memory-len e.0 fine (length a.out.now) room),
-      c.before.before.before.write-trace.ensures ∙ trace-room s a.memory-len e.0 fine a.out.now room,
+    let bytes : c.before.before.before.before.before.before.before.count-trace.result * event_length ≡ traced_length s a.memory-len = ap (λ (x : ℕ). x * event_length) c.before.before.before.before.before.before.before.count-trace.ensures.0 in
+    let room : traced_length s a.memory-len ≤ length a.out.now = omega (arith, bytes, c.before.before.before.before.before.before.if2.false) in (
+      rw (c.not-refused.ensures, bytes) (trace_answer_lem s a.memory-len e.0 fine (length a.out.now) room),
+      c.before.before.before.write-trace.ensures ∙ trace_room s a.memory-len e.0 fine a.out.now room,
     )
 
-pub trace-spec : {M : Type 1} → statement M
-trace-spec =
+pub trace_spec : {M : Type 1} → statement M
+trace_spec =
     tie.close
     (tie.spec
     no-parts-requires

@@ -1,4 +1,4 @@
-use Rattle.transfers.specs.Laws.Elements.{took-counted}
+use Rattle.transfers.specs.Laws.Elements.{took_counted}
 use mathlib.Core.Path.{refl}
 use borrow.Author.Rules.{rules}
 use Rattle.transfers.proofs.load_element.Statement.{statement}
@@ -39,10 +39,10 @@ returns-3 c = rw c.enum-told2.given.1 (λ n. refl)
 
 returns-4 : tie.Need-returns-4
 returns-4 c = let a = c.before.before.before.before.before.before.before.args in
-    rw c.before.before.before.before.o2.given.1 (λ n. took-counted _ a.register a.element _ n _ a.elements.now _ c.before.before.element-at.ensures c.put-element-of2.ensures)
+    rw c.before.before.before.before.o2.given.1 (λ n. took_counted _ a.register a.element _ n _ a.elements.now _ c.before.before.element-at.ensures c.put-element-of2.ensures)
 
-pub load-element-spec : {M : Type 1} → statement M
-load-element-spec =
+pub load_element_spec : {M : Type 1} → statement M
+load_element_spec =
     tie.close
     (tie.spec
     enum_told

@@ -1,4 +1,4 @@
-use Rattle.transfers.specs.Laws.Elements.{put-counted}
+use Rattle.transfers.specs.Laws.Elements.{put_counted}
 use mathlib.Core.Path.{refl}
 use borrow.Author.Rules.{rules}
 use Rattle.transfers.proofs.store_element.Statement.{statement}
@@ -38,10 +38,10 @@ same_length : tie.Need-same-length
 same_length c = search rules
 
 returns-4 : tie.Need-returns-4
-returns-4 c = rw c.before.before.before.before.before.before.o.given.1 (λ n. put-counted _ _ _ _ n _ _ _ c.before.before.before.before.element-of.ensures c.before.before.put-element.ensures)
+returns-4 c = rw c.before.before.before.before.before.before.o.given.1 (λ n. put_counted _ _ _ _ n _ _ _ c.before.before.before.before.element-of.ensures c.before.before.put-element.ensures)
 
-pub store-element-spec : {M : Type 1} → statement M
-store-element-spec =
+pub store_element_spec : {M : Type 1} → statement M
+store_element_spec =
     tie.close
     (tie.spec
     enum_told

@@ -1,4 +1,4 @@
-use Rattle.translating.specs.Turns.{matrixOf}
+use Rattle.translating.specs.Turns.{matrix_of}
 use native.Mathlib.Omega.{arith}
 use borrow.Author.Rules.{rules}
 use Rattle.translating.proofs.count_apart.Statement.{statement}
@@ -26,7 +26,7 @@ returns-2 : tie.Need-returns-2
 returns-2 c =
     let g = c.before.before.step.given in
     let e = c.count-object.ensures in
-    (λ k a. rw g.1 (e.0 g.0.0 (matrixOf a)), e.1)
+    (λ k a. rw g.1 (e.0 g.0.0 (matrix_of a)), e.1)
 
 returns-3 : tie.Need-returns-3
 returns-3 c = (λ k a. rw c.enum-told2.given.1, omega arith)
@@ -34,8 +34,8 @@ returns-3 c = (λ k a. rw c.enum-told2.given.1, omega arith)
 returns-4 : tie.Need-returns-4
 returns-4 c = (λ k a. rw c.enum-told3.given.1, omega arith)
 
-pub count-apart-spec : {M : Type 1} → statement M
-count-apart-spec =
+pub count_apart_spec : {M : Type 1} → statement M
+count_apart_spec =
     tie.close
     (tie.spec
     enum_told

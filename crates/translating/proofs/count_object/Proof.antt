@@ -21,6 +21,6 @@ returns-2 c = (λ register t. rw c.enum-told2.given.1, omega arith)
 returns-3 : tie.Need-returns-3
 returns-3 c = (λ register t. rw c.enum-told3.given.1, omega arith)
 
-pub count-object-spec : {M : Type 1} → statement M
-count-object-spec =
+pub count_object_spec : {M : Type 1} → statement M
+count_object_spec =
     tie.close (tie.spec enum_told enum-told-2 enum-told-3 returns returns-2 returns-3)

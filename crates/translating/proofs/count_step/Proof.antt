@@ -1,4 +1,4 @@
-use Rattle.translating.proofs.Laws.{turn-count}
+use Rattle.translating.proofs.Laws.{turn_count}
 use native.Mathlib.Omega.{arith}
 use borrow.Author.Rules.{rules}
 use Rattle.translating.proofs.count_step.Statement.{statement}
@@ -18,8 +18,8 @@ returns c =
     let a = c.before.before.args in
     let e = c.before.count-apart.ensures in
     let f = c.count-access.ensures in
-    (λ k. turn-count k a.step a.access (e.0 k a.access) f.0, omega (arith, e.1, f.1))
+    (λ k. turn_count k a.step a.access (e.0 k a.access) f.0, omega (arith, e.1, f.1))
 
-pub count-step-spec : {M : Type 1} → statement M
-count-step-spec =
+pub count_step_spec : {M : Type 1} → statement M
+count_step_spec =
     tie.close (tie.spec count-apart-requires count-access-requires add-result returns)

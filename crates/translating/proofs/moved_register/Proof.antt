@@ -26,8 +26,8 @@ returns-3 c = search rules
 returns-4 : tie.Need-returns-4
 returns-4 c = search rules
 
-pub moved-register-spec : {M : Type 1} → statement M
-moved-register-spec =
+pub moved_register_spec : {M : Type 1} → statement M
+moved_register_spec =
     tie.close
     (tie.spec
     enum_told

@@ -1,6 +1,6 @@
 use mathlib.Core.Path.{refl}
 use borrow.Author.Rules.{rules}
-use Rattle.numbers.specs.Laws.Choice.{went-not, went-past, stop, pass}
+use Rattle.numbers.specs.Laws.Choice.{went_not, went_past, stop, pass}
 use Rattle.translating.proofs.room_fits.Statement.{statement}
 use Rattle.translating.proofs.room_fits.Tie as tie
 
@@ -8,10 +8,10 @@ records-fit-requires : tie.Need-records-fit-requires
 records-fit-requires c κs = search rules
 
 returns : tie.Need-returns
-returns c = stop _ (went-not c.before.records-fit.ensures c.if1.true)
+returns c = stop _ (went_not c.before.records-fit.ensures c.if1.true)
 
 returns-2 : tie.Need-returns-2
-returns-2 c = pass (went-past c.before.records-fit.ensures c.if1.false) refl
+returns-2 c = pass (went_past c.before.records-fit.ensures c.if1.false) refl
 
-pub room-fits-spec : {M : Type 1} → statement M
-room-fits-spec = tie.close (tie.spec records-fit-requires returns returns-2)
+pub room_fits_spec : {M : Type 1} → statement M
+room_fits_spec = tie.close (tie.spec records-fit-requires returns returns-2)

@@ -1,5 +1,5 @@
 use mathlib.Core.Path.{refl}
-use Rattle.translating.proofs.Laws.{turn-few, loaded-register, loaded-object, loaded-some}
+use Rattle.translating.proofs.Laws.{turn_few, loaded_register, loaded_object, loaded_some}
 use native.Mathlib.Omega.{arith}
 use borrow.Author.Rules.{rules}
 use Rattle.translating.proofs.write_apart.Statement.{statement}
@@ -16,7 +16,7 @@ write-object-requires c κs =
     let s = c.before.before.before.before in
     let g = c.before.before.step.given.1 in
     let t = s.requires.0.0 in
-    ((loaded-register t g, loaded-object t g, loaded-some t g, turn-few t), rw g at s.requires.1)
+    ((loaded_register t g, loaded_object t g, loaded_some t g, turn_few t), rw g at s.requires.1)
 
 enum-told-2 : tie.Need-enum-told-2
 enum-told-2 c = search rules
@@ -47,8 +47,8 @@ same-length-2 c = search rules
 returns-4 : tie.Need-returns-4
 returns-4 c = rw c.before.before.before.enum-told3.given.1 c.before.write-record.ensures
 
-pub write-apart-spec : {M : Type 1} → statement M
-write-apart-spec =
+pub write_apart_spec : {M : Type 1} → statement M
+write_apart_spec =
     tie.close
     (tie.spec
     enum_told

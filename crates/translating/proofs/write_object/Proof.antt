@@ -1,6 +1,6 @@
 use mathlib.Core.Path.{refl}
 use Prim.Native.Nat.{◌<◌}
-use Rattle.sheet.specs.Sizes.{registerCount}
+use Rattle.sheet.specs.Sizes.{register_count}
 use native.Mathlib.Omega.{arith}
 use borrow.Author.Rules.{rules}
 use Rattle.translating.proofs.write_object.Statement.{statement}
@@ -35,7 +35,7 @@ write-record-requires-2 : tie.Need-write-record-requires-2
 write-record-requires-2 c κs =
     let s = c.before.before.before.before in
     let g = c.before.before.object.given in
-    let source : g.0.0 < registerCount = rw g.1 at s.requires.0.1 in
+    let source : g.0.0 < register_count = rw g.1 at s.requires.0.1 in
     ((s.requires.0.0, source), rw g.1 at s.requires.1)
 
 returns : tie.Need-returns
@@ -53,8 +53,8 @@ same-length-2 c = search rules
 returns-3 : tie.Need-returns-3
 returns-3 c = rw c.before.before.before.before.object.given.1 c.before.write-record2.ensures
 
-pub write-object-spec : {M : Type 1} → statement M
-write-object-spec =
+pub write_object_spec : {M : Type 1} → statement M
+write_object_spec =
     tie.close
     (tie.spec
     enum_told

@@ -1,6 +1,6 @@
 use mathlib.Core.Path.{refl}
 use mathlib.Core.List.{append-nil}
-use Rattle.records.specs.Records.{recordNumbers}
+use Rattle.records.specs.Records.{record_numbers}
 use borrow.Author.Rules.{rules}
 use Rattle.translating.proofs.write_record.Statement.{statement}
 use Rattle.translating.proofs.write_record.Tie as tie
@@ -19,8 +19,8 @@ same_length c = search rules
 
 returns : tie.Need-returns
 returns c =
-    record { next = refl; numbers = rw (append-nil (recordNumbers c.before.before.before.args.r)) c.before.put_record.ensures }
+    record { next = refl; numbers = rw (append-nil (record_numbers c.before.before.before.args.r)) c.before.put_record.ensures }
 
-pub write-record-spec : {M : Type 1} → statement M
-write-record-spec =
+pub write_record_spec : {M : Type 1} → statement M
+write_record_spec =
     tie.close (tie.spec mul-put-record put-record-requires add-result same_length returns)

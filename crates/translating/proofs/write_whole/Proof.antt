@@ -2,8 +2,8 @@ use mathlib.Core.Path.{◌≡◌, subst}
 use mathlib.Core.List.{List}
 use Prim.Native.Nat.{ℕ}
 use lib.Seq.{sets}
-use Rattle.masks.specs.Masks.{maskPlace}
-use Rattle.masks.specs.Laws.Written.{one-empty}
+use Rattle.masks.specs.Masks.{mask_place}
+use Rattle.masks.specs.Laws.Written.{one_empty}
 use native.Mathlib.Omega.{arith}
 use borrow.Author.Rules.{rules}
 use Rattle.translating.proofs.write_whole.Statement.{statement}
@@ -28,7 +28,7 @@ returns : tie.Need-returns
 returns c =
     let a = c.before.before.before.before.before.before.before.before.args in
     let m = c.before.before.before.before.before.clear-masks in
-    (c.before.write-record.ensures, subst (λ (xs : List ℕ). m.new.0 ≡ sets a.masks.now (maskPlace a.k) xs) (one-empty a.k) m.ensures)
+    (c.before.write-record.ensures, subst (λ (xs : List ℕ). m.new.0 ≡ sets a.masks.now (mask_place a.k) xs) (one_empty a.k) m.ensures)
 
-pub write-whole-spec : {M : Type 1} → statement M
-write-whole-spec = tie.close (tie.spec add-clear-masks clear-masks-requires write-record-requires same_length same-length-2 returns)
+pub write_whole_spec : {M : Type 1} → statement M
+write_whole_spec = tie.close (tie.spec add-clear-masks clear-masks-requires write-record-requires same_length same-length-2 returns)

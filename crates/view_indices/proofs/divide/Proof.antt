@@ -16,5 +16,5 @@ div-t5 c = search rules
 returns-2 : tie.Need-returns-2
 returns-2 c = search rules
 
-pub divide-spec : {M : Type 1} → statement M
-divide-spec = tie.close (tie.spec returns rem-t4 div-t5 returns-2)
+pub divide_spec : {M : Type 1} → statement M
+divide_spec = tie.close (tie.spec returns rem-t4 div-t5 returns-2)

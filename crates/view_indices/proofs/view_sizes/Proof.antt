@@ -1,6 +1,6 @@
 use borrow.Author.Rules.{rules}
 use Rattle.numbers.specs.Laws.Choice.{taken, left}
-use Rattle.view_indices.specs.Indices.{viewSizes}
+use Rattle.view_indices.specs.Indices.{view_sizes}
 use Rattle.view_indices.proofs.view_sizes.Statement.{statement}
 use Rattle.view_indices.proofs.view_sizes.Tie as tie
 
@@ -23,15 +23,15 @@ spans-requires : tie.Need-spans-requires
 spans-requires c κs = search rules
 
 returns : tie.Need-returns
-unfolding viewSizes
+unfolding view_sizes
 returns c = taken _ c.before.before.before.before.before.if1.true (cc)
 
 returns-2 : tie.Need-returns-2
-unfolding viewSizes
+unfolding view_sizes
 returns-2 c = left _ c.before.if1.false c.spans.ensures
 
-pub view-sizes-spec : {M : Type 1} → statement M
-view-sizes-spec =
+pub view_sizes_spec : {M : Type 1} → statement M
+view_sizes_spec =
     tie.close
     (tie.spec
     size-at-requires

@@ -1,9 +1,9 @@
 use mathlib.Core.Path.{sym, ap, ◌∙◌, subst}
 use Prim.Native.Nat.{◌<◌}
 use Rattle.registers.specs.Sized.{SizedType}
-use Rattle.registers.specs.Grids.{blockOn}
+use Rattle.registers.specs.Grids.{block_on}
 use Rattle.registers.specs.declared.MatrixType.{MatrixType}
-use Rattle.reduces.specs.Laws.Shapes.{some-rows}
+use Rattle.reduces.specs.Laws.Shapes.{some_rows}
 use Rattle.products.specs.Laws.Shapes.{agreed}
 use Rattle.whole_steps.specs.Transposing.{transposed}
 use Rattle.whole_steps.specs.Within.{WholeParts}
@@ -43,7 +43,7 @@ reduce-block-requires c κs =
     let f = sym c.before.before.the_type.ensures in (
       w.0,
       subst SizedType f (s.requires.1.each _),
-      subst (λ (t : MatrixType). 0 < t.rows) f (some-rows _ _ _ _ (rw e at s.requires.2.1)),
+      subst (λ (t : MatrixType). 0 < t.rows) f (some_rows _ _ _ _ (rw e at s.requires.2.1)),
       w.1.high,
       w.2.high,
     )
@@ -107,7 +107,7 @@ returns-3 c =
     let g = c.before.before.before.before.before.step3.given in
     rw g.1
     (c.transpose-block.ensures
-    ∙ ap (λ (t : MatrixType). blockOn s.args.out.now t.columns t.rows (transposed s.args.elements.now g.0.1.0 t)) c.before.before.before.the-type2.ensures)
+    ∙ ap (λ (t : MatrixType). block_on s.args.out.now t.columns t.rows (transposed s.args.elements.now g.0.1.0 t)) c.before.before.before.the-type2.ensures)
 
 returns-4 : tie.Need-returns-4
 returns-4 c = rw (c.before.before.before.before.before.before.before.step4.given.1, ← c.before.before.before.before.before.the-type3.ensures, ← c.before.before.before.before.the-type4.ensures, ← c.before.before.before.the-type5.ensures) c.multiply-block.ensures
@@ -115,8 +115,8 @@ returns-4 c = rw (c.before.before.before.before.before.before.before.step4.given
 returns-5 : tie.Need-returns-5
 returns-5 c = rw (c.before.before.before.before.before.step5.given.1, ← c.before.before.before.the-type6.ensures) c.vector-block.ensures
 
-pub whole-block-spec : {M : Type 1} → statement M
-whole-block-spec =
+pub whole_block_spec : {M : Type 1} → statement M
+whole_block_spec =
     tie.close
     (tie.spec
     enum-known-step

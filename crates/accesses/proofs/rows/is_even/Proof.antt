@@ -25,5 +25,5 @@ add-result-2 c = let s = c.before.before in omega (arith, mul-le-mul {n₁ = s.a
 returns-3 : tie.Need-returns-3
 returns-3 c = search rules
 
-pub is-even-spec : {M : Type 1} → statement M
-is-even-spec = tie.close (tie.spec returns returns-2 mul-result add-result add-result-2 returns-3)
+pub is_even_spec : {M : Type 1} → statement M
+is_even_spec = tie.close (tie.spec returns returns-2 mul-result add-result add-result-2 returns-3)

@@ -14,5 +14,5 @@ returns-2 c = λ e. (omega arith, λ s l g. omega arith)
 returns-3 : tie.Need-returns-3
 returns-3 c = λ e. let a = c.before.before.args in (omega arith, λ s l g. omega (arith, leb-true a.span a.from e))
 
-pub is-far-spec : {M : Type 1} → statement M
-is-far-spec = tie.close (tie.spec returns returns-2 returns-3)
+pub is_far_spec : {M : Type 1} → statement M
+is_far_spec = tie.close (tie.spec returns returns-2 returns-3)

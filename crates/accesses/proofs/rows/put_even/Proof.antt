@@ -3,9 +3,9 @@ use mathlib.Core.Path.{◌≡◌, refl, sym}
 use lib.ListN.{length}
 use native.Mathlib.Nat.{mul-le-mul_right, suc-mul}
 use Rattle.numbers.specs.Lists.{line}
-use Rattle.numbers.specs.Laws.Lists.{line-none}
-use Rattle.numbers.specs.Laws.Lines.{line-next}
-use Rattle.sheet.specs.Sizes.{matrixPlaces}
+use Rattle.numbers.specs.Laws.Lists.{line_none}
+use Rattle.numbers.specs.Laws.Lines.{line_next}
+use Rattle.sheet.specs.Sizes.{matrix_places}
 use borrow.Author.Rules.{rules}
 use native.Mathlib.Omega.{arith}
 use Rattle.accesses.proofs.rows.put_even.Statement.{statement}
@@ -15,56 +15,56 @@ use Rattle.accesses.proofs.rows.put_even.Tie as tie
 before_last : (i n step : ℕ) → i < n → i * step + step ≤ n * step
 before_last i n step h = rw (← suc-mul i step) (mul-le-mul_right step h)
 
-abbrev invariant-loop : tie.invariant-loop
-invariant-loop entries₀ byte step at n i₀ entries i = (i ≤ n) × (length entries ≡ matrixPlaces) × (entries ≡ line entries₀ at (λ (k : ℕ). byte + k * step + 1) i)
+abbrev invariant_loop : tie.invariant-loop
+invariant_loop entries₀ byte step at n i₀ entries i = (i ≤ n) × (length entries ≡ matrix_places) × (entries ≡ line entries₀ at (λ (k : ℕ). byte + k * step + 1) i)
 
-abbrev decreases-loop : tie.decreases-loop
-decreases-loop entries₀ byte step at n i₀ entries i = n - i
+abbrev decreases_loop : tie.decreases-loop
+decreases_loop entries₀ byte step at n i₀ entries i = n - i
 
-loop-holds : tie.Need-loop-init invariant-loop decreases-loop
-loop-holds c = (omega arith, c.requires.0, sym (line-none _ _ _))
+loop-holds : tie.Need-loop-init invariant_loop decreases_loop
+loop-holds c = (omega arith, c.requires.0, sym (line_none _ _ _))
 
-mul-entries : tie.Need-overflow-mul-entries invariant-loop decreases-loop
+mul-entries : tie.Need-overflow-mul-entries invariant_loop decreases_loop
 mul-entries c = let s = c.before.before in omega (arith, before_last c.before.loop.i s.args.n s.args.step c.loop-test.true, s.requires.2)
 
-add-entries : tie.Need-overflow-add-entries invariant-loop decreases-loop
+add-entries : tie.Need-overflow-add-entries invariant_loop decreases_loop
 add-entries c = let s = c.before.before in omega (arith, before_last c.before.loop.i s.args.n s.args.step c.loop-test.true, s.requires.2)
 
-add-entries-2 : tie.Need-overflow-add-entries-2 invariant-loop decreases-loop
+add-entries-2 : tie.Need-overflow-add-entries-2 invariant_loop decreases_loop
 add-entries-2 c = let s = c.before.before in omega (arith, before_last c.before.loop.i s.args.n s.args.step c.loop-test.true, s.requires.2)
 
-cast-entries : tie.Need-overflow-cast-entries invariant-loop decreases-loop
+cast-entries : tie.Need-overflow-cast-entries invariant_loop decreases_loop
 cast-entries c = search rules
 
-add-entries-3 : tie.Need-overflow-add-entries-3 invariant-loop decreases-loop
+add-entries-3 : tie.Need-overflow-add-entries-3 invariant_loop decreases_loop
 add-entries-3 c = omega arith
 
-mul-entries-2 : tie.Need-overflow-mul-entries-2 invariant-loop decreases-loop
+mul-entries-2 : tie.Need-overflow-mul-entries-2 invariant_loop decreases_loop
 mul-entries-2 c = search rules
 
-element-write-entries : tie.Need-element-write-entries invariant-loop decreases-loop
+element-write-entries : tie.Need-element-write-entries invariant_loop decreases_loop
 element-write-entries c = let s = c.before.before in omega (arith, c.before.loop.invariant.1, s.requires.1)
 
-add-i : tie.Need-overflow-add-i invariant-loop decreases-loop
+add-i : tie.Need-overflow-add-i invariant_loop decreases_loop
 add-i c = omega arith
 
-loop-less : tie.Need-loop-smaller invariant-loop decreases-loop
+loop-less : tie.Need-loop-smaller invariant_loop decreases_loop
 loop-less c = omega arith
 
-loop-again : tie.Need-loop-preserved invariant-loop decreases-loop
-loop-again c = let i = c.before.loop in (omega arith, search rules, line-next _ _ _ _ i.invariant.2 refl)
+loop-again : tie.Need-loop-preserved invariant_loop decreases_loop
+loop-again c = let i = c.before.loop in (omega arith, search rules, line_next _ _ _ _ i.invariant.2 refl)
 
-returns : tie.Need-returns invariant-loop decreases-loop
+returns : tie.Need-returns invariant_loop decreases_loop
 returns c = let i = c.before.loop in
     let e : i.i ≡ c.before.before.args.n = omega (arith, i.invariant.0) in
     rw e at i.invariant.2
 
-pub put-even-spec : {M : Type 1} → statement M
-put-even-spec =
+pub put_even_spec : {M : Type 1} → statement M
+put_even_spec =
     tie.close
     (tie.spec
-    invariant-loop
-    decreases-loop
+    invariant_loop
+    decreases_loop
     loop-holds
     mul-entries
     add-entries

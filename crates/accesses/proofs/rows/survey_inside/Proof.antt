@@ -1,7 +1,7 @@
 use mathlib.Core.Path.{◌≡◌}
 use Prim.Native.Nat.{◌-◌, ◌*◌, ◌+◌}
 use native.Mathlib.Nat.{mul-le-mul}
-use Rattle.accesses.proofs.RowLaws.{went_on, even-passed, fits}
+use Rattle.accesses.proofs.RowLaws.{went_on, even_passed, fits}
 use borrow.Author.Rules.{rules}
 use native.Mathlib.Omega.{arith}
 use Rattle.accesses.proofs.rows.survey_inside.Statement.{statement}
@@ -102,7 +102,7 @@ returns-2 c = let s = c.before.before.before.before.before.before.before.before.
     let h = c.before.before.before.before.before.before.before.before.if1.false in
     let w = c.before.before.before.before.before.before.before.wide.ensures.0 in
     rw c.before.put-even.ensures
-    (went_on _ (even-passed s.args.a m.0.last m.2 m.3 h (m.6 h) m.5 (rw w) (rw w) (c.before.before.before.before.is-even.ensures c.before.before.before.if2.true) s.requires.1) c.stopped2.result c.stopped2.ensures.0 c.stopped2.ensures.2)
+    (went_on _ (even_passed s.args.a m.0.last m.2 m.3 h (m.6 h) m.5 (rw w) (rw w) (c.before.before.before.before.is-even.ensures c.before.before.before.if2.true) s.requires.1) c.stopped2.result c.stopped2.ensures.0 c.stopped2.ensures.2)
 
 survey-cells-requires : tie.Need-survey-cells-requires
 survey-cells-requires c κs = let s = c.before.before.before.before.before.before.before in ((s.requires.0.0, s.requires.0.1, s.requires.0.2, s.requires.0.4), s.requires.1)
@@ -110,8 +110,8 @@ survey-cells-requires c κs = let s = c.before.before.before.before.before.befor
 returns-3 : tie.Need-returns-3
 returns-3 c = c.survey-cells.ensures
 
-pub survey-inside-spec : {M : Type 1} → statement M
-survey-inside-spec =
+pub survey_inside_spec : {M : Type 1} → statement M
+survey_inside_spec =
     tie.close
     (tie.spec
     stopped-requires

@@ -1,4 +1,4 @@
-use Rattle.accesses.proofs.RowLaws.{went_on, far-all, far-passed}
+use Rattle.accesses.proofs.RowLaws.{went_on, far_all, far_passed}
 use native.Mathlib.Omega.{arith}
 use borrow.Author.Rules.{rules}
 use Rattle.accesses.proofs.rows.survey_outside.Statement.{statement}
@@ -20,7 +20,7 @@ returns : tie.Need-returns
 returns c = let s = c.before.before.before.before in
     let m = s.requires.0 in
     rw c.before.put_same.ensures
-    (went_on _ (far-passed s.args.a m.0.last m.2 m.3 m.5 (far-all s.args.a m.4 c.before.before.before.if1.true) s.requires.1) c.stopped.result c.stopped.ensures.0 c.stopped.ensures.2)
+    (went_on _ (far_passed s.args.a m.0.last m.2 m.3 m.5 (far_all s.args.a m.4 c.before.before.before.if1.true) s.requires.1) c.stopped.result c.stopped.ensures.0 c.stopped.ensures.2)
 
 survey-cells-requires : tie.Need-survey-cells-requires
 survey-cells-requires c κs = let s = c.before.before in ((s.requires.0.0, s.requires.0.1, s.requires.0.2, s.requires.0.3), s.requires.1)
@@ -28,5 +28,5 @@ survey-cells-requires c κs = let s = c.before.before in ((s.requires.0.0, s.req
 returns-2 : tie.Need-returns-2
 returns-2 c = c.survey-cells.ensures
 
-pub survey-outside-spec : {M : Type 1} → statement M
-survey-outside-spec = tie.close (tie.spec add-put-same sub-put-same put-same-requires stopped-requires returns survey-cells-requires returns-2)
+pub survey_outside_spec : {M : Type 1} → statement M
+survey_outside_spec = tie.close (tie.spec add-put-same sub-put-same put-same-requires stopped-requires returns survey-cells-requires returns-2)

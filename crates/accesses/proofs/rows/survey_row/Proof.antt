@@ -3,12 +3,12 @@ use Prim.Native.Nat.{◌+◌}
 use Rattle.outcomes.specs.declared.Outcome.TheVariants.{Filled, Discarded}
 use Rattle.clamps.specs.declared.Clamped.{Clamped}
 use Rattle.addressing.specs.Rules.{low_bits, refused}
-use Rattle.refusals.specs.Refusals.{outsideUndefined}
-use Rattle.sheet.specs.Sizes.{rankPlaces}
-use Rattle.dimensions.specs.Dimensions.{partLimit}
+use Rattle.refusals.specs.Refusals.{outside_undefined}
+use Rattle.sheet.specs.Sizes.{rank_places}
+use Rattle.dimensions.specs.Dimensions.{part_limit}
 use Rattle.addressing.specs.Valid.{AtMost}
 use Rattle.accesses.specs.Rows.{Row}
-use Rattle.accesses.proofs.RowLaws.{went-stop, went_on, row-refused, same-passed}
+use Rattle.accesses.proofs.RowLaws.{went_stop, went_on, row_refused, same_passed}
 use borrow.Author.Rules.{rules}
 use native.Mathlib.Omega.{arith}
 use Rattle.accesses.proofs.rows.survey_row.Statement.{statement}
@@ -49,23 +49,23 @@ survey-at-requires c κs = let s = c.before.before.before.before in
 returns : tie.Need-returns
 returns c = let s = c.before.before.before in
     let r = subst (λ (z : Clamped). Row s.args.a z s.args.k s.args.n) c.before.enum_told.given.1 s.requires.0.2 in
-    went-stop _ (s.args.k + s.args.n) s.requires.1 (refused outsideUndefined) (omega (arith, s.requires.0.2.inside, s.requires.0.4)) (sym (row-refused r s.requires.0.4)) (λ e. omega (arith, e)) c.stopped.result c.stopped.ensures.0 c.stopped.ensures.1
+    went_stop _ (s.args.k + s.args.n) s.requires.1 (refused outside_undefined) (omega (arith, s.requires.0.2.inside, s.requires.0.4)) (sym (row_refused r s.requires.0.4)) (λ e. omega (arith, e)) c.stopped.result c.stopped.ensures.0 c.stopped.ensures.1
 
 returns-2 : tie.Need-returns-2
 returns-2 c = let s = c.before.before.before.before.before in
     rw c.before.put_same.ensures
-    (went_on _ (same-passed Discarded (subst (λ (z : Clamped). Row s.args.a z s.args.k s.args.n) c.before.before.before.enum-told2.given.1 s.requires.0.2) (λ i. refl) refl s.requires.1) c.stopped2.result c.stopped2.ensures.0 c.stopped2.ensures.2)
+    (went_on _ (same_passed Discarded (subst (λ (z : Clamped). Row s.args.a z s.args.k s.args.n) c.before.before.before.enum-told2.given.1 s.requires.0.2) (λ i. refl) refl s.requires.1) c.stopped2.result c.stopped2.ensures.0 c.stopped2.ensures.2)
 
 returns-3 : tie.Need-returns-3
 returns-3 c = let s = c.before.before.before.before.before in
     rw c.before.put-same2.ensures
-    (went_on _ (same-passed (Filled (low_bits s.args.a)) (subst (λ (z : Clamped). Row s.args.a z s.args.k s.args.n) c.before.before.before.enum-told3.given.1 s.requires.0.2) (λ i. refl) refl s.requires.1) c.stopped3.result c.stopped3.ensures.0 c.stopped3.ensures.2)
+    (went_on _ (same_passed (Filled (low_bits s.args.a)) (subst (λ (z : Clamped). Row s.args.a z s.args.k s.args.n) c.before.before.before.enum-told3.given.1 s.requires.0.2) (λ i. refl) refl s.requires.1) c.stopped3.result c.stopped3.ensures.0 c.stopped3.ensures.2)
 
 returns-4 : tie.Need-returns-4
 returns-4 c = c.survey-at.ensures
 
-pub survey-row-spec : {M : Type 1} → statement M
-survey-row-spec =
+pub survey_row_spec : {M : Type 1} → statement M
+survey_row_spec =
     tie.close
     (tie.spec
     enum_told

@@ -1,105 +1,105 @@
 use borrow.Author.Rules.{rules}
 use native.Mathlib.Omega.{arith}
-use Rattle.addressing.proofs.Loops.{Tailing, tailing-start, tailing-fits, tailing-more, tailing-stop, tailing-end, same-dimension, same_rest, same-quotient, same-part}
+use Rattle.addressing.proofs.Loops.{Tailing, tailing_start, tailing_fits, tailing_more, tailing_stop, tailing_end, same_dimension, same_rest, same_quotient, same_part}
 use mathlib.Core.Path.{refl, sym, ◌∙◌}
 use Prim.Native.Nat.{◌-◌, ◌+◌, ◌<◌, ◌≤◌}
 use native.Mathlib.Nat.{mod-lt}
-use Rattle.tensor_ranges.specs.Laws.Facts.{layout-most, layout-span, layout-block, layout-size}
-use Rattle.dimensions.specs.Dimensions.{lead, partLimit}
-use Rattle.dimensions.specs.Laws.Tails.{lead-most}
+use Rattle.tensor_ranges.specs.Laws.Facts.{layout_most, layout_span, layout_block, layout_size}
+use Rattle.dimensions.specs.Dimensions.{lead, part_limit}
+use Rattle.dimensions.specs.Laws.Tails.{lead_most}
 use Rattle.clamps.specs.declared.Clamped.TheVariants.{Refused, Discarded, Filled}
 use Rattle.addressing.proofs.tensors.row_index.Statement.{statement}
 use Rattle.addressing.proofs.tensors.row_index.Tie as tie
 
-abbrev invariant-loop : tie.invariant-loop
-invariant-loop load l numbers rank index sum₀ left₀ d₀ sum left d = Tailing load l rank index d left sum
+abbrev invariant_loop : tie.invariant-loop
+invariant_loop load l numbers rank index sum₀ left₀ d₀ sum left d = Tailing load l rank index d left sum
 
-abbrev decreases-loop : tie.decreases-loop
-decreases-loop load l numbers rank index sum₀ left₀ d₀ sum left d = d
+abbrev decreases_loop : tie.decreases-loop
+decreases_loop load l numbers rank index sum₀ left₀ d₀ sum left d = d
 
-loop-holds : tie.Need-loop-init invariant-loop decreases-loop
-loop-holds c = let s = c in tailing-start _ s.args.l s.requires.0 _ _ s.args.tail s.requires.2 s.requires.3 s.requires.4
+loop-holds : tie.Need-loop-init invariant_loop decreases_loop
+loop-holds c = let s = c in tailing_start _ s.args.l s.requires.0 _ _ s.args.tail s.requires.2 s.requires.3 s.requires.4
 
-sub-d : tie.Need-overflow-sub-d invariant-loop decreases-loop
+sub-d : tie.Need-overflow-sub-d invariant_loop decreases_loop
 sub-d c = search rules
 
-dimension-at-requires : tie.Need-dimension-at-requires invariant-loop decreases-loop
-dimension-at-requires c κs = let s = c.before.before in omega (arith, layout-most s.args.l s.requires.0, c.before.loop.invariant.few)
+dimension-at-requires : tie.Need-dimension-at-requires invariant_loop decreases_loop
+dimension-at-requires c κs = let s = c.before.before in omega (arith, layout_most s.args.l s.requires.0, c.before.loop.invariant.few)
 
-wide-requires : tie.Need-wide-requires invariant-loop decreases-loop
+wide-requires : tie.Need-wide-requires invariant_loop decreases_loop
 wide-requires c κs = search rules
 
-split-by-requires : tie.Need-split-by-requires invariant-loop decreases-loop
+split-by-requires : tie.Need-split-by-requires invariant_loop decreases_loop
 split-by-requires c κs = search rules
 
-part-requires : tie.Need-part-requires invariant-loop decreases-loop
+part-requires : tie.Need-part-requires invariant_loop decreases_loop
 part-requires c κs = let s = c.before.before.before.before.before in
     let i = c.before.before.before.before.loop in
     let l = s.args.l in
-    let in-rank : lead l + i.d - 1 < l.rank = omega (arith, i.invariant.few, lead-most l) in
-    let e = same-dimension l s.requires.0 s.requires.1 (omega arith) i.invariant.few c.before.before.dimension-at.ensures in
-    let z = layout-span l s.requires.0 (lead l + i.d - 1) in-rank in
-    (rw e (layout-size l s.requires.0 (lead l + i.d - 1) in-rank), rw e (layout-block l s.requires.0 (lead l + i.d - 1) in-rank), rw (same_rest l s.requires.0 s.requires.1 (omega arith) i.invariant.few c.before.before.dimension-at.ensures i.left c.before.wide.ensures.0 c.split_by.ensures) (omega (arith, mod-lt i.left z.some, z.most)))
+    let in-rank : lead l + i.d - 1 < l.rank = omega (arith, i.invariant.few, lead_most l) in
+    let e = same_dimension l s.requires.0 s.requires.1 (omega arith) i.invariant.few c.before.before.dimension-at.ensures in
+    let z = layout_span l s.requires.0 (lead l + i.d - 1) in-rank in
+    (rw e (layout_size l s.requires.0 (lead l + i.d - 1) in-rank), rw e (layout_block l s.requires.0 (lead l + i.d - 1) in-rank), rw (same_rest l s.requires.0 s.requires.1 (omega arith) i.invariant.few c.before.before.dimension-at.ensures i.left c.before.wide.ensures.0 c.split_by.ensures) (omega (arith, mod-lt i.left z.some, z.most)))
 
-enum_told : tie.Need-enum-told invariant-loop decreases-loop
+enum_told : tie.Need-enum-told invariant_loop decreases_loop
 enum_told c = search rules
 
-returns : tie.Need-returns invariant-loop decreases-loop
+returns : tie.Need-returns invariant_loop decreases_loop
 returns c = let s = c.before.before.before.before.before.before.before.before in
     let i = c.before.before.before.before.before.before.before.loop in
-    let e = same-part s.args.l s.requires.0 s.requires.1 (omega arith) i.invariant.few c.before.before.before.before.before.dimension-at.ensures i.left c.before.before.before.before.wide.ensures.0 c.before.before.before.split_by.ensures s.args.load c.before.before.part.ensures.0 in
-    (tailing-stop _ s.args.l s.requires.0 _ _ i.d i.left i.sum i.invariant (omega arith) Refused (λ a. refl) refl (λ z q. q) (sym e ∙ c.enum_told.given.1), tt)
+    let e = same_part s.args.l s.requires.0 s.requires.1 (omega arith) i.invariant.few c.before.before.before.before.before.dimension-at.ensures i.left c.before.before.before.before.wide.ensures.0 c.before.before.before.split_by.ensures s.args.load c.before.before.part.ensures.0 in
+    (tailing_stop _ s.args.l s.requires.0 _ _ i.d i.left i.sum i.invariant (omega arith) Refused (λ a. refl) refl (λ z q. q) (sym e ∙ c.enum_told.given.1), tt)
 
-enum-told-2 : tie.Need-enum-told-2 invariant-loop decreases-loop
+enum-told-2 : tie.Need-enum-told-2 invariant_loop decreases_loop
 enum-told-2 c = search rules
 
-returns-2 : tie.Need-returns-2 invariant-loop decreases-loop
+returns-2 : tie.Need-returns-2 invariant_loop decreases_loop
 returns-2 c = let s = c.before.before.before.before.before.before.before.before in
     let i = c.before.before.before.before.before.before.before.loop in
-    let e = same-part s.args.l s.requires.0 s.requires.1 (omega arith) i.invariant.few c.before.before.before.before.before.dimension-at.ensures i.left c.before.before.before.before.wide.ensures.0 c.before.before.before.split_by.ensures s.args.load c.before.before.part.ensures.0 in
-    (tailing-stop _ s.args.l s.requires.0 _ _ i.d i.left i.sum i.invariant (omega arith) Discarded (λ a. refl) refl (λ z q. q) (sym e ∙ c.enum-told2.given.1), tt)
+    let e = same_part s.args.l s.requires.0 s.requires.1 (omega arith) i.invariant.few c.before.before.before.before.before.dimension-at.ensures i.left c.before.before.before.before.wide.ensures.0 c.before.before.before.split_by.ensures s.args.load c.before.before.part.ensures.0 in
+    (tailing_stop _ s.args.l s.requires.0 _ _ i.d i.left i.sum i.invariant (omega arith) Discarded (λ a. refl) refl (λ z q. q) (sym e ∙ c.enum-told2.given.1), tt)
 
-enum-told-3 : tie.Need-enum-told-3 invariant-loop decreases-loop
+enum-told-3 : tie.Need-enum-told-3 invariant_loop decreases_loop
 enum-told-3 c = search rules
 
-returns-3 : tie.Need-returns-3 invariant-loop decreases-loop
+returns-3 : tie.Need-returns-3 invariant_loop decreases_loop
 returns-3 c = let s = c.before.before.before.before.before.before.before.before in
     let i = c.before.before.before.before.before.before.before.loop in
-    let e = same-part s.args.l s.requires.0 s.requires.1 (omega arith) i.invariant.few c.before.before.before.before.before.dimension-at.ensures i.left c.before.before.before.before.wide.ensures.0 c.before.before.before.split_by.ensures s.args.load c.before.before.part.ensures.0 in
-    (tailing-stop _ s.args.l s.requires.0 _ _ i.d i.left i.sum i.invariant (omega arith) Filled (λ a. refl) refl (λ z q. q) (sym e ∙ c.enum-told3.given.1), tt)
+    let e = same_part s.args.l s.requires.0 s.requires.1 (omega arith) i.invariant.few c.before.before.before.before.before.dimension-at.ensures i.left c.before.before.before.before.wide.ensures.0 c.before.before.before.split_by.ensures s.args.load c.before.before.part.ensures.0 in
+    (tailing_stop _ s.args.l s.requires.0 _ _ i.d i.left i.sum i.invariant (omega arith) Filled (λ a. refl) refl (λ z q. q) (sym e ∙ c.enum-told3.given.1), tt)
 
-enum-known-y : tie.Need-enum-known-y invariant-loop decreases-loop
+enum-known-y : tie.Need-enum-known-y invariant_loop decreases_loop
 enum-known-y c = search rules
 
-add-sum : tie.Need-overflow-add-sum invariant-loop decreases-loop
+add-sum : tie.Need-overflow-add-sum invariant_loop decreases_loop
 add-sum c = let s = c.before.before.before.before.before.before.before.before.before in
     let i = c.before.before.before.before.before.before.before.before.loop in
     let y = c.before.y.given in
-    let m : y.0.0 ≤ partLimit = rw y.1 at c.before.before.before.part.ensures.1 in
-    omega (arith, tailing-fits s.args.load s.args.l s.requires.0 s.args.rank s.args.index i.d i.left i.sum i.invariant (omega arith) y.0.0 m)
+    let m : y.0.0 ≤ part_limit = rw y.1 at c.before.before.before.part.ensures.1 in
+    omega (arith, tailing_fits s.args.load s.args.l s.requires.0 s.args.rank s.args.index i.d i.left i.sum i.invariant (omega arith) y.0.0 m)
 
-loop-less : tie.Need-loop-smaller invariant-loop decreases-loop
+loop-less : tie.Need-loop-smaller invariant_loop decreases_loop
 loop-less c = search rules
 
-loop-again : tie.Need-loop-preserved invariant-loop decreases-loop
+loop-again : tie.Need-loop-preserved invariant_loop decreases_loop
 loop-again c = let s = c.before.before.before.before.before.before.before.before.before in
     let i = c.before.before.before.before.before.before.before.before.loop in
     let y = c.before.y.given in
-    let m : y.0.0 ≤ partLimit = rw y.1 at c.before.before.before.part.ensures.1 in
-    let e = same-part s.args.l s.requires.0 s.requires.1 (omega arith) i.invariant.few c.before.before.before.before.before.before.dimension-at.ensures i.left c.before.before.before.before.before.wide.ensures.0 c.before.before.before.before.split_by.ensures s.args.load c.before.before.before.part.ensures.0 in
-    let q = same-quotient s.args.l s.requires.0 s.requires.1 (omega arith) i.invariant.few c.before.before.before.before.before.before.dimension-at.ensures i.left c.before.before.before.before.before.wide.ensures.0 c.before.before.before.before.split_by.ensures in
-    rw q (tailing-more s.args.load s.args.l s.requires.0 s.args.rank s.args.index i.d i.left i.sum i.invariant (omega arith) y.0.0 m (sym e ∙ y.1))
+    let m : y.0.0 ≤ part_limit = rw y.1 at c.before.before.before.part.ensures.1 in
+    let e = same_part s.args.l s.requires.0 s.requires.1 (omega arith) i.invariant.few c.before.before.before.before.before.before.dimension-at.ensures i.left c.before.before.before.before.before.wide.ensures.0 c.before.before.before.before.split_by.ensures s.args.load c.before.before.before.part.ensures.0 in
+    let q = same_quotient s.args.l s.requires.0 s.requires.1 (omega arith) i.invariant.few c.before.before.before.before.before.before.dimension-at.ensures i.left c.before.before.before.before.before.wide.ensures.0 c.before.before.before.before.split_by.ensures in
+    rw q (tailing_more s.args.load s.args.l s.requires.0 s.args.rank s.args.index i.d i.left i.sum i.invariant (omega arith) y.0.0 m (sym e ∙ y.1))
 
-returns-4 : tie.Need-returns-4 invariant-loop decreases-loop
+returns-4 : tie.Need-returns-4 invariant_loop decreases_loop
 returns-4 c = let s = c.before.before in
-    tailing-end s.args.load s.args.l s.requires.0 s.args.rank s.args.index c.before.loop.d c.before.loop.left c.before.loop.sum c.before.loop.invariant (omega arith)
+    tailing_end s.args.load s.args.l s.requires.0 s.args.rank s.args.index c.before.loop.d c.before.loop.left c.before.loop.sum c.before.loop.invariant (omega arith)
 
-pub row-index-spec : {M : Type 1} → statement M
-row-index-spec =
+pub row_index_spec : {M : Type 1} → statement M
+row_index_spec =
     tie.close
     (tie.spec
-    invariant-loop
-    decreases-loop
+    invariant_loop
+    decreases_loop
     loop-holds
     sub-d
     dimension-at-requires

@@ -1,12 +1,12 @@
 use mathlib.Core.Path.{◌≡◌, ap, ◌∙◌}
 use mathlib.Core.List.{List}
 use Prim.Native.Nat.{ℕ, ◌*◌}
-use Rattle.registers.specs.Types.{withType}
-use Rattle.registers.specs.Registers.{elementOf}
-use Rattle.registers.specs.Past.{writtenTo}
+use Rattle.registers.specs.Types.{with_type}
+use Rattle.registers.specs.Registers.{element_of}
+use Rattle.registers.specs.Past.{written_to}
 use Rattle.registers.specs.Laws.Past.{copy_written}
 use Rattle.registers.specs.declared.MatrixType.{MatrixType}
-use Rattle.carrying.specs.Steps.{registersOf}
+use Rattle.carrying.specs.Steps.{registers_of}
 use native.Mathlib.Omega.{arith}
 use borrow.Author.Rules.{rules}
 use Rattle.carrying.proofs.performing.copy_register.Statement.{statement}
@@ -39,15 +39,15 @@ returns c =
     let t = c.before.before.before.before.the-type2.ensures in
     let n = c.before.before.before.element-count2.ensures.0 ∙ ap area t in
     let old = c.before.before.before.before.before.element-count.ensures.0 ∙ ap area c.before.before.before.before.before.before.the_type.ensures in
-    let types = c.with-type.ensures ∙ ap (withType a.types a.register) t in
+    let types = c.with-type.ensures ∙ ap (with_type a.types a.register) t in
     let elements =
     c.before.copy-elements.ensures
-    ∙ (λ i. writtenTo es a.register (elementOf es a.object) (n i) (old i))
+    ∙ (λ i. written_to es a.register (element_of es a.object) (n i) (old i))
     ∙ copy_written a.types es s.requires.1.0 s.requires.1.2 s.requires.1.1 a.register s.requires.0.0 a.object s.requires.0.1 in
-    λ i. registersOf (types i) (elements i)
+    λ i. registers_of (types i) (elements i)
 
-pub copy-register-spec : {M : Type 1} → statement M
-copy-register-spec =
+pub copy_register_spec : {M : Type 1} → statement M
+copy_register_spec =
     tie.close
     (tie.spec
     the-type-requires

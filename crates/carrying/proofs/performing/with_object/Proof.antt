@@ -1,4 +1,4 @@
-use Rattle.carrying.specs.Steps.{withObject}
+use Rattle.carrying.specs.Steps.{with_object}
 use borrow.Author.Rules.{rules}
 use Rattle.carrying.proofs.performing.with_object.Statement.{statement}
 use Rattle.carrying.proofs.performing.with_object.Tie as tie
@@ -19,19 +19,19 @@ copy-register-requires : tie.Need-copy-register-requires
 copy-register-requires c κs = let s = c.before.before.before.before in ((s.requires.0.0, rw c.before.before.object.given.1 at s.requires.0.1), s.requires.1)
 
 returns : tie.Need-returns
-unfolding withObject
+unfolding with_object
 returns c = rw c.enum_told.given.1
 
 returns-2 : tie.Need-returns-2
-unfolding withObject
+unfolding with_object
 returns-2 c = rw c.before.before.enum-told2.given.1 c.zero-register.ensures
 
 returns-3 : tie.Need-returns-3
-unfolding withObject
+unfolding with_object
 returns-3 c = rw c.before.before.before.object.given.1 c.copy-register.ensures
 
-pub with-object-spec : {M : Type 1} → statement M
-with-object-spec =
+pub with_object_spec : {M : Type 1} → statement M
+with_object_spec =
     tie.close
     (tie.spec
     enum_told

@@ -15,6 +15,6 @@ fill-elements-requires c κs = (c.before.before.before.requires.0, omega (arith,
 returns : tie.Need-returns
 returns c = rw (c.fill-elements.ensures, c.before.before.element-count.ensures.0, c.before.before.before.the_type.ensures)
 
-pub zero-register-spec : {M : Type 1} → statement M
-zero-register-spec =
+pub zero_register_spec : {M : Type 1} → statement M
+zero_register_spec =
     tie.close (tie.spec the-type-requires element-count-requires fill-elements-requires returns)

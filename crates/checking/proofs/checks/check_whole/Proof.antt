@@ -11,5 +11,5 @@ whole-types-requires c κs = search rules
 returns : tie.Need-returns
 returns c = rw (c.before.whole-refusal.ensures, c.whole-types.ensures)
 
-pub check-whole-spec : {M : Type 1} → statement M
-check-whole-spec = tie.close (tie.spec whole-refusal-requires whole-types-requires returns)
+pub check_whole_spec : {M : Type 1} → statement M
+check_whole_spec = tie.close (tie.spec whole-refusal-requires whole-types-requires returns)

@@ -8,5 +8,5 @@ stop-at-requires c κs = search rules
 returns : tie.Need-returns
 returns c = rw c.stop-at.ensures
 
-pub plain-check-spec : {M : Type 1} → statement M
-plain-check-spec = tie.close (tie.spec stop-at-requires returns)
+pub plain_check_spec : {M : Type 1} → statement M
+plain_check_spec = tie.close (tie.spec stop-at-requires returns)

@@ -1,6 +1,6 @@
 use mathlib.Core.Path.{◌∙◌}
-use Rattle.whole_steps.specs.Laws.Within.{whole-ok}
-use Rattle.checking.specs.Laws.Names.{load-register, load-object}
+use Rattle.whole_steps.specs.Laws.Within.{whole_ok_lem}
+use Rattle.checking.specs.Laws.Names.{load_register, load_object}
 use borrow.Author.Rules.{rules}
 use Rattle.checking.proofs.checks.step_types.Statement.{statement}
 use Rattle.checking.proofs.checks.step_types.Tie as tie
@@ -15,10 +15,10 @@ object-register-requires : tie.Need-object-register-requires
 object-register-requires c κs = search rules
 
 the-type-requires : tie.Need-the-type-requires
-the-type-requires c κs = rw c.object-register.ensures (load-object _ _ _ _ _ _ (rw c.before.before.step.given.1 at c.before.before.before.before.requires.3))
+the-type-requires c κs = rw c.object-register.ensures (load_object _ _ _ _ _ _ (rw c.before.before.step.given.1 at c.before.before.before.before.requires.3))
 
 with-type-requires : tie.Need-with-type-requires
-with-type-requires c κs = load-register _ _ _ _ _ _ (rw c.before.before.before.step.given.1 at c.before.before.before.before.before.requires.3)
+with-type-requires c κs = load_register _ _ _ _ _ _ (rw c.before.before.before.step.given.1 at c.before.before.before.before.before.requires.3)
 
 enum-told-2 : tie.Need-enum-told-2
 enum-told-2 c = search rules
@@ -27,7 +27,7 @@ enum-known-step-2 : tie.Need-enum-known-step-2
 enum-known-step-2 c = search rules
 
 whole-types-requires : tie.Need-whole-types-requires
-whole-types-requires c κs = whole-ok _ _ (rw c.before.step2.given.1 at c.before.before.before.requires.3)
+whole-types-requires c κs = whole_ok_lem _ _ (rw c.before.step2.given.1 at c.before.before.before.requires.3)
 
 returns : tie.Need-returns
 returns c = search rules
@@ -41,8 +41,8 @@ returns-3 c = search rules
 returns-4 : tie.Need-returns-4
 returns-4 c = rw c.before.before.step2.given.1 c.whole-types.ensures
 
-pub step-types-spec : {M : Type 1} → statement M
-step-types-spec =
+pub step_types_spec : {M : Type 1} → statement M
+step_types_spec =
     tie.close
     (tie.spec
     enum_told

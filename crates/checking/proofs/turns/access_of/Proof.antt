@@ -1,5 +1,5 @@
 use mathlib.Core.Path.{refl}
-use Rattle.checking.specs.Laws.Names.{window-layout, window-view}
+use Rattle.checking.specs.Laws.Names.{window_layout, window_view}
 use native.Mathlib.Omega.{arith}
 use borrow.Author.Rules.{rules}
 use Rattle.checking.proofs.turns.access_of.Statement.{statement}
@@ -9,10 +9,10 @@ cast-layout-in : tie.Need-overflow-cast-layout-in
 cast-layout-in c = search rules
 
 layout-in-requires : tie.Need-layout-in-requires
-layout-in-requires c κs = let s = c.before.before in (s.requires.0, window-layout _ _ _ s.requires.1)
+layout-in-requires c κs = let s = c.before.before in (s.requires.0, window_layout _ _ _ s.requires.1)
 
 view-named-requires : tie.Need-view-named-requires
-view-named-requires c κs = let s = c.before.before.before in (s.requires.0, window-view _ _ _ s.requires.1)
+view-named-requires c κs = let s = c.before.before.before in (s.requires.0, window_view _ _ _ s.requires.1)
 
 is-viewed-requires : tie.Need-is-viewed-requires
 is-viewed-requires c κs = search rules
@@ -31,8 +31,8 @@ returns c =
     rw (c.before.before.before.before.before.layout-in.ensures, c.before.before.before.before.view-named.ensures, c.before.before.before.is-viewed.ensures, c.before.before.bytes.ensures)
     refl
 
-pub access-of-spec : {M : Type 1} → statement M
-access-of-spec =
+pub access_of_spec : {M : Type 1} → statement M
+access_of_spec =
     tie.close
     (tie.spec
     cast-layout-in

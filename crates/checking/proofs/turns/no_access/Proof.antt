@@ -15,5 +15,5 @@ returns : tie.Need-returns
 unfolding no_layout no_view
 returns c = rw (c.before.no-dimension.ensures, c.no-view-dimension.ensures) refl
 
-pub no-access-spec : {M : Type 1} → statement M
-no-access-spec = tie.close (tie.spec no-dimension-requires no-view-dimension-requires returns)
+pub no_access_spec : {M : Type 1} → statement M
+no_access_spec = tie.close (tie.spec no-dimension-requires no-view-dimension-requires returns)

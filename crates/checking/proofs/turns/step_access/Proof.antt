@@ -1,5 +1,5 @@
 use mathlib.Core.Path.{◌∙◌}
-use Rattle.checking.specs.Laws.Names.{load-window, load-object, store-register, store-window}
+use Rattle.checking.specs.Laws.Names.{load_window, load_object, store_register, store_window}
 use native.Mathlib.Omega.{arith}
 use borrow.Author.Rules.{rules}
 use Rattle.checking.proofs.turns.step_access.Statement.{statement}
@@ -18,19 +18,19 @@ object-register-requires : tie.Need-object-register-requires
 object-register-requires c κs = search rules
 
 the-type-requires : tie.Need-the-type-requires
-the-type-requires c κs = rw c.object-register.ensures (load-object _ _ _ _ _ _ (rw c.before.before.step.given.1 at c.before.before.before.before.before.requires.1.1))
+the-type-requires c κs = rw c.object-register.ensures (load_object _ _ _ _ _ _ (rw c.before.before.step.given.1 at c.before.before.before.before.before.requires.1.1))
 
 access-of-requires : tie.Need-access-of-requires
-access-of-requires c κs = let s = c.before.before.before.before.before.before in (s.requires.0, load-window _ _ _ _ _ _ (rw c.before.before.before.step.given.1 at s.requires.1.1))
+access-of-requires c κs = let s = c.before.before.before.before.before.before in (s.requires.0, load_window _ _ _ _ _ _ (rw c.before.before.before.step.given.1 at s.requires.1.1))
 
 enum-known-step-2 : tie.Need-enum-known-step-2
 enum-known-step-2 c = search rules
 
 the-type-requires-2 : tie.Need-the-type-requires-2
-the-type-requires-2 c κs = store-register _ _ _ _ (rw c.before.step2.given.1 at c.before.before.before.before.requires.1.1)
+the-type-requires-2 c κs = store_register _ _ _ _ (rw c.before.step2.given.1 at c.before.before.before.before.requires.1.1)
 
 access-of-requires-2 : tie.Need-access-of-requires-2
-access-of-requires-2 c κs = let s = c.before.before.before.before.before in (s.requires.0, store-window _ _ _ _ (rw c.before.before.step2.given.1 at s.requires.1.1))
+access-of-requires-2 c κs = let s = c.before.before.before.before.before in (s.requires.0, store_window _ _ _ _ (rw c.before.before.step2.given.1 at s.requires.1.1))
 
 enum-told-2 : tie.Need-enum-told-2
 enum-told-2 c = search rules
@@ -50,8 +50,8 @@ returns-3 c = rw c.before.before.before.step2.given.1 (c.access-of2.ensures ∙ 
 returns-4 : tie.Need-returns-4
 returns-4 c = rw c.before.enum-told2.given.1 c.no-access2.ensures
 
-pub step-access-spec : {M : Type 1} → statement M
-step-access-spec =
+pub step_access_spec : {M : Type 1} → statement M
+step_access_spec =
     tie.close
     (tie.spec
     enum_told

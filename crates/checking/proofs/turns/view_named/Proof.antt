@@ -28,8 +28,8 @@ returns c = search rules
 returns-2 : tie.Need-returns-2
 returns-2 c = rw c.before.before.view.given.1 c.view_in.ensures
 
-pub view-named-spec : {M : Type 1} → statement M
-view-named-spec =
+pub view_named_spec : {M : Type 1} → statement M
+view_named_spec =
     tie.close
     (tie.spec
     enum_told

@@ -41,8 +41,8 @@ returns-3 : tie.Need-returns-3
 unfolding field_at
 returns-3 c = left _ (search ways) (left _ (search (ways, ← c.before.u16-at.ensures)) refl)
 
-pub field-spec : {M : Type 1} → statement M
-field-spec =
+pub field_spec : {M : Type 1} → statement M
+field_spec =
     tie.close
     (tie.spec
     sub-if1

@@ -1,7 +1,7 @@
 use mathlib.Core.List.{[], ◌∷◌}
 use borrow.Author.Rules.{rules}
-use Rattle.numbers.specs.Laws.Lists.{puts-after}
-use Rattle.numbers.specs.Little.{u16Bytes}
+use Rattle.numbers.specs.Laws.Lists.{puts_after}
+use Rattle.numbers.specs.Little.{u16_bytes}
 use Rattle.fields.proofs.writing.put_head.Statement.{statement}
 use Rattle.fields.proofs.writing.put_head.Tie as tie
 
@@ -20,8 +20,8 @@ same_length c = search rules
 returns : tie.Need-returns
 returns c =
     let a = c.before.before.before.before.before.before.before.before.before.args in
-    puts-after a.out.now a.at (a.tag ∷ []) (u16Bytes a.content) c.before.before.before.before.before.before.put_byte.ensures c.before.before.put-u16.ensures
+    puts_after a.out.now a.at (a.tag ∷ []) (u16_bytes a.content) c.before.before.before.before.before.before.put_byte.ensures c.before.before.put-u16.ensures
 
-pub put-head-spec : {M : Type 1} → statement M
-put-head-spec =
+pub put_head_spec : {M : Type 1} → statement M
+put_head_spec =
     tie.close (tie.spec put-byte-requires add-put-u16 put-u16-requires same_length returns)

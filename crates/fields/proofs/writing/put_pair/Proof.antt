@@ -1,6 +1,6 @@
 use mathlib.Core.List.{[], ◌∷◌}
 use borrow.Author.Rules.{rules}
-use Rattle.numbers.specs.Laws.Lists.{puts-after}
+use Rattle.numbers.specs.Laws.Lists.{puts_after}
 use Rattle.fields.proofs.writing.put_pair.Statement.{statement}
 use Rattle.fields.proofs.writing.put_pair.Tie as tie
 
@@ -19,8 +19,8 @@ same_length c = search rules
 returns : tie.Need-returns
 returns c =
     let a = c.before.before.before.before.before.before.before.before.before.args in
-    puts-after a.out.now a.at (a.a ∷ []) (a.b ∷ []) c.before.before.before.before.before.before.put_byte.ensures c.before.before.put-byte2.ensures
+    puts_after a.out.now a.at (a.a ∷ []) (a.b ∷ []) c.before.before.before.before.before.before.put_byte.ensures c.before.before.put-byte2.ensures
 
-pub put-pair-spec : {M : Type 1} → statement M
-put-pair-spec =
+pub put_pair_spec : {M : Type 1} → statement M
+put_pair_spec =
     tie.close (tie.spec put-byte-requires add-put-byte put-byte-requires-2 same_length returns)

@@ -1,6 +1,6 @@
 use borrow.Author.Rules.{rules}
-use Rattle.numbers.specs.Laws.Lists.{puts-after}
-use Rattle.numbers.specs.Little.{u16Bytes}
+use Rattle.numbers.specs.Laws.Lists.{puts_after}
+use Rattle.numbers.specs.Little.{u16_bytes}
 use Rattle.fields.proofs.writing.put_u16s.Statement.{statement}
 use Rattle.fields.proofs.writing.put_u16s.Tie as tie
 
@@ -19,8 +19,8 @@ same_length c = search rules
 returns : tie.Need-returns
 returns c =
     let a = c.before.before.before.before.before.before.before.before.before.args in
-    puts-after a.out.now a.at (u16Bytes a.x) (u16Bytes a.y) c.before.before.before.before.before.before.put-u16.ensures c.before.before.put-u162.ensures
+    puts_after a.out.now a.at (u16_bytes a.x) (u16_bytes a.y) c.before.before.before.before.before.before.put-u16.ensures c.before.before.put-u162.ensures
 
-pub put-u16s-spec : {M : Type 1} → statement M
-put-u16s-spec =
+pub put_u16s_spec : {M : Type 1} → statement M
+put_u16s_spec =
     tie.close (tie.spec put-u16-requires add-put-u16 put-u16-requires-2 same_length returns)

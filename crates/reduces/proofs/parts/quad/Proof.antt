@@ -41,8 +41,8 @@ returns : tie.Need-returns
 unfolding folded
 returns c = simp (zero-mul, one-mul, add-zero) (cc)
 
-pub quad-spec : {M : Type 1} → statement M
-quad-spec =
+pub quad_spec : {M : Type 1} → statement M
+quad_spec =
     tie.close
     (tie.spec
     at-requires

@@ -15,5 +15,5 @@ twice-requires-2 c κs = search rules
 returns-2 : tie.Need-returns-2
 returns-2 c = pass (search tests) (search tests)
 
-pub halved-spec : {M : Type 1} → statement M
-halved-spec = tie.close (tie.spec twice-requires returns twice-requires-2 returns-2)
+pub halved_spec : {M : Type 1} → statement M
+halved_spec = tie.close (tie.spec twice-requires returns twice-requires-2 returns-2)

@@ -29,8 +29,8 @@ returns-3 c = search rules
 returns-4 : tie.Need-returns-4
 returns-4 c = cc
 
-pub reduce-agrees-spec : {M : Type 1} → statement M
-reduce-agrees-spec =
+pub reduce_agrees_spec : {M : Type 1} → statement M
+reduce_agrees_spec =
     tie.close
     (tie.spec
     enum_told

@@ -20,5 +20,5 @@ returns c =
     c.spread.ensures
     ∙ block_same _ _ _ _ _ (λ i j p q. let z : 0 + i * 0 + j * 0 ≡ 0 = omega arith in ap (λ (k : ℕ). get_or (v ∷ []) k 0) z)
 
-pub fill-block-spec : {M : Type 1} → statement M
-fill-block-spec = tie.close (tie.spec slice-aggregate-spread spread-requires returns)
+pub fill_block_spec : {M : Type 1} → statement M
+fill_block_spec = tie.close (tie.spec slice-aggregate-spread spread-requires returns)

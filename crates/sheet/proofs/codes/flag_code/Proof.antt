@@ -11,5 +11,5 @@ returns-2 : tie.Need-returns-2
 unfolding flag_code
 returns-2 c = search calls
 
-pub flag-code-spec : {M : Type 1} → statement M
-flag-code-spec = tie.close (tie.spec returns returns-2)
+pub flag_code_spec : {M : Type 1} → statement M
+flag_code_spec = tie.close (tie.spec returns returns-2)

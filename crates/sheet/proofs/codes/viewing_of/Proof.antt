@@ -1,15 +1,15 @@
 use Rattle.numbers.specs.Laws.Choice.{calls}
-use Rattle.sheet.specs.Codes.{viewingOf}
+use Rattle.sheet.specs.Codes.{viewing_of}
 use Rattle.sheet.proofs.codes.viewing_of.Statement.{statement}
 use Rattle.sheet.proofs.codes.viewing_of.Tie as tie
 
 returns : tie.Need-returns
-unfolding viewingOf
+unfolding viewing_of
 returns c = search calls
 
 returns-2 : tie.Need-returns-2
-unfolding viewingOf
+unfolding viewing_of
 returns-2 c = search calls
 
-pub viewing-of-spec : {M : Type 1} → statement M
-viewing-of-spec = tie.close (tie.spec returns returns-2)
+pub viewing_of_spec : {M : Type 1} → statement M
+viewing_of_spec = tie.close (tie.spec returns returns-2)

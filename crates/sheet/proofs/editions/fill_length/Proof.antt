@@ -1,11 +1,11 @@
-use Rattle.sheet.specs.Editions.{fillLength}
+use Rattle.sheet.specs.Editions.{fill_length}
 use borrow.Author.Rules.{rules}
 use Rattle.sheet.proofs.editions.fill_length.Statement.{statement}
 use Rattle.sheet.proofs.editions.fill_length.Tie as tie
 
 returns : tie.Need-returns
-unfolding fillLength
+unfolding fill_length
 returns c = search rules
 
-pub fill-length-spec : {M : Type 1} → statement M
-fill-length-spec = tie.close (tie.spec returns)
+pub fill_length_spec : {M : Type 1} → statement M
+fill_length_spec = tie.close (tie.spec returns)

@@ -7,5 +7,5 @@ returns : tie.Need-returns
 unfolding limits
 returns c = search rules
 
-pub limits-spec : {M : Type 1} → statement M
-limits-spec = tie.close (tie.spec returns)
+pub limits_spec : {M : Type 1} → statement M
+limits_spec = tie.close (tie.spec returns)

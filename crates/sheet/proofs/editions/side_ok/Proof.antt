@@ -14,5 +14,5 @@ between-requires c κs = search rules
 returns : tie.Need-returns
 returns c = c.between.ensures ∙ ap (λ (l : SizeLimits). between 1 l.side c.before.before.args.x) c.before.limits.ensures
 
-pub side-ok-spec : {M : Type 1} → statement M
-side-ok-spec = tie.close (tie.spec limits-requires between-requires returns)
+pub side_ok_spec : {M : Type 1} → statement M
+side_ok_spec = tie.close (tie.spec limits-requires between-requires returns)

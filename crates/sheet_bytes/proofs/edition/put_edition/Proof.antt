@@ -1,7 +1,7 @@
 use mathlib.Core.List.{[], ◌∷◌}
 use mathlib.Core.Path.{refl}
 use borrow.Author.Rules.{rules}
-use Rattle.sheet.specs.Codes.{editionTag}
+use Rattle.sheet.specs.Codes.{edition_tag}
 use Rattle.fields.specs.Laws.Puts.{field_put}
 use Rattle.sheet_bytes.proofs.edition.put_edition.Statement.{statement}
 use Rattle.sheet_bytes.proofs.edition.put_edition.Tie as tie
@@ -18,7 +18,7 @@ same_length c = search rules
 returns : tie.Need-returns
 returns c =
     let a = c.before.before.before.before.before.before.before.before.before.args in
-    field_put a.out.now 0 editionTag 1 (a.edition ∷ []) refl c.before.before.before.before.before.before.put-head.ensures c.before.before.put_byte.ensures
+    field_put a.out.now 0 edition_tag 1 (a.edition ∷ []) refl c.before.before.before.before.before.before.put-head.ensures c.before.before.put_byte.ensures
 
-pub put-edition-spec : {M : Type 1} → statement M
-put-edition-spec = tie.close (tie.spec put-head-requires put-byte-requires same_length returns)
+pub put_edition_spec : {M : Type 1} → statement M
+put_edition_spec = tie.close (tie.spec put-head-requires put-byte-requires same_length returns)

@@ -1,6 +1,6 @@
 use native.Mathlib.Omega.{arith}
 use borrow.Author.Rules.{rules}
-use Rattle.sheet_bytes.specs.Laws.Lengths.{length-layout}
+use Rattle.sheet_bytes.specs.Laws.Lengths.{length_layout}
 use Rattle.sheet_bytes.proofs.layouts.layout_len.Statement.{statement}
 use Rattle.sheet_bytes.proofs.layouts.layout_len.Tie as tie
 
@@ -17,7 +17,7 @@ cast-result-2 : tie.Need-overflow-cast-result-2
 cast-result-2 c = search rules
 
 returns : tie.Need-returns
-returns c = let e = length-layout c.before.args.l in omega arith
+returns c = let e = length_layout c.before.args.l in omega arith
 
-pub layout-len-spec : {M : Type 1} → statement M
-layout-len-spec = tie.close (tie.spec cast-result mul-result add-result cast-result-2 returns)
+pub layout_len_spec : {M : Type 1} → statement M
+layout_len_spec = tie.close (tie.spec cast-result mul-result add-result cast-result-2 returns)

@@ -1,8 +1,8 @@
 use mathlib.Core.List.{◌++◌}
 use borrow.Author.Rules.{rules}
-use Rattle.numbers.specs.Laws.Lists.{puts-after}
-use Rattle.numbers.specs.Little.{u16Bytes}
-use Rattle.sheet_bytes.specs.Bytes.{dimensionBytes}
+use Rattle.numbers.specs.Laws.Lists.{puts_after}
+use Rattle.numbers.specs.Little.{u16_bytes}
+use Rattle.sheet_bytes.specs.Bytes.{dimension_bytes}
 use Rattle.sheet_bytes.proofs.layouts.put_dimension.Statement.{statement}
 use Rattle.sheet_bytes.proofs.layouts.put_dimension.Tie as tie
 
@@ -25,18 +25,18 @@ same_length : tie.Need-same-length
 same_length c = search rules
 
 returns : tie.Need-returns
-unfolding dimensionBytes
+unfolding dimension_bytes
 returns c =
     let a = c.before.before.before.before.before.before.before.before.before.before.before.before.before.args in
     let d = a.d in
-    let sizes = u16Bytes d.block ++ u16Bytes d.size in
-    let steps = u16Bytes d.stride ++ u16Bytes d.offset in
-    puts-after a.out.now a.at (sizes ++ steps) (u16Bytes d.span)
-    (puts-after a.out.now a.at sizes steps c.before.before.before.before.before.before.before.before.before.before.put-u16s.ensures c.before.before.before.before.before.before.put-u16s2.ensures)
+    let sizes = u16_bytes d.block ++ u16_bytes d.size in
+    let steps = u16_bytes d.stride ++ u16_bytes d.offset in
+    puts_after a.out.now a.at (sizes ++ steps) (u16_bytes d.span)
+    (puts_after a.out.now a.at sizes steps c.before.before.before.before.before.before.before.before.before.before.put-u16s.ensures c.before.before.before.before.before.before.put-u16s2.ensures)
     c.before.before.put-u16.ensures
 
-pub put-dimension-spec : {M : Type 1} → statement M
-put-dimension-spec =
+pub put_dimension_spec : {M : Type 1} → statement M
+put_dimension_spec =
     tie.close
     (tie.spec
     put-u16s-requires

@@ -1,8 +1,8 @@
 use native.Mathlib.Omega.{arith}
 use borrow.Author.Rules.{rules}
-use Rattle.sheet_bytes.specs.Bytes.{layoutBytes}
+use Rattle.sheet_bytes.specs.Bytes.{layout_bytes}
 use Rattle.fields.specs.Laws.Puts.{field_put}
-use Rattle.fields.specs.Laws.Lengths.{length-field}
+use Rattle.fields.specs.Laws.Lengths.{length_field}
 use Rattle.sheet_bytes.proofs.layouts.put_layout.Statement.{statement}
 use Rattle.sheet_bytes.proofs.layouts.put_layout.Tie as tie
 
@@ -12,7 +12,7 @@ layout-len-requires c κs = search rules
 put-head-requires : tie.Need-put-head-requires
 put-head-requires c κs =
     let x = c.before.before.before.args.l in
-    let e = length-field 0x10 (layoutBytes x) in
+    let e = length_field 0x10 (layout_bytes x) in
     omega arith
 
 add-put-layout-content : tie.Need-overflow-add-put-layout-content
@@ -21,7 +21,7 @@ add-put-layout-content c = search rules
 put-layout-content-requires : tie.Need-put-layout-content-requires
 put-layout-content-requires c κs =
     let x = c.before.before.before.before.before.before.before.args.l in
-    let e = length-field 0x10 (layoutBytes x) in
+    let e = length_field 0x10 (layout_bytes x) in
     (c.before.before.before.before.before.before.before.requires.0, omega arith)
 
 field-len-requires : tie.Need-field-len-requires
@@ -37,11 +37,11 @@ returns : tie.Need-returns
 returns c =
     let a = c.before.before.before.before.before.before.before.before.before.before.before.args in
     let x = a.l in
-    let e = length-field 0x10 (layoutBytes x) in
-    (omega arith, field_put a.out.now a.at 0x10 c.before.before.before.before.before.before.before.before.before.layout-len.result (layoutBytes x) c.before.before.before.before.before.before.before.before.before.layout-len.ensures c.before.before.before.before.before.before.before.put-head.ensures c.before.before.before.put-layout-content.ensures)
+    let e = length_field 0x10 (layout_bytes x) in
+    (omega arith, field_put a.out.now a.at 0x10 c.before.before.before.before.before.before.before.before.before.layout-len.result (layout_bytes x) c.before.before.before.before.before.before.before.before.before.layout-len.ensures c.before.before.before.before.before.before.before.put-head.ensures c.before.before.before.put-layout-content.ensures)
 
-pub put-layout-spec : {M : Type 1} → statement M
-put-layout-spec =
+pub put_layout_spec : {M : Type 1} → statement M
+put_layout_spec =
     tie.close
     (tie.spec
     layout-len-requires

@@ -1,6 +1,6 @@
 use borrow.Author.Rules.{rules}
-use Rattle.numbers.specs.Laws.Lists.{puts-after}
-use Rattle.sheet_bytes.specs.Bytes.{clipBytes}
+use Rattle.numbers.specs.Laws.Lists.{puts_after}
+use Rattle.sheet_bytes.specs.Bytes.{clip_bytes}
 use Rattle.sheet_bytes.proofs.views.put_clips.Statement.{statement}
 use Rattle.sheet_bytes.proofs.views.put_clips.Tie as tie
 
@@ -17,11 +17,11 @@ same_length : tie.Need-same-length
 same_length c = search rules
 
 returns : tie.Need-returns
-unfolding clipBytes
+unfolding clip_bytes
 returns c =
     let a = c.before.before.before.before.before.before.before.before.before.args in
-    puts-after a.out.now a.at (clipBytes a.rows) (clipBytes a.columns) c.before.before.before.before.before.before.put-u16s.ensures c.before.before.put-u16s2.ensures
+    puts_after a.out.now a.at (clip_bytes a.rows) (clip_bytes a.columns) c.before.before.before.before.before.before.put-u16s.ensures c.before.before.put-u16s2.ensures
 
-pub put-clips-spec : {M : Type 1} → statement M
-put-clips-spec =
+pub put_clips_spec : {M : Type 1} → statement M
+put_clips_spec =
     tie.close (tie.spec put-u16s-requires add-put-u16s put-u16s-requires-2 same_length returns)

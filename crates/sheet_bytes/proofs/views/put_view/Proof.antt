@@ -1,8 +1,8 @@
 use native.Mathlib.Omega.{arith}
 use borrow.Author.Rules.{rules}
-use Rattle.sheet_bytes.specs.Bytes.{viewBytes}
+use Rattle.sheet_bytes.specs.Bytes.{view_bytes}
 use Rattle.fields.specs.Laws.Puts.{field_put}
-use Rattle.fields.specs.Laws.Lengths.{length-field}
+use Rattle.fields.specs.Laws.Lengths.{length_field}
 use Rattle.sheet_bytes.proofs.views.put_view.Statement.{statement}
 use Rattle.sheet_bytes.proofs.views.put_view.Tie as tie
 
@@ -12,7 +12,7 @@ view-len-requires c κs = search rules
 put-head-requires : tie.Need-put-head-requires
 put-head-requires c κs =
     let x = c.before.before.before.args.v in
-    let e = length-field 0x11 (viewBytes x) in
+    let e = length_field 0x11 (view_bytes x) in
     omega arith
 
 add-put-view-content : tie.Need-overflow-add-put-view-content
@@ -21,7 +21,7 @@ add-put-view-content c = search rules
 put-view-content-requires : tie.Need-put-view-content-requires
 put-view-content-requires c κs =
     let x = c.before.before.before.before.before.before.before.args.v in
-    let e = length-field 0x11 (viewBytes x) in
+    let e = length_field 0x11 (view_bytes x) in
     (c.before.before.before.before.before.before.before.requires.0, omega arith)
 
 field-len-requires : tie.Need-field-len-requires
@@ -37,11 +37,11 @@ returns : tie.Need-returns
 returns c =
     let a = c.before.before.before.before.before.before.before.before.before.before.before.args in
     let x = a.v in
-    let e = length-field 0x11 (viewBytes x) in
-    (omega arith, field_put a.out.now a.at 0x11 c.before.before.before.before.before.before.before.before.before.view-len.result (viewBytes x) c.before.before.before.before.before.before.before.before.before.view-len.ensures c.before.before.before.before.before.before.before.put-head.ensures c.before.before.before.put-view-content.ensures)
+    let e = length_field 0x11 (view_bytes x) in
+    (omega arith, field_put a.out.now a.at 0x11 c.before.before.before.before.before.before.before.before.before.view-len.result (view_bytes x) c.before.before.before.before.before.before.before.before.before.view-len.ensures c.before.before.before.before.before.before.before.put-head.ensures c.before.before.before.put-view-content.ensures)
 
-pub put-view-spec : {M : Type 1} → statement M
-put-view-spec =
+pub put_view_spec : {M : Type 1} → statement M
+put_view_spec =
     tie.close
     (tie.spec
     view-len-requires

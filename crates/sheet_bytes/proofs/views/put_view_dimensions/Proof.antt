@@ -1,64 +1,64 @@
 use Prim.Native.Nat.{ℕ, ◌-◌, ◌≤◌}
 use native.Mathlib.Omega.{arith}
 use borrow.Author.Rules.{rules}
-use Rattle.tensor_ranges.specs.Views.{theViewDimension}
-use Rattle.sheet_bytes.specs.Bytes.{viewDimensionBytes}
-use Rattle.fields.specs.Laws.Puts.{Turns, no-turns, one-turn, turn-fits, all-turns}
-use Rattle.sheet_bytes.specs.Laws.Lengths.{length-view-dimension}
+use Rattle.tensor_ranges.specs.Views.{the_view_dimension}
+use Rattle.sheet_bytes.specs.Bytes.{view_dimension_bytes}
+use Rattle.fields.specs.Laws.Puts.{Turns, no_turns, one_turn, turn_fits, all_turns}
+use Rattle.sheet_bytes.specs.Laws.Lengths.{length_view_dimension}
 use Rattle.sheet_bytes.proofs.views.put_view_dimensions.Statement.{statement}
 use Rattle.sheet_bytes.proofs.views.put_view_dimensions.Tie as tie
 
-abbrev invariant-loop : tie.invariant-loop
-invariant-loop out₀ at count ds n p₀ k₀ out p k = (k ≤ count) × Turns out₀ at (λ (j : ℕ). viewDimensionBytes (theViewDimension ds j)) out p k
+abbrev invariant_loop : tie.invariant-loop
+invariant_loop out₀ at count ds n p₀ k₀ out p k = (k ≤ count) × Turns out₀ at (λ (j : ℕ). view_dimension_bytes (the_view_dimension ds j)) out p k
 
-abbrev decreases-loop : tie.decreases-loop
-decreases-loop out₀ at count ds n p₀ k₀ out p k = count - k
+abbrev decreases_loop : tie.decreases-loop
+decreases_loop out₀ at count ds n p₀ k₀ out p k = count - k
 
-loop-holds : tie.Need-loop-init invariant-loop decreases-loop
-loop-holds c = (search rules, no-turns _ _ _)
+loop-holds : tie.Need-loop-init invariant_loop decreases_loop
+loop-holds c = (search rules, no_turns _ _ _)
 
-mul-d : tie.Need-overflow-mul-d invariant-loop decreases-loop
+mul-d : tie.Need-overflow-mul-d invariant_loop decreases_loop
 mul-d c = search rules
 
-array-copy-out-d : tie.Need-array-copy-out-d invariant-loop decreases-loop
+array-copy-out-d : tie.Need-array-copy-out-d invariant_loop decreases_loop
 array-copy-out-d c = search rules
 
-put-u16s-requires : tie.Need-put-u16s-requires invariant-loop decreases-loop
+put-u16s-requires : tie.Need-put-u16s-requires invariant_loop decreases_loop
 put-u16s-requires c κs =
-    let t = turn-fits _ _ _ _ c.before.before.before.loop.invariant.1 c.before.before.before.before.before.requires.1 c.before.before.loop-test.true in
-    let e = length-view-dimension (theViewDimension c.before.before.before.before.before.args.t4 c.before.before.before.loop.k) in
+    let t = turn_fits _ _ _ _ c.before.before.before.loop.invariant.1 c.before.before.before.before.before.requires.1 c.before.before.loop-test.true in
+    let e = length_view_dimension (the_view_dimension c.before.before.before.before.before.args.t4 c.before.before.before.loop.k) in
     omega arith
 
-add-p : tie.Need-overflow-add-p invariant-loop decreases-loop
+add-p : tie.Need-overflow-add-p invariant_loop decreases_loop
 add-p c =
-    let t = turn-fits _ _ _ _ c.before.before.before.before.before.before.loop.invariant.1 c.before.before.before.before.before.before.before.before.requires.1 c.before.before.before.before.before.loop-test.true in
-    let e = length-view-dimension (theViewDimension c.before.before.before.before.before.before.before.before.args.t4 c.before.before.before.before.before.before.loop.k) in
+    let t = turn_fits _ _ _ _ c.before.before.before.before.before.before.loop.invariant.1 c.before.before.before.before.before.before.before.before.requires.1 c.before.before.before.before.before.loop-test.true in
+    let e = length_view_dimension (the_view_dimension c.before.before.before.before.before.before.before.before.args.t4 c.before.before.before.before.before.before.loop.k) in
     search rules
 
-add-k : tie.Need-overflow-add-k invariant-loop decreases-loop
+add-k : tie.Need-overflow-add-k invariant_loop decreases_loop
 add-k c = search rules
 
-loop-less : tie.Need-loop-smaller invariant-loop decreases-loop
+loop-less : tie.Need-loop-smaller invariant_loop decreases_loop
 loop-less c = search rules
 
-loop-again : tie.Need-loop-preserved invariant-loop decreases-loop
-unfolding viewDimensionBytes
+loop-again : tie.Need-loop-preserved invariant_loop decreases_loop
+unfolding view_dimension_bytes
 loop-again c =
-    let e = length-view-dimension (theViewDimension c.before.before.before.before.before.before.before.before.args.t4 c.before.before.before.before.before.before.loop.k) in
-    (search rules, one-turn _ _ _ c.before.before.before.before.before.before.loop.invariant.1 (rw e) c.before.before.put-u16s.ensures)
+    let e = length_view_dimension (the_view_dimension c.before.before.before.before.before.before.before.before.args.t4 c.before.before.before.before.before.before.loop.k) in
+    (search rules, one_turn _ _ _ c.before.before.before.before.before.before.loop.invariant.1 (rw e) c.before.before.put-u16s.ensures)
 
-same_length : tie.Need-same-length invariant-loop decreases-loop
+same_length : tie.Need-same-length invariant_loop decreases_loop
 same_length c = c.before.loop.invariant.1.kept
 
-returns : tie.Need-returns invariant-loop decreases-loop
-returns c = (all-turns _ _ _ _ c.before.loop.invariant.1 c.before.loop.invariant.0 c.loop-test.false).1
+returns : tie.Need-returns invariant_loop decreases_loop
+returns c = (all_turns _ _ _ _ c.before.loop.invariant.1 c.before.loop.invariant.0 c.loop-test.false).1
 
-pub put-view-dimensions-spec : {M : Type 1} → statement M
-put-view-dimensions-spec =
+pub put_view_dimensions_spec : {M : Type 1} → statement M
+put_view_dimensions_spec =
     tie.close
     (tie.spec
-    invariant-loop
-    decreases-loop
+    invariant_loop
+    decreases_loop
     loop-holds
     mul-d
     array-copy-out-d

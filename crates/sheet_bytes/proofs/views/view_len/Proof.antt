@@ -1,6 +1,6 @@
 use native.Mathlib.Omega.{arith}
 use borrow.Author.Rules.{rules}
-use Rattle.sheet_bytes.specs.Laws.Lengths.{length-view}
+use Rattle.sheet_bytes.specs.Laws.Lengths.{length_view}
 use Rattle.sheet_bytes.proofs.views.view_len.Statement.{statement}
 use Rattle.sheet_bytes.proofs.views.view_len.Tie as tie
 
@@ -32,10 +32,10 @@ cast-result-3 : tie.Need-overflow-cast-result-3
 cast-result-3 c = search rules
 
 returns : tie.Need-returns
-returns c = let e = length-view c.before.args.v in omega arith
+returns c = let e = length_view c.before.args.v in omega arith
 
-pub view-len-spec : {M : Type 1} → statement M
-view-len-spec =
+pub view_len_spec : {M : Type 1} → statement M
+view_len_spec =
     tie.close
     (tie.spec
     sized-rank-requires

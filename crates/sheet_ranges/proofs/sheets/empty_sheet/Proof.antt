@@ -1,4 +1,4 @@
-use Rattle.sheet_ranges.specs.Sheets.{emptySheet}
+use Rattle.sheet_ranges.specs.Sheets.{empty_sheet}
 use borrow.Author.Rules.{rules}
 use Rattle.sheet_ranges.proofs.sheets.empty_sheet.Statement.{statement}
 use Rattle.sheet_ranges.proofs.sheets.empty_sheet.Tie as tie
@@ -10,8 +10,8 @@ no-cell-requires : tie.Need-no-cell-requires
 no-cell-requires c κs = search rules
 
 returns : tie.Need-returns
-unfolding emptySheet
+unfolding empty_sheet
 returns c = cc
 
-pub empty-sheet-spec : {M : Type 1} → statement M
-empty-sheet-spec = tie.close (tie.spec no-tensors-requires no-cell-requires returns)
+pub empty_sheet_spec : {M : Type 1} → statement M
+empty_sheet_spec = tie.close (tie.spec no-tensors-requires no-cell-requires returns)

@@ -1,5 +1,5 @@
 use Rattle.numbers.specs.Laws.Choice.{calls}
-use Rattle.sheet_ranges.specs.Sheets.{layoutAtOk}
+use Rattle.sheet_ranges.specs.Sheets.{layout_at_ok}
 use borrow.Author.Rules.{rules}
 use Rattle.sheet_ranges.proofs.sheets.layout_at_ok.Statement.{statement}
 use Rattle.sheet_ranges.proofs.sheets.layout_at_ok.Tie as tie
@@ -17,14 +17,14 @@ layout-unused-requires : tie.Need-layout-unused-requires
 layout-unused-requires c κs = search rules
 
 returns : tie.Need-returns
-unfolding layoutAtOk
+unfolding layout_at_ok
 returns c = search calls depth 9
 
 returns-2 : tie.Need-returns-2
-unfolding layoutAtOk
+unfolding layout_at_ok
 returns-2 c = search calls depth 9
 
-pub layout-at-ok-spec : {M : Type 1} → statement M
-layout-at-ok-spec =
+pub layout_at_ok_spec : {M : Type 1} → statement M
+layout_at_ok_spec =
     tie.close
     (tie.spec mul-l array-copy-out-l layout-ok-requires layout-unused-requires returns returns-2)

@@ -1,5 +1,5 @@
 use Rattle.numbers.specs.Laws.Choice.{calls}
-use Rattle.sheet_ranges.specs.Sheets.{stepAtOk}
+use Rattle.sheet_ranges.specs.Sheets.{step_at_ok}
 use borrow.Author.Rules.{rules}
 use Rattle.sheet_ranges.proofs.sheets.step_at_ok.Statement.{statement}
 use Rattle.sheet_ranges.proofs.sheets.step_at_ok.Tie as tie
@@ -17,14 +17,14 @@ step-unused-requires : tie.Need-step-unused-requires
 step-unused-requires c κs = search rules
 
 returns : tie.Need-returns
-unfolding stepAtOk
+unfolding step_at_ok
 returns c = search calls depth 9
 
 returns-2 : tie.Need-returns-2
-unfolding stepAtOk
+unfolding step_at_ok
 returns-2 c = search calls depth 9
 
-pub step-at-ok-spec : {M : Type 1} → statement M
-step-at-ok-spec =
+pub step_at_ok_spec : {M : Type 1} → statement M
+step_at_ok_spec =
     tie.close
     (tie.spec mul-c array-copy-out-c step-ok-requires step-unused-requires returns returns-2)

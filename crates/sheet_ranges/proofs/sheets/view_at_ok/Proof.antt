@@ -1,5 +1,5 @@
 use Rattle.numbers.specs.Laws.Choice.{calls}
-use Rattle.sheet_ranges.specs.Sheets.{viewAtOk}
+use Rattle.sheet_ranges.specs.Sheets.{view_at_ok}
 use borrow.Author.Rules.{rules}
 use Rattle.sheet_ranges.proofs.sheets.view_at_ok.Statement.{statement}
 use Rattle.sheet_ranges.proofs.sheets.view_at_ok.Tie as tie
@@ -17,14 +17,14 @@ view-unused-requires : tie.Need-view-unused-requires
 view-unused-requires c κs = search rules
 
 returns : tie.Need-returns
-unfolding viewAtOk
+unfolding view_at_ok
 returns c = search calls depth 9
 
 returns-2 : tie.Need-returns-2
-unfolding viewAtOk
+unfolding view_at_ok
 returns-2 c = search calls depth 9
 
-pub view-at-ok-spec : {M : Type 1} → statement M
-view-at-ok-spec =
+pub view_at_ok_spec : {M : Type 1} → statement M
+view_at_ok_spec =
     tie.close
     (tie.spec mul-v array-copy-out-v view-ok-requires view-unused-requires returns returns-2)

@@ -25,8 +25,8 @@ returns-3 : tie.Need-returns-3
 unfolding writable
 returns-3 c = pass (search tests) (pass (search tests) (search tests))
 
-pub writable-spec : {M : Type 1} → statement M
-writable-spec =
+pub writable_spec : {M : Type 1} → statement M
+writable_spec =
     tie.close
     (tie.spec
     edition-ok-requires

@@ -1,15 +1,15 @@
 use Rattle.numbers.specs.Laws.Choice.{calls}
-use Rattle.sheet_ranges.specs.Steps.{biasOk}
+use Rattle.sheet_ranges.specs.Steps.{bias_ok}
 use Rattle.sheet_ranges.proofs.steps.bias_ok.Statement.{statement}
 use Rattle.sheet_ranges.proofs.steps.bias_ok.Tie as tie
 
 returns : tie.Need-returns
-unfolding biasOk
+unfolding bias_ok
 returns c = search calls
 
 returns-2 : tie.Need-returns-2
-unfolding biasOk
+unfolding bias_ok
 returns-2 c = search calls
 
-pub bias-ok-spec : {M : Type 1} → statement M
-bias-ok-spec = tie.close (tie.spec returns returns-2)
+pub bias_ok_spec : {M : Type 1} → statement M
+bias_ok_spec = tie.close (tie.spec returns returns-2)

@@ -31,8 +31,8 @@ returns-2 c = rw c.before.enum-told2.given.1 c.object-is-zeros2.ensures
 returns-3 : tie.Need-returns-3
 returns-3 c = rw c.before.before.object.given.1 c.register-ok.ensures
 
-pub object-ok-spec : {M : Type 1} → statement M
-object-ok-spec =
+pub object_ok_spec : {M : Type 1} → statement M
+object_ok_spec =
     tie.close
     (tie.spec
     enum_told

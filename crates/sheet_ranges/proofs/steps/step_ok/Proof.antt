@@ -35,8 +35,8 @@ returns-3 c = rw c.before.before.step2.given.1 c.store_ok.ensures
 returns-4 : tie.Need-returns-4
 returns-4 c = rw c.before.before.step3.given.1 c.whole-ok.ensures
 
-pub step-ok-spec : {M : Type 1} → statement M
-step-ok-spec =
+pub step_ok_spec : {M : Type 1} → statement M
+step_ok_spec =
     tie.close
     (tie.spec
     enum_told

@@ -17,5 +17,5 @@ returns c = search rules
 returns-2 : tie.Need-returns-2
 returns-2 c = rw c.before.view.given.1
 
-pub viewing-ok-spec : {M : Type 1} → statement M
-viewing-ok-spec = tie.close (tie.spec enum_told enum-known-view cast-result returns returns-2)
+pub viewing_ok_spec : {M : Type 1} → statement M
+viewing_ok_spec = tie.close (tie.spec enum_told enum-known-view cast-result returns returns-2)

@@ -47,8 +47,8 @@ returns-4 c = rw c.before.before.step4.given.1 c.multiply-ok.ensures
 returns-5 : tie.Need-returns-5
 returns-5 c = rw c.before.before.step5.given.1 c.vector_ok.ensures
 
-pub whole-ok-spec : {M : Type 1} → statement M
-whole-ok-spec =
+pub whole_ok_spec : {M : Type 1} → statement M
+whole_ok_spec =
     tie.close
     (tie.spec
     enum-known-step

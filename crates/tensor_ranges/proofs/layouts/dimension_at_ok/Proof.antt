@@ -1,5 +1,5 @@
 use Rattle.numbers.specs.Laws.Choice.{calls}
-use Rattle.tensor_ranges.specs.Layouts.{dimensionAtOk}
+use Rattle.tensor_ranges.specs.Layouts.{dimension_at_ok}
 use borrow.Author.Rules.{rules}
 use Rattle.tensor_ranges.proofs.layouts.dimension_at_ok.Statement.{statement}
 use Rattle.tensor_ranges.proofs.layouts.dimension_at_ok.Tie as tie
@@ -17,15 +17,15 @@ dimension-unused-requires : tie.Need-dimension-unused-requires
 dimension-unused-requires c κs = search rules
 
 returns : tie.Need-returns
-unfolding dimensionAtOk
+unfolding dimension_at_ok
 returns c = search calls depth 9
 
 returns-2 : tie.Need-returns-2
-unfolding dimensionAtOk
+unfolding dimension_at_ok
 returns-2 c = search calls depth 9
 
-pub dimension-at-ok-spec : {M : Type 1} → statement M
-dimension-at-ok-spec =
+pub dimension_at_ok_spec : {M : Type 1} → statement M
+dimension_at_ok_spec =
     tie.close
     (tie.spec
     mul-d

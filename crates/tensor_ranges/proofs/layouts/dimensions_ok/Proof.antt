@@ -1,53 +1,53 @@
 use mathlib.Core.Path.{◌≡◌, sym}
 use mathlib.Core.Bool.{true}
 use Prim.Native.Nat.{◌-◌, ◌≤◌}
-use Rattle.numbers.specs.Laws.Choice.{went-not, went-past}
+use Rattle.numbers.specs.Laws.Choice.{went_not, went_past}
 use Rattle.numbers.specs.All.{all}
-use Rattle.numbers.specs.Laws.All.{all_none, all_more, all-false}
-use Rattle.tensor_ranges.specs.Layouts.{dimensionAtOk}
+use Rattle.numbers.specs.Laws.All.{all_none, all_more, all_false}
+use Rattle.tensor_ranges.specs.Layouts.{dimension_at_ok}
 use borrow.Author.Rules.{rules}
 use native.Mathlib.Omega.{arith}
 use Rattle.tensor_ranges.proofs.layouts.dimensions_ok.Statement.{statement}
 use Rattle.tensor_ranges.proofs.layouts.dimensions_ok.Tie as tie
 
-abbrev invariant-loop : tie.invariant-loop
-invariant-loop rank ds k₀ k = (k ≤ 5) × (all k (dimensionAtOk rank ds) ≡ true)
+abbrev invariant_loop : tie.invariant-loop
+invariant_loop rank ds k₀ k = (k ≤ 5) × (all k (dimension_at_ok rank ds) ≡ true)
 
-abbrev decreases-loop : tie.decreases-loop
-decreases-loop rank ds k₀ k = 5 - k
+abbrev decreases_loop : tie.decreases-loop
+decreases_loop rank ds k₀ k = 5 - k
 
-loop-holds : tie.Need-loop-init invariant-loop decreases-loop
+loop-holds : tie.Need-loop-init invariant_loop decreases_loop
 loop-holds c = (search rules, all_none _)
 
-dimension-at-ok-requires : tie.Need-dimension-at-ok-requires invariant-loop decreases-loop
+dimension-at-ok-requires : tie.Need-dimension-at-ok-requires invariant_loop decreases_loop
 dimension-at-ok-requires c κs = search rules
 
-returns : tie.Need-returns invariant-loop decreases-loop
+returns : tie.Need-returns invariant_loop decreases_loop
 returns c =
-    sym (all-false 5 _ c.before.before.before.loop.k c.before.before.loop-test.true (went-not c.before.dimension-at-ok.ensures c.if1.true))
+    sym (all_false 5 _ c.before.before.before.loop.k c.before.before.loop-test.true (went_not c.before.dimension-at-ok.ensures c.if1.true))
 
-add-k : tie.Need-overflow-add-k invariant-loop decreases-loop
+add-k : tie.Need-overflow-add-k invariant_loop decreases_loop
 add-k c = search rules
 
-loop-less : tie.Need-loop-smaller invariant-loop decreases-loop
+loop-less : tie.Need-loop-smaller invariant_loop decreases_loop
 loop-less c = search rules
 
-loop-again : tie.Need-loop-preserved invariant-loop decreases-loop
+loop-again : tie.Need-loop-preserved invariant_loop decreases_loop
 loop-again c =
-    (search rules, all_more _ _ c.before.before.before.loop.invariant.1 (went-past c.before.dimension-at-ok.ensures c.if1.false))
+    (search rules, all_more _ _ c.before.before.before.loop.invariant.1 (went_past c.before.dimension-at-ok.ensures c.if1.false))
 
-returns-2 : tie.Need-returns-2 invariant-loop decreases-loop
+returns-2 : tie.Need-returns-2 invariant_loop decreases_loop
 returns-2 c =
     let i = c.before.loop in
     let e : i.k ≡ 5 = omega arith in
     sym (rw e at i.invariant.1)
 
-pub dimensions-ok-spec : {M : Type 1} → statement M
-dimensions-ok-spec =
+pub dimensions_ok_spec : {M : Type 1} → statement M
+dimensions_ok_spec =
     tie.close
     (tie.spec
-    invariant-loop
-    decreases-loop
+    invariant_loop
+    decreases_loop
     loop-holds
     dimension-at-ok-requires
     returns

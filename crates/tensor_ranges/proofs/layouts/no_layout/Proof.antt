@@ -10,5 +10,5 @@ returns : tie.Need-returns
 unfolding no_layout
 returns c = cc
 
-pub no-layout-spec : {M : Type 1} → statement M
-no-layout-spec = tie.close (tie.spec no-dimension-requires returns)
+pub no_layout_spec : {M : Type 1} → statement M
+no_layout_spec = tie.close (tie.spec no-dimension-requires returns)

@@ -13,5 +13,5 @@ returns : tie.Need-returns
 unfolding no_view
 returns c = cc
 
-pub no-view-spec : {M : Type 1} → statement M
-no-view-spec = tie.close (tie.spec no-view-dimension-requires no-clip-requires returns)
+pub no_view_spec : {M : Type 1} → statement M
+no_view_spec = tie.close (tie.spec no-view-dimension-requires no-clip-requires returns)

@@ -1,5 +1,5 @@
 use Rattle.numbers.specs.Laws.Choice.{calls}
-use Rattle.tensor_ranges.specs.Views.{viewDimensionAtOk}
+use Rattle.tensor_ranges.specs.Views.{view_dimension_at_ok}
 use borrow.Author.Rules.{rules}
 use Rattle.tensor_ranges.proofs.views.view_dimension_at_ok.Statement.{statement}
 use Rattle.tensor_ranges.proofs.views.view_dimension_at_ok.Tie as tie
@@ -17,15 +17,15 @@ view-dimension-unused-requires : tie.Need-view-dimension-unused-requires
 view-dimension-unused-requires c κs = search rules
 
 returns : tie.Need-returns
-unfolding viewDimensionAtOk
+unfolding view_dimension_at_ok
 returns c = search calls depth 9
 
 returns-2 : tie.Need-returns-2
-unfolding viewDimensionAtOk
+unfolding view_dimension_at_ok
 returns-2 c = search calls depth 9
 
-pub view-dimension-at-ok-spec : {M : Type 1} → statement M
-view-dimension-at-ok-spec =
+pub view_dimension_at_ok_spec : {M : Type 1} → statement M
+view_dimension_at_ok_spec =
     tie.close
     (tie.spec
     mul-d

@@ -1,15 +1,15 @@
 use Rattle.numbers.specs.Laws.Choice.{tests, stop, pass}
-use Rattle.tensor_ranges.specs.Views.{viewDimensionUnused}
+use Rattle.tensor_ranges.specs.Views.{view_dimension_unused}
 use Rattle.tensor_ranges.proofs.views.view_dimension_unused.Statement.{statement}
 use Rattle.tensor_ranges.proofs.views.view_dimension_unused.Tie as tie
 
 returns : tie.Need-returns
-unfolding viewDimensionUnused
+unfolding view_dimension_unused
 returns c = stop _ (search tests)
 
 returns-2 : tie.Need-returns-2
-unfolding viewDimensionUnused
+unfolding view_dimension_unused
 returns-2 c = pass (search tests) (search tests)
 
-pub view-dimension-unused-spec : {M : Type 1} → statement M
-view-dimension-unused-spec = tie.close (tie.spec returns returns-2)
+pub view_dimension_unused_spec : {M : Type 1} → statement M
+view_dimension_unused_spec = tie.close (tie.spec returns returns-2)

@@ -15,5 +15,5 @@ returns-3 : tie.Need-returns-3
 unfolding clamped
 returns-3 c = search ways
 
-pub clamped-spec : {M : Type 1} → statement M
-clamped-spec = tie.close (tie.spec returns returns-2 returns-3)
+pub clamped_spec : {M : Type 1} → statement M
+clamped_spec = tie.close (tie.spec returns returns-2 returns-3)

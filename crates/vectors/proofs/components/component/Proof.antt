@@ -6,9 +6,9 @@ use borrow.Author.Rules.{rules}
 use Rattle.numbers.specs.Laws.Choice.{taken, tests, left}
 use Rattle.numbers.specs.Remainders.{remainder}
 use Rattle.kinds.specs.Values.{value}
-use Rattle.memory.specs.Elements.{byteOf}
+use Rattle.memory.specs.Elements.{byte_of}
 use Rattle.vectors.specs.Saturation.{saturated}
-use Rattle.vectors.specs.Components.{componentAt}
+use Rattle.vectors.specs.Components.{component_at}
 use Rattle.vectors.proofs.components.component.Statement.{statement}
 use Rattle.vectors.proofs.components.component.Tie as tie
 
@@ -34,13 +34,13 @@ residue-requires : tie.Need-residue-requires
 residue-requires c κs = search rules
 
 returns : tie.Need-returns
-unfolding componentAt
+unfolding component_at
 returns c =
     let a = c.before.before.before.before.before.before.before.before.args in
     let word = c.before.before.before.at.ensures ∙ ap (λ (p : ℕ). get_or a.elements.now p 0) c.before.before.before.before.place_of.ensures in
     c.residue.ensures
     ∙ ap (λ (z : ℤ). remainder z (2 ^ 32))
-    (ap₂ value c.before.before.packed-kind.ensures (c.before.byte_of.ensures ∙ ap (λ (w : ℕ). byteOf w (a.c % 4)) word)
+    (ap₂ value c.before.before.packed-kind.ensures (c.before.byte_of.ensures ∙ ap (λ (w : ℕ). byte_of w (a.c % 4)) word)
     ∙ taken _ (search tests) refl)
 
 place-of-requires-2 : tie.Need-place-of-requires-2
@@ -53,7 +53,7 @@ saturated-requires : tie.Need-saturated-requires
 saturated-requires c κs = search rules
 
 returns-2 : tie.Need-returns-2
-unfolding componentAt
+unfolding component_at
 returns-2 c =
     let a = c.before.before.before.before.before.before.args in
     let x = c.before.at2.ensures ∙ ap (λ (p : ℕ). get_or a.elements.now p 0) c.before.before.place-of2.ensures in
@@ -61,8 +61,8 @@ returns-2 c =
     ∙ ap (λ (z : ℤ). remainder z (2 ^ 32))
     (ap (λ (x : ℕ). saturated a.v.interpretation (value a.kind x)) x ∙ left _ (search tests) refl)
 
-pub component-spec : {M : Type 1} → statement M
-component-spec =
+pub component_spec : {M : Type 1} → statement M
+component_spec =
     tie.close
     (tie.spec
     is-packed-requires

@@ -27,6 +27,6 @@ returns : tie.Need-returns
 unfolding above
 returns c = let k = c.before.before.args.kind in omega (arith, below_half k, pow_pos (width k), above_most k)
 
-pub high-raised-spec : {M : Type 1} → statement M
-high-raised-spec =
+pub high_raised_spec : {M : Type 1} → statement M
+high_raised_spec =
     tie.close (tie.spec modulus-requires sub-result below-requires sub-result-2 add-result returns)

@@ -2,7 +2,7 @@ use mathlib.Core.Path.{ap, ◌∙◌}
 use Prim.Native.Nat.{ℕ, ◌%◌, ◌^◌}
 use borrow.Author.Rules.{rules}
 use Rattle.vectors.specs.Residues.{clamped}
-use Rattle.vectors.specs.Laws.Saturation.{clamped-saturated}
+use Rattle.vectors.specs.Laws.Saturation.{clamped_saturated}
 use Rattle.vectors.proofs.components.saturated.Statement.{statement}
 use Rattle.vectors.proofs.components.saturated.Tie as tie
 
@@ -27,10 +27,10 @@ returns c =
     ap (λ (n : ℕ). n % 2 ^ 32)
     (c.clamped.ensures
     ∙ (λ i. clamped (c.before.before.before.low-raised.ensures i) (c.before.before.high-raised.ensures i) (c.before.raised.ensures i)))
-    ∙ clamped-saturated a.from a.kind a.x
+    ∙ clamped_saturated a.from a.kind a.x
 
-pub saturated-spec : {M : Type 1} → statement M
-saturated-spec =
+pub saturated_spec : {M : Type 1} → statement M
+saturated_spec =
     tie.close
     (tie.spec
     low-raised-requires

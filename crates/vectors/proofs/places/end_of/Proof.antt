@@ -5,8 +5,8 @@ use borrow.Author.Rules.{rules}
 use borrow.Author.Tests.{lt-ltb, le-ltb}
 use Rattle.numbers.specs.Laws.Choice.{taken, left}
 use Rattle.kinds.specs.Laws.Widths.{bytes_high}
-use Rattle.registers.specs.Laws.Grids.{number-column}
-use Rattle.vectors.specs.Places.{end_of, matrixElements}
+use Rattle.registers.specs.Laws.Grids.{number_column}
+use Rattle.vectors.specs.Places.{end_of, matrix_elements}
 use Rattle.vectors.proofs.places.end_of.Statement.{statement}
 use Rattle.vectors.proofs.places.end_of.Tie as tie
 
@@ -17,10 +17,10 @@ cast-columns : tie.Need-overflow-cast-columns
 cast-columns c = search rules
 
 div-matrix-byte : tie.Need-nonzero-div-matrix-byte
-div-matrix-byte c = let a = c.before.before.before.args in omega (arith, number-column a.v.rows a.v.columns a.e (omega arith))
+div-matrix-byte c = let a = c.before.before.before.args in omega (arith, number_column a.v.rows a.v.columns a.e (omega arith))
 
 rem-matrix-byte : tie.Need-nonzero-rem-matrix-byte
-rem-matrix-byte c = let a = c.before.before.before.args in omega (arith, number-column a.v.rows a.v.columns a.e (omega arith))
+rem-matrix-byte c = let a = c.before.before.before.args in omega (arith, number_column a.v.rows a.v.columns a.e (omega arith))
 
 matrix-byte-requires : tie.Need-matrix-byte-requires
 matrix-byte-requires c κs = search rules
@@ -35,7 +35,7 @@ returns : tie.Need-returns
 unfolding end_of
 returns c =
     let a = c.before.before.before.before.before.args in
-    taken _ (lt-ltb a.e (matrixElements a.v) (omega arith)) (ap₂ ◌+◌ c.before.matrix-byte.ensures.0 c.bytes.ensures)
+    taken _ (lt-ltb a.e (matrix_elements a.v) (omega arith)) (ap₂ ◌+◌ c.before.matrix-byte.ensures.0 c.bytes.ensures)
 
 bias-byte-requires : tie.Need-bias-byte-requires
 bias-byte-requires c κs = search rules
@@ -47,10 +47,10 @@ returns-2 : tie.Need-returns-2
 unfolding end_of
 returns-2 c =
     let a = c.before.before.before.args in
-    left _ (le-ltb a.e (matrixElements a.v) (omega arith)) (omega arith)
+    left _ (le-ltb a.e (matrix_elements a.v) (omega arith)) (omega arith)
 
-pub end-of-spec : {M : Type 1} → statement M
-end-of-spec =
+pub end_of_spec : {M : Type 1} → statement M
+end_of_spec =
     tie.close
     (tie.spec
     matrix-elements-requires

@@ -1,6 +1,6 @@
 use native.Mathlib.Omega.{arith}
 use borrow.Author.Rules.{rules}
-use Rattle.vectors.proofs.Laws.{sides-most}
+use Rattle.vectors.proofs.Laws.{sides_most}
 use Rattle.vectors.proofs.places.matrix_elements.Statement.{statement}
 use Rattle.vectors.proofs.places.matrix_elements.Tie as tie
 
@@ -11,10 +11,10 @@ cast-result-2 : tie.Need-overflow-cast-result-2
 cast-result-2 c = search rules
 
 mul-result : tie.Need-overflow-mul-result
-mul-result c = omega (arith, sides-most c.before.before.args.v.rows c.before.before.args.v.columns (omega arith) (omega arith))
+mul-result c = omega (arith, sides_most c.before.before.args.v.rows c.before.before.args.v.columns (omega arith) (omega arith))
 
 returns : tie.Need-returns
-returns c = (search rules, sides-most c.before.before.args.v.rows c.before.before.args.v.columns (omega arith) (omega arith))
+returns c = (search rules, sides_most c.before.before.args.v.rows c.before.before.args.v.columns (omega arith) (omega arith))
 
-pub matrix-elements-spec : {M : Type 1} → statement M
-matrix-elements-spec = tie.close (tie.spec cast-result cast-result-2 mul-result returns)
+pub matrix_elements_spec : {M : Type 1} → statement M
+matrix_elements_spec = tie.close (tie.spec cast-result cast-result-2 mul-result returns)

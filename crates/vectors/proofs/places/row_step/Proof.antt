@@ -1,7 +1,7 @@
 use native.Mathlib.Omega.{arith}
 use borrow.Author.Rules.{rules}
 use Rattle.kinds.specs.Laws.Widths.{bytes_high}
-use Rattle.vectors.specs.Places.{rowStep}
+use Rattle.vectors.specs.Places.{row_step}
 use Rattle.vectors.proofs.places.row_step.Statement.{statement}
 use Rattle.vectors.proofs.places.row_step.Tie as tie
 
@@ -18,13 +18,13 @@ bytes-requires : tie.Need-bytes-requires
 bytes-requires c κs = search rules
 
 returns : tie.Need-returns
-unfolding rowStep
+unfolding row_step
 returns c = (rw c.before.enum_told.given.1, search rules)
 
 returns-2 : tie.Need-returns-2
-unfolding rowStep
+unfolding row_step
 returns-2 c = (rw c.before.enum-told2.given.1 c.bytes.ensures, omega (arith, bytes_high c.before.before.before.args.v.matrix))
 
-pub row-step-spec : {M : Type 1} → statement M
-row-step-spec =
+pub row_step_spec : {M : Type 1} → statement M
+row_step_spec =
     tie.close (tie.spec enum_told cast-result enum-told-2 bytes-requires returns returns-2)

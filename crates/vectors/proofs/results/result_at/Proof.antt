@@ -2,8 +2,8 @@ use mathlib.Core.Path.{ap₂, ◌∙◌}
 use Prim.Native.Nat.{ℕ, ◌^◌}
 use borrow.Author.Rules.{rules}
 use Rattle.numbers.specs.Remainders.{remainder}
-use Rattle.vectors.specs.Residues.{listed, lineTo}
-use Rattle.vectors.specs.Laws.Results.{bias-next}
+use Rattle.vectors.specs.Residues.{listed, line_to}
+use Rattle.vectors.specs.Laws.Results.{bias_next}
 use Rattle.vectors.proofs.results.result_at.Statement.{statement}
 use Rattle.vectors.proofs.results.result_at.Tie as tie
 
@@ -36,13 +36,13 @@ cast-result c = search rules
 returns : tie.Need-returns
 returns c =
     let a = c.before.before.before.before.before.before.before.args in
-    let line : ℕ → ℕ → ℕ = λ first across. remainder (lineTo a.memory.now first across a.v.matrix (listed a.components.now) a.v.columns) (2 ^ 32) in
-    bias-next _ _ _ _
+    let line : ℕ → ℕ → ℕ = λ first across. remainder (line_to a.memory.now first across a.v.matrix (listed a.components.now) a.v.columns) (2 ^ 32) in
+    bias_next _ _ _ _
     (c.before.before.dot.ensures.0 ∙ ap₂ line c.before.before.before.before.before.row-byte.ensures.0 c.before.before.before.before.column-step.ensures.0)
     (c.wide.ensures.0 ∙ c.before.bias-at.ensures) c.wide.ensures.1
 
-pub result-at-spec : {M : Type 1} → statement M
-result-at-spec =
+pub result_at_spec : {M : Type 1} → statement M
+result_at_spec =
     tie.close
     (tie.spec
     row-byte-requires

@@ -3,7 +3,7 @@ use Prim.Native.Nat.{◌+◌}
 use native.Mathlib.Omega.{arith}
 use borrow.Author.Rules.{rules}
 use Rattle.kinds.specs.Laws.Widths.{bytes_high}
-use Rattle.vectors.specs.Places.{matrixByte}
+use Rattle.vectors.specs.Places.{matrix_byte}
 use Rattle.vectors.specs.Within.{last_end}
 use Rattle.vectors.proofs.stops.last_end.Statement.{statement}
 use Rattle.vectors.proofs.stops.last_end.Tie as tie
@@ -26,10 +26,10 @@ add-result c = omega (arith, bytes_high c.before.before.before.before.args.v.mat
 returns : tie.Need-returns
 unfolding last_end
 returns c =
-    ap₂ ◌+◌ (c.before.matrix-byte.ensures.0 ∙ ap₂ (matrixByte _) c.before.before.before.one_less.ensures c.before.before.one-less2.ensures) c.bytes.ensures
+    ap₂ ◌+◌ (c.before.matrix-byte.ensures.0 ∙ ap₂ (matrix_byte _) c.before.before.before.one_less.ensures c.before.before.one-less2.ensures) c.bytes.ensures
 
-pub last-end-spec : {M : Type 1} → statement M
-last-end-spec =
+pub last_end_spec : {M : Type 1} → statement M
+last_end_spec =
     tie.close
     (tie.spec
     one-less-requires

@@ -76,8 +76,8 @@ returns-4 c = rw c.before.before.before.before.before.before.step3.given.1 (cc)
 returns-5 : tie.Need-returns-5
 returns-5 c = rw c.before.before.before.step4.given.1 (cc)
 
-pub whole-refusal-spec : {M : Type 1} → statement M
-whole-refusal-spec =
+pub whole_refusal_spec : {M : Type 1} → statement M
+whole_refusal_spec =
     tie.close
     (tie.spec
     enum_told

@@ -4,7 +4,7 @@ use native.Mathlib.Omega.{arith}
 use lib.ListN.{get_or}
 use borrow.Author.Rules.{rules}
 use Rattle.registers.specs.Laws.Grids.{block_same}
-use Rattle.registers.specs.Registers.{placeOf}
+use Rattle.registers.specs.Registers.{place_of}
 use Rattle.whole_steps.proofs.transposes.transpose_block.Statement.{statement}
 use Rattle.whole_steps.proofs.transposes.transpose_block.Tie as tie
 
@@ -26,9 +26,9 @@ returns c =
     let p = c.before.place_of in
     c.spread.ensures
     ∙ block_same _ _ _ _ _ (λ i j l h.
-    let e : p.result + i * 1 + j * a.t.columns ≡ placeOf a.source (j * a.t.columns + i) = omega (arith, p.ensures) in
+    let e : p.result + i * 1 + j * a.t.columns ≡ place_of a.source (j * a.t.columns + i) = omega (arith, p.ensures) in
     ap (λ (k : ℕ). get_or a.elements.now k 0) e)
 
-pub transpose-block-spec : {M : Type 1} → statement M
-transpose-block-spec =
+pub transpose_block_spec : {M : Type 1} → statement M
+transpose_block_spec =
     tie.close (tie.spec cast-rows cast-columns place-of-requires spread-requires returns)

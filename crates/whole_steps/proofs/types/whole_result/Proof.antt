@@ -32,8 +32,8 @@ returns-4 c = search rules
 returns-5 : tie.Need-returns-5
 returns-5 c = rw c.before.step5.given.1
 
-pub whole-result-spec : {M : Type 1} → statement M
-whole-result-spec =
+pub whole_result_spec : {M : Type 1} → statement M
+whole_result_spec =
     tie.close
     (tie.spec
     enum-known-step

@@ -52,8 +52,8 @@ returns-4 c = rw c.before.before.step4.given.1 c.the-type3.ensures
 returns-5 : tie.Need-returns-5
 returns-5 c = rw c.before.before.step5.given.1 c.vector-type.ensures
 
-pub whole-type-spec : {M : Type 1} → statement M
-whole-type-spec =
+pub whole_type_spec : {M : Type 1} → statement M
+whole_type_spec =
     tie.close
     (tie.spec
     enum-known-step

@@ -14,6 +14,6 @@ with-type-requires c κs = search rules
 returns : tie.Need-returns
 returns c = rw (← c.before.whole-result.ensures, ← c.before.before.whole-type.ensures) c.with-type.ensures
 
-pub whole-types-spec : {M : Type 1} → statement M
-whole-types-spec =
+pub whole_types_spec : {M : Type 1} → statement M
+whole_types_spec =
     tie.close (tie.spec whole-type-requires whole-result-requires with-type-requires returns)
