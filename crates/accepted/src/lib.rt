@@ -1,4 +1,6 @@
 // The loads and stores of a sheet that its check accepts: the outcomes of their elements.
+#![tactic(auto)]
+
 ghost use Rattle.std.specs.Prelude.{◌≡◌, ◌<◌, length};
 ghost use Rattle.sheet.specs.Sizes.{matrix_places};
 ghost use Rattle.accepted.specs.Accepted.{ClearAccess, Listed};

@@ -1,4 +1,6 @@
 // The records of one load or store, counted and written, and its mask.
+#![tactic(auto)]
+
 ghost use Rattle.std.specs.Prelude.{◌≡◌, ℕ, ◌<◌, ◌≤◌, length};
 ghost use Rattle.std.proofs.lemmas.List.Edits.{sets};
 ghost use Rattle.sheet.specs.Sizes.{register_count, step_places, matrix_places};

@@ -1,4 +1,6 @@
 // All elements of a load or a store: refusals 9 to 15, and how many elements have a byte.
+#![tactic(auto)]
+
 ghost use Rattle.std.specs.Prelude.{◌≡◌, true, false, ◌≤◌, ◌<◌, length};
 ghost use Rattle.refusals.specs.Refusals.{stop_at};
 ghost use Rattle.tensor_ranges.specs.Layouts.{the_dimension, layout_ok};

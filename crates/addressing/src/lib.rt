@@ -1,4 +1,6 @@
 // Where one element of a load or a store goes (document 01, "Where an element goes").
+#![tactic(auto)]
+
 ghost use Rattle.std.specs.Prelude.{◌≡◌, ◌*◌, ◌/◌, ◌^◌, ◌%◌, ◌≤◌, ◌<◌, min};
 ghost use Rattle.sheet.specs.Sizes.{rank_places};
 ghost use Rattle.dimensions.specs.Dimensions.{lead, tail_of, tail_numbers, part_limit};

@@ -1,4 +1,6 @@
 // Carrying out a sheet: the check, then a performance that cannot fail.
+#![tactic(auto)]
+
 pub mod moving;
 pub mod performing;
 

@@ -1,4 +1,6 @@
 // The check of a sheet, over types and a memory's length: it refuses or accepts, and changes nothing.
+#![tactic(auto)]
+
 pub mod checks;
 pub mod turns;
 

@@ -1,4 +1,6 @@
 // Rule 4: a coordinate over the places of its dimension (document 01, "Where an element goes"), and the first dimension outside (document 02, T-06).
+#![tactic(auto)]
+
 ghost use Rattle.std.specs.Prelude.{◌≡◌, ℕ, ◌≤◌, ◌<◌, true, pos, ◌+ℤ◌, get_or};
 ghost use Rattle.numbers.specs.Remainders.{remainder};
 ghost use Rattle.sheet.specs.Sizes.{size_limit};

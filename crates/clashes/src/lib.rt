@@ -1,4 +1,6 @@
 // Refusal 15: a store where a later element has an earlier one's byte.
+#![tactic(auto)]
+
 ghost use Rattle.std.specs.Prelude.{◌≡◌, true, ◌≤◌};
 ghost use Rattle.sheet.specs.Sizes.{matrix_places};
 ghost use Rattle.clashes.specs.Clashes.{clash_from, apart};

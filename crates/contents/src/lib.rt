@@ -1,4 +1,6 @@
 // What the content of a layout's and of a view's field says.
+#![tactic(auto)]
+
 ghost use Rattle.std.specs.Prelude.{◌≡◌, true, ◌+◌, ◌*◌, ◌≤◌, ◌<◌, length};
 ghost use Rattle.sheet.specs.Sizes.{rank_places};
 ghost use Rattle.contents.specs.Contents.{dimension_at, dimensions_at, layout_at, layout_length_ok, layout_head_ok, permutation_at, view_dimension_at, view_dimensions_at, clip_at, view_of, view_at, view_length, view_length_ok, view_head_ok};

@@ -1,4 +1,6 @@
 // What a job counts.
+#![tactic(auto)]
+
 ghost use Rattle.std.specs.Prelude.{◌≡◌, ◌<◌, ◌^◌};
 ghost use Rattle.counts.specs.Counts.{no_counts, more_placed};
 

@@ -1,4 +1,6 @@
 // A layout's dimensions as numbers, which can be lent, without the leading ones that are fixed.
+#![tactic(auto)]
+
 ghost use Rattle.std.specs.Prelude.{◌≡◌, true, ◌+◌, ◌*◌, ◌/◌, ◌≤◌, ◌<◌, get_or};
 ghost use Rattle.numbers.specs.Lists.{line};
 ghost use Rattle.tensor_ranges.specs.Layouts.{layout_ok};

@@ -1,4 +1,6 @@
 // Counts the divisions that rule 3 takes over a sheet's loads and stores, for those who time layouts: no other job asks.
+#![tactic(auto)]
+
 ghost use Rattle.std.specs.Prelude.{◌≡◌, ◌*◌, ◌≤◌, ◌<◌};
 ghost use Rattle.sheet.specs.Sizes.{rank_places, step_places, matrix_places, memory_limit};
 ghost use Rattle.sheet_reader.specs.Parts.{sheet_of, Outlined};

@@ -1,4 +1,6 @@
 // The trace that a sheet makes: an event for each element of its loads and stores.
+#![tactic(auto)]
+
 ghost use Rattle.std.specs.Prelude.{◌≡◌, ℕ, ◌≤◌, ◌<◌, length};
 ghost use Rattle.sheet.specs.Sizes.{step_places, matrix_places};
 ghost use Rattle.addressing.specs.Rules.{elements_of};

@@ -1,4 +1,6 @@
 // Explains one element of a sheet's load or store (document 02, T-06): what becomes of it, and the first dimension in which it is not inside.
+#![tactic(auto)]
+
 ghost use Rattle.std.specs.Prelude.{◌≡◌, ◌≤◌, ◌<◌};
 ghost use Rattle.sheet.specs.Sizes.{memory_limit};
 ghost use Rattle.sheet_reader.specs.Parts.{sheet_of, Outlined};

@@ -1,4 +1,6 @@
 // Tagged fields in bytes. A cursor, by value, steps over a field and hands itself back with the field's bounds.
+#![tactic(auto)]
+
 ghost use Rattle.std.specs.Prelude.{◌≡◌, ◌≤◌, length};
 ghost use Rattle.fields.specs.Fields.{field_at};
 

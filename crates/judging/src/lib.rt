@@ -1,4 +1,6 @@
 // Which records of a tape are out of range, over the registers' types and the memory's length: refusal 17.
+#![tactic(auto)]
+
 ghost use Rattle.std.specs.Prelude.{◌≡◌, true, ℕ, ◌+◌, ◌*◌, ◌<◌, ◌≤◌, ◌^◌, length};
 ghost use Rattle.sheet.specs.Sizes.{matrix_places, record_places};
 ghost use Rattle.registers.specs.Sized.{Sized, SizedType};

@@ -1,4 +1,6 @@
 // The element kinds 0 to 5.
+#![tactic(auto)]
+
 pub mod interpretations;
 
 ghost use Rattle.std.specs.Prelude.{◌≡◌, ◌+◌, ◌-◌, ◌*◌, ◌<◌, ◌%◌, ◌^◌};

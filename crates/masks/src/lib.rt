@@ -1,4 +1,6 @@
 // The masks beside a tape: for each step a bit an element, set exactly where the element has a byte, and the number of set bits.
+#![tactic(auto)]
+
 ghost use Rattle.std.specs.Prelude.{◌≡◌, ◌+◌, ◌-◌, ◌<◌, ◌≤◌, length, get_or};
 ghost use Rattle.std.proofs.lemmas.List.Edits.{sets};
 ghost use Rattle.numbers.specs.Lists.{each};

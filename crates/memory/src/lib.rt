@@ -1,4 +1,6 @@
 // Little-endian elements in memory.
+#![tactic(auto)]
+
 ghost use Rattle.std.specs.Prelude.{◌≡◌, ◌+◌, ◌≤◌, length};
 ghost use Rattle.kinds.specs.Laws.Widths.{ElementSize};
 ghost use Rattle.memory.specs.Elements.{element_at, with_element};

@@ -1,4 +1,6 @@
 // The C interface of include/moonbleat.h: the eleven public routines, with rows of numbers in place of structs.
+#![tactic(auto)]
+
 ghost use Rattle.std.specs.Prelude.{◌≡◌, [], ◌∷◌, length};
 ghost use Rattle.numbers.specs.Choice.{pick};
 ghost use Rattle.sheet_reader.specs.Reading.{read_sheet};

@@ -1,4 +1,6 @@
 // Takes, puts and fills: elements moved as a record says.
+#![tactic(auto)]
+
 ghost use Rattle.std.specs.Prelude.{◌≡◌, true, List, ℕ, ◌+◌, ◌*◌, ◌<◌, ◌≤◌, length};
 ghost use Rattle.numbers.specs.Orders.{in_order};
 ghost use Rattle.kinds.specs.Laws.Widths.{ElementSize};

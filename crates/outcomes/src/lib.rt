@@ -1,4 +1,6 @@
 // What becomes of an element of a load or a store (document 01, "Where an element goes"), and which way it was clamped (document 02, T-06).
+#![tactic(auto)]
+
 #[derive(Drop)]
 pub enum Outcome {
     // Outside the view's clip: a load keeps the object's element, a store does nothing.

@@ -1,5 +1,7 @@
 // Prints the tape of the sheet on standard input for a memory of 65,536: one record a line, six decimal numbers with single blanks. A refusal is one
 // line of three numbers, its number and its place. Where the input cannot be read, one line on standard error says so.
+#![tactic(auto)]
+
 ghost use Rattle.std.specs.Prelude.{◌<◌, ◌≤◌};
 ghost use Rattle.sheet.specs.Sizes.{record_places};
 

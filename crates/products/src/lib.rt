@@ -1,4 +1,6 @@
 // Multiply-add on values modulo 2^32, each taken once.
+#![tactic(auto)]
+
 pub mod shapes;
 
 ghost use Rattle.std.specs.Prelude.{◌≡◌, ℕ, ◌+◌, ◌*◌, ◌%◌, ◌^◌, ◌<◌, ◌≤◌, true, get_or};

@@ -1,4 +1,6 @@
 // Reads sheets and prints a line for each: number, place and second place of the refusal, then the counts of layouts, views and steps.
+#![tactic(auto)]
+
 use libc::STDOUT_FILENO;
 
 fn print(x: usize, after: &[u8]) {

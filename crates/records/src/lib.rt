@@ -1,4 +1,6 @@
 // The records of a tape, and how their six numbers are read (document 01, "The tape").
+#![tactic(auto)]
+
 ghost use Rattle.std.specs.Prelude.{◌≡◌, true, ◌+◌, ◌<◌, ◌≤◌, length};
 ghost use Rattle.sheet.specs.Sizes.{register_count};
 ghost use Rattle.signed.specs.Numbers.{number, rise};

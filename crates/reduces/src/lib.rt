@@ -1,4 +1,6 @@
 // Reduces: each part of the source folded once, and its value put where the result has it.
+#![tactic(auto)]
+
 pub mod parts;
 pub mod shapes;
 

@@ -1,4 +1,6 @@
 // Refusals: the documents' numbers by name, and where one was given. Document 01 has 1 to 19, document 02 the later ones.
+#![tactic(auto)]
+
 ghost use Rattle.std.specs.Prelude.{◌≡◌};
 ghost use Rattle.refusals.specs.Refusals.{refusal_at, not_refused, stop_at};
 

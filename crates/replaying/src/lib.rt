@@ -1,4 +1,6 @@
 // Replays a card's address trace against a sheet and a memory's length, without a memory.
+#![tactic(auto)]
+
 ghost use Rattle.std.specs.Prelude.{◌≡◌, ◌+◌, ◌*◌, ◌<◌, ◌≤◌};
 ghost use Rattle.sheet.specs.Sizes.{step_places, matrix_places, memory_limit};
 ghost use Rattle.sheet_reader.specs.Parts.{sheet_of, Outlined};

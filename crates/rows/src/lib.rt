@@ -1,4 +1,6 @@
 // Answers as rows of numbers, as C takes them.
+#![tactic(auto)]
+
 ghost use Rattle.std.specs.Prelude.{◌≡◌};
 ghost use Rattle.rows.specs.Rows.{answer_row, types_row, verdict_row, value_of, outcome_row, capped};
 ghost use Rattle.rows.specs.Small.{Small, SmallVerdict, SmallOutcome};

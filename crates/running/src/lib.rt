@@ -1,4 +1,6 @@
 // A tape run with its sheet: every record's range first, then the records, which cannot fail.
+#![tactic(auto)]
+
 ghost use Rattle.std.specs.Prelude.{◌≡◌, true, ℕ, ◌+◌, ◌*◌, ◌<◌, ◌≤◌, ◌^◌, length};
 ghost use Rattle.sheet.specs.Sizes.{matrix_places, element_places, record_places};
 ghost use Rattle.sheet_reader.specs.Parts.{sheet_of, Outlined};

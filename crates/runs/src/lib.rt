@@ -1,4 +1,6 @@
 // The longest even runs of a load or a store: its elements' outcomes are joined one after the other.
+#![tactic(auto)]
+
 ghost use Rattle.std.specs.Prelude.{◌≡◌, ◌+◌, ◌*◌, ◌-◌, ◌<◌, ◌≤◌, length};
 ghost use Rattle.std.proofs.lemmas.List.Edits.{sets};
 ghost use Rattle.sheet.specs.Sizes.{matrix_places, memory_limit};

@@ -1,4 +1,6 @@
 // The model of a sheet: what reading gives and writing takes.
+#![tactic(auto)]
+
 pub mod codes;
 pub mod editions;
 pub mod sizes;

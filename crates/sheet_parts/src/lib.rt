@@ -1,4 +1,6 @@
 // The parts of a sheet, taken from its bytes where reading found them; and the whole sheet, put together of them.
+#![tactic(auto)]
+
 ghost use Rattle.std.specs.Prelude.{◌≡◌, ◌<◌, length};
 ghost use Rattle.tensor_ranges.specs.Layouts.{the_layout};
 ghost use Rattle.tensor_ranges.specs.Views.{the_view};

@@ -1,4 +1,6 @@
 // Reads a sheet: fields of a tag, a length and content. A sheet is not copied out of its bytes: reading finds where its parts stand.
+#![tactic(auto)]
+
 ghost use Rattle.std.specs.Prelude.{◌≡◌, ◌+◌, ◌≤◌, length, get_or, set};
 ghost use Rattle.sheet_ranges.specs.Sheets.{empty_sheet};
 ghost use Rattle.sheet_reader.specs.Reading.{given_of, layout_may_come, view_may_come, step_may_come, edition_refusal, layout_refusal, view_refusal, step_refusal, field_refusal, refused_read, read_sheet};

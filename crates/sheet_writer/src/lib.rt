@@ -1,4 +1,6 @@
 // Writes a sheet: the bytes that read as it.
+#![tactic(auto)]
+
 ghost use Rattle.std.specs.Prelude.{◌≡◌, true, ◌+◌, ◌≤◌, length};
 ghost use Rattle.std.proofs.lemmas.List.Edits.{sets};
 ghost use Rattle.sheet.specs.Sizes.{layout_places, view_places, step_places};

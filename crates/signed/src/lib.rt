@@ -1,4 +1,6 @@
 // Signed 32-bit numbers of a slice, tested and taken apart. Everything above works on unsigned numbers.
+#![tactic(auto)]
+
 ghost use Rattle.std.specs.Prelude.{◌≡◌, ◌<◌, ◌^◌, length, set, pos};
 ghost use Rattle.signed.specs.Numbers.{number, rise, fall, is, at_least, spans, difference, bits_of, signed_of};
 

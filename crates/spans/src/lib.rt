@@ -1,4 +1,6 @@
 // Rule 3: the span coordinates of an index (document 01, "Where an element goes"), and the divisions that they take.
+#![tactic(auto)]
+
 ghost use Rattle.std.specs.Prelude.{◌≡◌, min, ltb};
 ghost use Rattle.numbers.specs.Choice.{pick};
 ghost use Rattle.sheet.specs.Sizes.{rank_places};

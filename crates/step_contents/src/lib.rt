@@ -1,5 +1,7 @@
 // What the content of a step's field says. A step is judged by its fields as they are read, so that it is not taken apart again, and is nothing
 // where it is beyond Sizes.
+#![tactic(auto)]
+
 ghost use Rattle.std.specs.Prelude.{◌≡◌, ℕ, ◌+◌, ◌≤◌, length};
 ghost use Rattle.step_contents.specs.Contents.{fill_at, window_at, load_at, store_at, reduce_at, transpose_at, multiply_at, vector_numbers, vector_at, step_at, step_length};
 ghost use Rattle.step_contents.specs.Judged.{judged};

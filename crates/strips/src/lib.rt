@@ -1,1 +1,2 @@
 // Document 01's strips: specs/Strips.antt.
+#![tactic(auto)]

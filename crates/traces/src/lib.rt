@@ -1,4 +1,6 @@
 // A card's address trace in tagged fields: one field for each element of a load or a store.
+#![tactic(auto)]
+
 ghost use Rattle.std.specs.Prelude.{◌≡◌, ◌+◌, ◌/◌, ◌≤◌, ◌<◌, length};
 ghost use Rattle.std.proofs.lemmas.List.Edits.{sets};
 ghost use Rattle.traces.specs.Events.{content_length, event_length, event_at, event_ok, is_after, same_event};

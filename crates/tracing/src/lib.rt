@@ -1,4 +1,6 @@
 // Writes the trace that a sheet makes: the check, the number of events, then their fields.
+#![tactic(auto)]
+
 ghost use Rattle.std.specs.Prelude.{◌≡◌, ◌+◌, ◌*◌, ◌<◌, ◌≤◌, length};
 ghost use Rattle.std.proofs.lemmas.List.Edits.{sets};
 ghost use Rattle.sheet.specs.Sizes.{step_places, matrix_places, memory_limit};

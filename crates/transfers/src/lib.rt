@@ -1,4 +1,6 @@
 // Elements between registers and memory.
+#![tactic(auto)]
+
 ghost use Rattle.std.specs.Prelude.{◌≡◌, ◌<◌, ◌^◌, length};
 ghost use Rattle.sheet.specs.Sizes.{register_count, matrix_places};
 ghost use Rattle.addressing.specs.Valid.{Planned};

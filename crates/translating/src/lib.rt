@@ -1,4 +1,6 @@
 // Translating a sheet: the check, which counts the records as it goes, then the records themselves and, of the same surveys, the masks.
+#![tactic(auto)]
+
 ghost use Rattle.std.specs.Prelude.{◌≡◌, true, [], ◌∷◌, ℕ, ◌*◌, ◌<◌, ◌≤◌, leb, length};
 ghost use Rattle.std.proofs.lemmas.List.Edits.{sets};
 ghost use Rattle.numbers.specs.Choice.{both};

@@ -1,4 +1,6 @@
 // Vector steps: a matrix in memory times a vector in a register, plus a bias in memory.
+#![tactic(auto)]
+
 pub mod components;
 pub mod places;
 pub mod results;

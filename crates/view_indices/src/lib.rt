@@ -1,4 +1,6 @@
 // Rule 2: an index through a view (document 01, "Where an element goes").
+#![tactic(auto)]
+
 ghost use Rattle.std.specs.Prelude.{◌≡◌, true, ℕ, ◌/◌, ◌%◌, ◌^◌, ◌≤◌, ◌<◌, get_or};
 ghost use Rattle.tensor_ranges.specs.Layouts.{layout_ok};
 ghost use Rattle.tensor_ranges.specs.Views.{the_view_dimension, view_ok};

@@ -1,4 +1,6 @@
 // Whole steps: fill, reduce, transpose, multiply-add and vector steps. Each makes one matrix in one register.
+#![tactic(auto)]
+
 pub mod stops;
 pub mod transposes;
 pub mod types;
