@@ -9,7 +9,7 @@ use addressing::Access;
 use sheet::sizes::PLACES;
 
 // How many outcomes the entries of a survey stand for, and the bits that a filled element takes.
-#[derive(Drop)]
+#[derive(Clone, Copy)]
 pub struct Outcomes {
     pub count: usize,
     pub fill: u32,

@@ -21,14 +21,14 @@ use sheet::Layout;
 use sheet::sizes::PLACES;
 
 // An access's refusal, and where it is not refused the number of elements with a byte.
-#[derive(Drop)]
+#[derive(Clone, Copy)]
 pub struct Checked {
     pub stop: Stop,
     pub placed: usize,
 }
 
 // The first refused element and, where there is none, the number of elements with a byte.
-#[derive(Drop)]
+#[derive(Clone, Copy)]
 pub struct Tally {
     pub stop: Stop,
     pub placed: usize,

@@ -24,7 +24,7 @@ use view_indices::wide;
 pub const INDEX_LIMIT: u64 = 4294967296;
 
 // A load or a store of a matrix: its layout, its view where it is `viewed`, its base, the bytes of an element and of memory, the sides.
-#[derive(Drop)]
+#[derive(Clone, Copy)]
 pub struct Access {
     pub load: bool,
     pub layout: Layout,
@@ -39,7 +39,7 @@ pub struct Access {
 
 // What the elements of an access share: how many there are, rule 1's width, where there is a view rule 2's sizes and strides, rule 4's bits of the clamp
 // value, and for rules 3 to 5 the dimensions that are not fixed, with their numbers.
-#[derive(Drop)]
+#[derive(Clone, Copy)]
 pub struct Plan {
     pub access: Access,
     pub count: usize,
@@ -52,14 +52,14 @@ pub struct Plan {
 }
 
 // The index that rules 1 and 2 give, or a position outside the clip.
-#[derive(Drop)]
+#[derive(Clone, Copy)]
 pub enum Indexed {
     Skipped,
     Index(u64),
 }
 
 // An element's outcome, or a refusal's number with Skipped beside it.
-#[derive(Drop)]
+#[derive(Clone, Copy)]
 pub struct Located {
     pub refusal: u8,
     pub outcome: Outcome,

@@ -50,7 +50,7 @@ pub fn cell(a: Access, x: Dimension, fill: u32, t: u32, s: u32) -> Located
 }
 
 // The span coordinates of a dimension at which the coordinate is inside: from `from` on, where it is `first`, to before `to`.
-#[derive(Drop)]
+#[derive(Clone, Copy)]
 pub struct Inner {
     pub from: u32,
     pub to: u32,

@@ -14,7 +14,7 @@ use sheet::sizes::{ELEMENTS, REGISTERS};
 
 // The answer of carrying out: a refusal with empty registers and nothing counted, or the registers' types and what was counted.
 // Their elements are the lent ones.
-#[derive(Drop)]
+#[derive(Clone, Copy)]
 pub struct CarryAnswer {
     pub refusal: Refusal,
     pub counts: Counts,
@@ -22,7 +22,7 @@ pub struct CarryAnswer {
 }
 
 // After a step, and after all: types, and what was counted. The registers' elements and memory are the lent ones.
-#[derive(Drop)]
+#[derive(Clone, Copy)]
 pub struct Stepped {
     pub types: [MatrixType; REGISTERS],
     pub counts: Counts,

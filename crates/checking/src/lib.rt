@@ -14,7 +14,7 @@ use sheet::sizes::{MEMORY_LIMIT, REGISTERS};
 use sheet_reader::{Given, Outline, PARTS};
 
 // What the check of a step tells: its refusal, or the types that it leaves and how many of its elements have a byte.
-#[derive(Drop)]
+#[derive(Clone, Copy)]
 pub struct StepCheck {
     pub stop: Stop,
     pub types: [MatrixType; REGISTERS],
@@ -22,14 +22,14 @@ pub struct StepCheck {
 }
 
 // The answer of a check: a refusal, or how many elements of loads and stores have a byte.
-#[derive(Drop)]
+#[derive(Clone, Copy)]
 pub struct CheckAnswer {
     pub refusal: Refusal,
     pub count: usize,
 }
 
 // A sheet read and checked: the check's answer, and what the sheet has.
-#[derive(Drop)]
+#[derive(Clone, Copy)]
 pub struct Judged {
     pub answer: CheckAnswer,
     pub given: Given,

@@ -14,7 +14,7 @@ use sheet_reader::{Given, PARTS};
 use tensor_ranges::{layouts, views};
 
 // A step, and the access of its elements: of none, where it is no load and no store.
-#[derive(Drop)]
+#[derive(Clone, Copy)]
 pub struct Turn {
     pub step: Step,
     pub access: Access,

@@ -15,14 +15,14 @@ use sheet::{ClampMode, Layout};
 use view_indices::wide;
 
 // An integer: At(a) is a, Below(a) is -1-a.
-#[derive(Drop)]
+#[derive(Clone, Copy)]
 pub enum Coordinate {
     Below(u32),
     At(u32),
 }
 
 // What rule 4 makes of a coordinate, or of all of them up to a dimension.
-#[derive(Drop)]
+#[derive(Clone, Copy)]
 pub enum Clamped {
     Refused,
     Discarded,
@@ -31,7 +31,7 @@ pub enum Clamped {
 }
 
 // Rule 4's answer: what it gives, and the side of the coordinate.
-#[derive(Drop)]
+#[derive(Clone, Copy)]
 pub struct Sided {
     pub side: Side,
     pub clamped: Clamped,

@@ -4,7 +4,7 @@
 ghost use Rattle.std.specs.Prelude.{◌≡◌, ◌<◌, ◌^◌};
 ghost use Rattle.counts.specs.Counts.{no_counts, more_placed};
 
-#[derive(Drop)]
+#[derive(Clone, Copy)]
 pub struct Counts {
     // Elements of loads and stores that had a byte.
     pub placed: usize,

@@ -19,7 +19,7 @@ const DIMENSION_NUMBERS: usize = 5;
 pub const LAYOUT_NUMBERS: usize = RANK * DIMENSION_NUMBERS;
 
 // The dimensions of a layout after the leading ones that are fixed: how many there are, and what the fixed ones add to the tensor index.
-#[derive(Drop)]
+#[derive(Clone, Copy)]
 pub struct Tail {
     pub rank: u8,
     pub start: u32,
@@ -92,7 +92,7 @@ fn fixed_part(x: Dimension) -> u32
 }
 
 // How many leading dimensions are fixed, and what they add to the tensor index.
-#[derive(Drop)]
+#[derive(Clone, Copy)]
 struct Lead {
     count: u8,
     start: u32,

@@ -18,7 +18,7 @@ use sheet::sizes::RANK;
 use sheet_reader::{Given, PARTS};
 
 // A refusal with no count, or how many divisions there are.
-#[derive(Drop)]
+#[derive(Clone, Copy)]
 pub struct DivisionsAnswer {
     pub refusal: Refusal,
     pub divisions: usize,

@@ -24,14 +24,14 @@ use sheet::sizes::{PLACES, RANK, REGISTERS};
 use sheet_reader::{Given, PARTS};
 
 // An element of a step, or none.
-#[derive(Drop)]
+#[derive(Clone, Copy)]
 pub enum Asked {
     Nothing,
     Element(Explained),
 }
 
 // A refusal with nothing explained beside it, or what is asked for.
-#[derive(Drop)]
+#[derive(Clone, Copy)]
 pub struct ExplainAnswer {
     pub refusal: Refusal,
     pub explained: Explained,

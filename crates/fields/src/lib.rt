@@ -9,12 +9,12 @@ pub mod writing;
 // The bytes of a field before its content: a tag and a length.
 pub const HEAD: usize = 3;
 
-#[derive(Drop)]
+#[derive(Clone, Copy)]
 pub struct Cursor {
     pub at: usize,
 }
 
-#[derive(Drop)]
+#[derive(Clone, Copy)]
 pub enum Field {
     // The content is the `len` bytes from `start`; `next` is past it.
     Whole {

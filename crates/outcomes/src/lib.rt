@@ -1,7 +1,7 @@
 // What becomes of an element of a load or a store (document 01, "Where an element goes"), and which way it was clamped (document 02, T-06).
 #![tactic(auto)]
 
-#[derive(Drop)]
+#[derive(Clone, Copy)]
 pub enum Outcome {
     // Outside the view's clip: a load keeps the object's element, a store does nothing.
     Skipped,
@@ -14,7 +14,7 @@ pub enum Outcome {
 }
 
 // Where a coordinate is: among the places of its dimension, below the first or above the last.
-#[derive(Drop)]
+#[derive(Clone, Copy)]
 pub enum Side {
     Inside,
     Below,
@@ -22,7 +22,7 @@ pub enum Side {
 }
 
 // The first dimension, from 0 up, in which an element is not inside, with the side; or none.
-#[derive(Drop)]
+#[derive(Clone, Copy)]
 pub enum Outside {
     Nowhere,
     Below(u8),
@@ -30,7 +30,7 @@ pub enum Outside {
 }
 
 // An outcome, and beside it the first dimension outside.
-#[derive(Drop)]
+#[derive(Clone, Copy)]
 pub struct Explained {
     pub outcome: Outcome,
     pub outside: Outside,

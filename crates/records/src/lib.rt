@@ -12,7 +12,7 @@ use sheet::editions;
 use sheet::sizes::REGISTERS;
 
 // The byte step of a take or a put is up - down, of which one is 0.
-#[derive(Drop)]
+#[derive(Clone, Copy)]
 pub enum Record {
     Copy {
         register: u8,
@@ -46,7 +46,7 @@ pub enum Record {
 }
 
 // What six numbers say.
-#[derive(Drop)]
+#[derive(Clone, Copy)]
 pub enum Decoded {
     Good(Record),
     Bad,

@@ -53,7 +53,7 @@ pub const ROOM_TOO_SHORT: u8 = 19;
 pub const NOT_AFTER: u8 = 26;
 
 // A number and its place, document 01's two numbers: the byte, step or record, and the element. All zero: not refused.
-#[derive(Drop)]
+#[derive(Clone, Copy)]
 pub struct Refusal {
     pub number: u8,
     pub place: usize,
@@ -77,7 +77,7 @@ pub fn not_refused() -> Refusal
 }
 
 // Why and where a step is refused: a number and its element, 0 where it names none. All zero: not refused.
-#[derive(Drop)]
+#[derive(Clone, Copy)]
 pub struct Stop {
     pub number: u8,
     pub element: usize,

@@ -13,7 +13,7 @@ ghost use Rattle.registers.specs.Sized.{SizedType};
 use sheet::sizes::{ELEMENTS, PLACES, REGISTERS};
 
 // Kind and sides of a matrix. Rows 0: the register is empty, and all three are 0.
-#[derive(Drop)]
+#[derive(Clone, Copy)]
 pub struct MatrixType {
     pub kind: u8,
     pub rows: u8,
@@ -22,7 +22,7 @@ pub struct MatrixType {
 
 // Register r's element number e stands at place PLACES * r + e. Places past a register's matrix are 0, so equal registers are
 // equal structs. Jobs lend the elements and return the types.
-#[derive(Drop)]
+#[derive(Clone, Copy)]
 pub struct Registers {
     pub types: [MatrixType; REGISTERS],
     pub elements: [u32; ELEMENTS],

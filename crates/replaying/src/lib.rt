@@ -18,7 +18,7 @@ use sheet::sizes::PLACES;
 use sheet_reader::{Given, PARTS};
 use traces::{EVENT_LEN, Event};
 
-#[derive(Drop)]
+#[derive(Clone, Copy)]
 pub enum Verdict {
     Agrees,
     // At the first index where the lists differ, one of them ending there included.
@@ -26,7 +26,7 @@ pub enum Verdict {
 }
 
 // A refusal with a difference at 0 and a count of 0, or the verdict and how many outcomes the sheet's loads and stores have.
-#[derive(Drop)]
+#[derive(Clone, Copy)]
 pub struct ReplayAnswer {
     pub refusal: Refusal,
     pub verdict: Verdict,
@@ -34,14 +34,14 @@ pub struct ReplayAnswer {
 }
 
 // How many events of the sheet came, and how many of them the trace has from its beginning on.
-#[derive(Drop)]
+#[derive(Clone, Copy)]
 pub struct Matched {
     pub index: usize,
     pub count: usize,
 }
 
 // What the check of a sheet refuses, and the events that came before.
-#[derive(Drop)]
+#[derive(Clone, Copy)]
 pub struct Compared {
     pub refusal: Refusal,
     pub events: Matched,

@@ -13,7 +13,7 @@ use outcomes::Outcome;
 use records::Record;
 
 // A run that is open or done, or none. The byte step is up - down, of which one is 0.
-#[derive(Drop)]
+#[derive(Clone, Copy)]
 pub enum Run {
     Idle,
     Bytes {
@@ -31,7 +31,7 @@ pub enum Run {
 }
 
 // What one more element does: the run that it ends, if any, and the run that is then open.
-#[derive(Drop)]
+#[derive(Clone, Copy)]
 pub struct Progress {
     pub done: Run,
     pub held: Run,

@@ -14,7 +14,7 @@ const VECTOR_EDITION: u8 = 2;
 const ZEROS_EDITION: u8 = 3;
 
 // The sizes that move together from edition to edition: the most rows and columns of a matrix, steps of a sheet, and records of a tape.
-#[derive(Drop)]
+#[derive(Clone, Copy)]
 pub struct SizeLimits {
     pub side: usize,
     pub steps: usize,

@@ -8,7 +8,7 @@ pub mod sizes;
 use sizes::{LAYOUTS, RANK, STEPS, VIEWS};
 
 // What becomes of a coordinate outside the tensor.
-#[derive(Drop)]
+#[derive(Clone, Copy)]
 pub enum ClampMode {
     Undefined,
     Constant,
@@ -18,7 +18,7 @@ pub enum ClampMode {
 }
 
 // Over what a reduce goes: each row, each column, the whole matrix, or each block of 2 by 2.
-#[derive(Drop)]
+#[derive(Clone, Copy)]
 pub enum ReduceMode {
     Row,
     Column,
@@ -27,7 +27,7 @@ pub enum ReduceMode {
 }
 
 // How a reduce combines two elements.
-#[derive(Drop)]
+#[derive(Clone, Copy)]
 pub enum Combine {
     Add,
     Min,
@@ -38,7 +38,7 @@ pub enum Combine {
 }
 
 // A dimension of a tensor layout. The offset is 16 bits, two's complement.
-#[derive(Drop)]
+#[derive(Clone, Copy)]
 pub struct Dimension {
     pub block: u16,
     pub size: u16,
@@ -48,7 +48,7 @@ pub struct Dimension {
 }
 
 // A tensor layout of `rank` dimensions, 0 outermost. `clamp` is the clamp value. Unused places are zero.
-#[derive(Drop)]
+#[derive(Clone, Copy)]
 pub struct Layout {
     pub rank: u8,
     pub mode: ClampMode,
@@ -56,21 +56,21 @@ pub struct Layout {
     pub dimensions: [Dimension; RANK],
 }
 
-#[derive(Drop)]
+#[derive(Clone, Copy)]
 pub struct ViewDimension {
     pub size: u16,
     pub stride: u16,
 }
 
 // One side of a view's clip.
-#[derive(Drop)]
+#[derive(Clone, Copy)]
 pub struct Clip {
     pub offset: u16,
     pub span: u16,
 }
 
 // A tensor view of `rank` dimensions. `sized` says whether it has dimensions and strides of its own. Unused places are zero.
-#[derive(Drop)]
+#[derive(Clone, Copy)]
 pub struct View {
     pub rank: u8,
     pub sized: bool,
@@ -81,14 +81,14 @@ pub struct View {
 }
 
 // How a matrix lies in memory: row after row, or column after column.
-#[derive(Drop)]
+#[derive(Clone, Copy)]
 pub enum MemoryLayout {
     RowMajor,
     ColumnMajor,
 }
 
 // A matrix in memory times a vector in a register, plus a bias in memory.
-#[derive(Drop)]
+#[derive(Clone, Copy)]
 pub struct VectorStep {
     // The result register, and the result's kind.
     pub result: u8,
@@ -110,7 +110,7 @@ pub struct VectorStep {
 }
 
 // A step that makes one matrix, whole, in one register.
-#[derive(Drop)]
+#[derive(Clone, Copy)]
 pub enum WholeStep {
     Fill {
         register: u8,
@@ -141,7 +141,7 @@ pub enum WholeStep {
 }
 
 // What a load starts from: its register as it stands, zeros of its register's type, or a register that is copied to it.
-#[derive(Drop)]
+#[derive(Clone, Copy)]
 pub enum Object {
     Kept,
     Zeros,
@@ -149,14 +149,14 @@ pub enum Object {
 }
 
 // Whether a load or a store goes through a view, and which.
-#[derive(Drop)]
+#[derive(Clone, Copy)]
 pub enum Viewing {
     Plain,
     Through(u8),
 }
 
 // Where in memory a load or a store goes: by a layout, perhaps through a view, from a base.
-#[derive(Drop)]
+#[derive(Clone, Copy)]
 pub struct Window {
     pub layout: u8,
     pub view: Viewing,
@@ -164,7 +164,7 @@ pub struct Window {
 }
 
 // A step: a load or a store, which go element by element, or a whole step.
-#[derive(Drop)]
+#[derive(Clone, Copy)]
 pub enum Step {
     Nothing,
     Load {
@@ -180,13 +180,13 @@ pub enum Step {
 }
 
 // A step's place in a sheet.
-#[derive(Drop)]
+#[derive(Clone, Copy)]
 pub struct Cell {
     pub step: Step,
 }
 
 // What loads and stores name: `layouts` counts the layouts given, which stand first in `layout`; so with views. Unused places are zero.
-#[derive(Drop)]
+#[derive(Clone, Copy)]
 pub struct Tensors {
     pub layouts: usize,
     pub layout: [Layout; LAYOUTS],
@@ -195,7 +195,7 @@ pub struct Tensors {
 }
 
 // A sheet: the first `steps` of `step` are given, the others are unused.
-#[derive(Drop)]
+#[derive(Clone, Copy)]
 pub struct Sheet {
     pub edition: u8,
     pub tensors: Tensors,

@@ -22,7 +22,7 @@ pub const FIRST_STEP: usize = FIRST_VIEW + sizes::VIEWS;
 pub const PARTS: usize = FIRST_STEP + sizes::STEPS;
 
 // What a sheet has so far: its edition, 0 for none, and how many layouts, views and steps.
-#[derive(Drop)]
+#[derive(Clone, Copy)]
 pub struct Given {
     pub edition: u8,
     pub layouts: usize,
@@ -31,21 +31,21 @@ pub struct Given {
 }
 
 // What reading gives: the sheet, or a refusal with an empty sheet.
-#[derive(Drop)]
+#[derive(Clone, Copy)]
 pub struct ReadAnswer {
     pub refusal: Refusal,
     pub sheet: Sheet,
 }
 
 // The same of a sheet whose parts stay in its bytes.
-#[derive(Drop)]
+#[derive(Clone, Copy)]
 pub struct Outline {
     pub refusal: Refusal,
     pub given: Given,
 }
 
 // A field's refusal, 0 where it is taken, and what the sheet then has.
-#[derive(Drop)]
+#[derive(Clone, Copy)]
 pub struct FieldRead {
     pub number: u8,
     pub given: Given,

@@ -18,7 +18,7 @@ use sheet_ranges::sheets;
 mod lengths;
 
 // What writing gives: a refusal, or the count of bytes written.
-#[derive(Drop)]
+#[derive(Clone, Copy)]
 pub struct WriteAnswer {
     pub refusal: Refusal,
     pub bytes: usize,

@@ -11,7 +11,7 @@ use sheet::sizes::RANK;
 use view_indices::wide;
 
 // An index's remainder and quotient by a span, and how many divisions that took: 0 or 1.
-#[derive(Drop)]
+#[derive(Clone, Copy)]
 pub struct Split {
     pub rest: u32,
     pub quotient: u32,
@@ -19,7 +19,7 @@ pub struct Split {
 }
 
 // The span coordinates of an index, and how many divisions they took.
-#[derive(Drop)]
+#[derive(Clone, Copy)]
 pub struct Divided {
     pub coordinates: [u32; RANK],
     pub divisions: u32,

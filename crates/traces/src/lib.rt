@@ -28,7 +28,7 @@ pub const DISCARDED: u8 = 2;
 pub const BYTE: u8 = 3;
 
 // What a card did with one element. The byte is 0 unless the sort is BYTE.
-#[derive(Drop)]
+#[derive(Clone, Copy)]
 pub struct Event {
     pub step: u16,
     pub element: u16,
@@ -37,7 +37,7 @@ pub struct Event {
 }
 
 // The event of the field before.
-#[derive(Drop)]
+#[derive(Clone, Copy)]
 pub enum Previous {
     None,
     Some(Event),

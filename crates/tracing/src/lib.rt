@@ -19,7 +19,7 @@ use sheet_reader::{Given, PARTS};
 use traces::EVENT_LEN;
 
 // A refusal with no byte, or how many bytes were written.
-#[derive(Drop)]
+#[derive(Clone, Copy)]
 pub struct TraceAnswer {
     pub refusal: Refusal,
     pub bytes: usize,

@@ -38,7 +38,7 @@ use sheet::{Object, Step};
 use sheet_reader::{Given, PARTS};
 
 // The answer of translating: a refusal, or how many elements of loads and stores have a byte and how many records were written.
-#[derive(Drop)]
+#[derive(Clone, Copy)]
 pub struct TranslateAnswer {
     pub refusal: Refusal,
     pub count: usize,
@@ -46,7 +46,7 @@ pub struct TranslateAnswer {
 }
 
 // What the check of a sheet refuses, or how many elements of loads and stores have a byte and how many records the tape has.
-#[derive(Drop)]
+#[derive(Clone, Copy)]
 pub struct Counted {
     pub refusal: Refusal,
     pub count: usize,

@@ -13,7 +13,7 @@ use sheet::sizes::RANK;
 use sheet::{Layout, View};
 
 // A number's remainder and quotient by another.
-#[derive(Drop)]
+#[derive(Clone, Copy)]
 pub struct Division {
     pub rest: u32,
     pub quotient: u32,
