@@ -14,7 +14,7 @@ use Rattle.signed.specs.Laws.Numbers.{minus}
 
 -- a number that was read out of a slice
 pub back : (x : ℤ) → mag x < 2 ^ 31 → to_z w32 (of_z w32 x) ≡ x
-back x h = to_z-of_z (record { sfits = h })
+back x h = to_z-of_z {w = w32} (record { sfits = h })
 
 pub minus_below : (k a b : ℕ) → a < k → b < k → mag (pos a -ℤ pos b) < k
 minus_below k a b p q = rw (minus a b) (by (ltb a b) refl)
