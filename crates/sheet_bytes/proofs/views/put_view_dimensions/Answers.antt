@@ -1,0 +1,35 @@
+use Prim.Native.Nat.{◌-◌}
+use native.Mathlib.Omega.{arith}
+use borrow.Author.Rules.{rules}
+use Rattle.tensor_ranges.specs.Views.{the_view_dimension}
+use Rattle.sheet_bytes.specs.Bytes.{view_dimension_bytes}
+use Rattle.fields.specs.Laws.Puts.{no_turns, one_turn, turn_fits, all_turns}
+use Rattle.sheet_bytes.specs.Laws.Lengths.{length_view_dimension}
+use Rattle.sheet_bytes.proofs.views.put_view_dimensions.Goals as goal
+
+pub loop-k-init : goal.loop-k-init
+loop-k-init c = (search rules, no_turns _ _ _)
+
+pub put_u16s-requires : goal.put_u16s-requires
+put_u16s-requires c =
+    let t = turn_fits _ _ _ _ c.loop-k.invariant.1 c.requires.1 c.loop-k-test.true in
+    let e = length_view_dimension (the_view_dimension c.args.ds c.loop-k.k) in
+    omega arith
+
+pub overflow_add-p : goal.overflow_add-p
+overflow_add-p c =
+    let t = turn_fits _ _ _ _ c.loop-k.invariant.1 c.requires.1 c.loop-k-test.true in
+    let e = length_view_dimension (the_view_dimension c.args.ds c.loop-k.k) in
+    search rules
+
+pub loop-k-preserved : goal.loop-k-preserved
+unfolding view_dimension_bytes
+loop-k-preserved c =
+    let e = length_view_dimension (the_view_dimension c.args.ds c.loop-k.k) in
+    (search rules, one_turn _ _ _ c.loop-k.invariant.1 (rw e) c.put_u16s.ensures)
+
+pub shape_of-out : goal.shape_of-out
+shape_of-out c = c.loop-k.invariant.1.kept
+
+pub returns : goal.returns
+returns c = (all_turns _ _ _ _ c.loop-k.invariant.1 c.loop-k.invariant.0 c.loop-k-test.false).1
