@@ -1,0 +1,26 @@
+use Prim.Native.Nat.{◌-◌}
+use borrow.Author.Rules.{rules}
+use Rattle.tensor_ranges.specs.Layouts.{the_layout}
+use Rattle.tensor_ranges.specs.Laws.Facts.{layout_most}
+use Rattle.fields.specs.Laws.Puts.{no_turns, one_turn, turn_fits, all_turns}
+use Rattle.sheet_writer.proofs.put_layouts.Goals as goal
+
+pub loop-k-init : goal.loop-k-init
+loop-k-init c = (search rules, no_turns _ _ _)
+
+pub put_layout-p-requires : goal.put_layout-p-requires
+put_layout-p-requires c =
+    let a = c.args in
+    let k = c.loop-k.k in (
+      layout_most (the_layout a.ls k) (c.requires.1.given k c.loop-k-test.true),
+      turn_fits _ _ _ _ c.loop-k.invariant.1 c.requires.2 c.loop-k-test.true,
+    )
+
+pub loop-k-preserved : goal.loop-k-preserved
+loop-k-preserved c = (search rules, one_turn _ _ _ c.loop-k.invariant.1 c.put_layout-p.ensures.0 c.put_layout-p.ensures.1)
+
+pub shape_of-out : goal.shape_of-out
+shape_of-out c = c.loop-k.invariant.1.kept
+
+pub returns : goal.returns
+returns c = all_turns _ _ _ _ c.loop-k.invariant.1 c.loop-k.invariant.0 c.loop-k-test.false

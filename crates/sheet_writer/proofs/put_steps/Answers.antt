@@ -1,0 +1,19 @@
+use Prim.Native.Nat.{◌-◌}
+use borrow.Author.Rules.{rules}
+use Rattle.fields.specs.Laws.Puts.{no_turns, one_turn, turn_fits, all_turns}
+use Rattle.sheet_writer.proofs.put_steps.Goals as goal
+
+pub loop-k-init : goal.loop-k-init
+loop-k-init c = (search rules, no_turns _ _ _)
+
+pub put_step-p-requires : goal.put_step-p-requires
+put_step-p-requires c = turn_fits _ _ _ _ c.loop-k.invariant.1 c.requires.1 c.loop-k-test.true
+
+pub loop-k-preserved : goal.loop-k-preserved
+loop-k-preserved c = (search rules, one_turn _ _ _ c.loop-k.invariant.1 c.put_step-p.ensures.0 c.put_step-p.ensures.1)
+
+pub shape_of-out : goal.shape_of-out
+shape_of-out c = c.loop-k.invariant.1.kept
+
+pub returns : goal.returns
+returns c = all_turns _ _ _ _ c.loop-k.invariant.1 c.loop-k.invariant.0 c.loop-k-test.false
