@@ -1,5 +1,5 @@
 -- Sums of integers, and what they are modulo m.
-use Rattle.std.specs.Prelude.{ℕ, zero, suc, ◌+◌, ℤ, pos, ◌+ℤ◌}
+use Rattle.std.specs.Prelude.{ℕ, zero, suc, ℤ, pos, ◌+ℤ◌}
 
 -- the sum of g 0 .. g (n - 1)
 unfoldable pub sum_z : (ℕ → ℤ) → ℕ → ℤ

@@ -1,5 +1,5 @@
 -- The first number at which a test is true, as a loop finds it.
-use Rattle.std.specs.Prelude.{ℕ, zero, suc, ◌+◌, ◌-◌, Bool, true}
+use Rattle.std.specs.Prelude.{ℕ, zero, suc, Bool}
 use Rattle.numbers.specs.Choice.{pick}
 
 -- of the m numbers from k on; k + m where there is none

@@ -1,4 +1,3 @@
-use Prim.Native.Nat.{◌-◌}
 use mathlib.Core.Path.{sym}
 use Rattle.numbers.specs.Laws.Choice.{went}
 use Rattle.clashes.proofs.Laws.{apart_end}

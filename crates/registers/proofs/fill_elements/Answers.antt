@@ -1,6 +1,6 @@
 use mathlib.Core.Path.{◌≡◌, sym, ap, ◌∙◌}
 use mathlib.Core.List.{List}
-use Prim.Native.Nat.{ℕ, ◌+◌, ◌-◌}
+use Prim.Native.Nat.{ℕ, ◌+◌}
 use Rattle.numbers.specs.Laws.Lists.{line_none}
 use Rattle.registers.specs.Registers.{with_element_of}
 use Rattle.registers.specs.Laws.Registers.{filled_more}

@@ -1,6 +1,6 @@
 -- Places past a matrix are 0 at the start, and where a register is written whole, copied, or given one element. Where they are, a matrix that is
 -- written over another need not be written past both.
-use Rattle.std.specs.Prelude.{◌≡◌, refl, List, ℕ, zero, suc, ◌+◌, ◌-◌, ◌*◌, ◌<◌, ◌≤◌, length, get_or, replicate}
+use Rattle.std.specs.Prelude.{◌≡◌, refl, List, ℕ, zero, suc, ◌+◌, ◌-◌, ◌*◌, ◌<◌, ◌≤◌, length, get_or}
 use Rattle.std.proofs.Common.{sym, ◌∙◌, arith, ext_get_or, get_or-set_same, get_or-set_other}
 use Rattle.numbers.specs.Lists.{line}
 use Rattle.numbers.specs.Laws.Choice.{by_place, by_order}

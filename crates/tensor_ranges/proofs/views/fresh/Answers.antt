@@ -1,6 +1,4 @@
 use mathlib.Core.Path.{◌≡◌, sym}
-use mathlib.Core.Bool.{true}
-use Prim.Native.Nat.{◌-◌}
 use Rattle.numbers.specs.Laws.Choice.{eq_not, ne_not}
 use Rattle.numbers.specs.Laws.All.{all_none, all_more, all_false}
 use Rattle.tensor_ranges.specs.Views.{fresh}

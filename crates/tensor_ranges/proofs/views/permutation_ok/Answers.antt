@@ -1,9 +1,6 @@
 use mathlib.Core.Path.{◌≡◌, sym}
-use mathlib.Core.Bool.{true}
-use Prim.Native.Nat.{◌-◌}
 use Rattle.numbers.specs.Laws.Choice.{went}
 use Rattle.numbers.specs.Laws.All.{all_none, all_more, all_false}
-use Rattle.tensor_ranges.specs.Views.{entry_ok}
 use borrow.Author.Rules.{rules}
 use native.Mathlib.Omega.{arith}
 use Rattle.tensor_ranges.proofs.views.permutation_ok.Goals as goal
