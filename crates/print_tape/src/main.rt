@@ -1,93 +1,81 @@
 // Prints the tape of the sheet on standard input for a memory of 65,536: one record a line, six decimal numbers with single blanks. A refusal is one
-// line of three numbers, its number and its place. Where the input cannot be read, one line on standard error says so.
+// line of three numbers, its number and its place. Where the input cannot be read, one line on standard error says so, and the exit status is 1.
 #![tactic(auto)]
 
 ghost use Rattle.std.specs.Prelude.{◌<◌, ◌≤◌};
 ghost use Rattle.sheet.specs.Sizes.{record_places};
 
-use libc::{STDERR_FILENO, STDIN_FILENO, STDOUT_FILENO};
 use masks::MASK_AREA;
 use records::NUMBERS;
 use sheet::sizes::RECORDS;
+use std::io;
+use std::io::Read;
+use std::process::ExitCode;
+use translating::TranslateAnswer;
 
 const MEMORY: usize = 65_536;
 
-fn print(x: usize, after: &[u8]) {
-    io::print_decimal(STDOUT_FILENO, x as u64);
-    io::write_all(STDOUT_FILENO, after);
-}
-
-fn print_number(tape: &[i32], at: usize, after: &[u8]) {
-    if at < tape.len() {
-        let below = signed::fall(tape, at);
-        if 0 < below {
-            io::write_all(STDOUT_FILENO, b"-");
-            print(below, after);
-        } else {
-            print(signed::rise(tape, at), after);
-        }
+fn print_number(rt: &impl Print, tape: &[i32], at: usize, after: char) -> io::Result<()> {
+    if let Some(x) = tape.get(at) {
+        print!(rt; "{x}{after}")?;
     }
+    Ok(())
 }
 
-fn print_record(tape: &[i32], at: usize)
+fn print_record(rt: &impl Print, tape: &[i32], at: usize) -> io::Result<()>
     requires { at < 65536 }
 {
-    print_number(tape, at, b" ");
-    print_number(tape, at + 1, b" ");
-    print_number(tape, at + 2, b" ");
-    print_number(tape, at + 3, b" ");
-    print_number(tape, at + 4, b" ");
-    print_number(tape, at + 5, b"\n");
+    print_number(rt, tape, at, ' ')?;
+    print_number(rt, tape, at + 1, ' ')?;
+    print_number(rt, tape, at + 2, ' ')?;
+    print_number(rt, tape, at + 3, ' ')?;
+    print_number(rt, tape, at + 4, ' ')?;
+    print_number(rt, tape, at + 5, '\n')
 }
 
-fn print_records(tape: &[i32], records: usize)
+fn print_records(rt: &impl Print, tape: &[i32], records: usize) -> io::Result<()>
     requires { records ≤ record_places }
 {
-    let mut k: usize = 0;
-    while k < records {
-        print_record(tape, k * NUMBERS);
-        k += 1;
+    for k in 0..records {
+        print_record(rt, tape, k * NUMBERS)?;
     }
+    Ok(())
 }
 
-fn print_refusal(number: u8, place: usize, element: usize) {
-    print(number as usize, b" ");
-    print(place, b" ");
-    print(element, b"\n");
+fn print_refusal(rt: &impl Print, number: u8, place: usize, element: usize) -> io::Result<()> {
+    println!(rt; "{number} {place} {element}")
 }
 
-// Whether a read fails; at the end of the input it gives no byte.
-fn unreadable() -> bool {
-    let mut more = [0u8; 1];
-    libc::read(STDIN_FILENO, &mut more) < 0
+// The refusal, or else the tape.
+fn print(rt: &impl Print, tape: &[i32], answer: TranslateAnswer) -> io::Result<()> {
+    let refusal = answer.refusal;
+    if 0 < refusal.number {
+        return print_refusal(rt, refusal.number, refusal.place, refusal.element);
+    }
+    if answer.records <= RECORDS {
+        print_records(rt, tape, answer.records)?;
+    }
+    Ok(())
+}
+
+fn unreadable(rt: &impl Eprint) -> io::Result<ExitCode> {
+    eprintln!(rt; "print_tape: standard input cannot be read")?;
+    Ok(ExitCode::FAILURE)
 }
 
 // The longest accepted sheet has 1,096 bytes and the longest field 65,538: what is past both cannot change the answer (theorem
 // `prefix_reads` of the crate round_trip).
-const ENOUGH: usize = 1_096 + 65_538;
+const ENOUGH: u64 = 1_096 + 65_538;
 
-fn main() {
-    let mut input = [0u8; ENOUGH];
-    let n = io::read_full(STDIN_FILENO, &mut input);
-    if n < input.len() {
-        if unreadable() {
-            io::write_all(
-                STDERR_FILENO,
-                b"print_tape: standard input cannot be read\n",
-            );
-            return;
-        }
+fn main(rt: HostRuntime) -> io::Result<ExitCode> {
+    let mut input = Vec::new(rt.alloc());
+    let read = rt.reader().take(ENOUGH).read_to_end(&mut input);
+    if read.is_err() {
+        return unreadable(&rt);
     }
     let mut tape = [0i32; RECORDS * NUMBERS];
     let mut masks = [0u8; MASK_AREA];
-    let r = translating::translate(&input[..n], MEMORY, &mut tape, &mut masks);
-    let f = r.refusal;
-    if 0 < f.number {
-        print_refusal(f.number, f.place, f.element);
-        return;
-    }
-    let records = r.records;
-    if records <= RECORDS {
-        print_records(&tape, records);
-    }
+    let answer = translating::translate(&input, MEMORY, &mut tape, &mut masks);
+    print(&rt, &tape, answer)?;
+    Ok(ExitCode::SUCCESS)
 }
