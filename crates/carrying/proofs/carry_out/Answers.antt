@@ -24,10 +24,10 @@ perform-done-requires c =
     let j = c.judge-judged in
     let a = c.args in
     let z : j.result.answer.refusal.number ≡ 0 = omega (arith, c.if-refused-gt0.false) in
-    let r = sheet_readable a.sheet.now (length a.memory.now) (ap (λ (x : CheckAnswer). x.refusal.number) (sym j.ensures.0) ∙ z) in
+    let r = sheet_readable a.sheet.now (length a.memory.now) (ap (λ (x : CheckAnswer). x.refusal.number) (sym j.ensures.answer_value) ∙ z) in
     record {
       elements_value = c.empty_elements.ensures;
-      outlined = (j.ensures.1 z, r.few, r.clear);
+      outlined = (j.ensures.outlined z, r.few, r.clear);
     }
 
 pub returns : goal.returns
@@ -37,9 +37,9 @@ returns c =
     let s = a.sheet.now in
     let m = a.memory.now in
     let z : j.result.answer.refusal.number ≡ 0 = omega (arith, c.if-refused-gt0.false) in
-    let n = ap (λ (x : CheckAnswer). x.refusal.number) (sym j.ensures.0) ∙ z in
+    let n = ap (λ (x : CheckAnswer). x.refusal.number) (sym j.ensures.answer_value) ∙ z in
     let g = c.perform-done in
     record {
-      elements_after = ap (λ (r : Refusal). carry_answer r (registers_of g.result.types g.new.1.1.1.1.0) g.result.counts) c.not_refused.ensures ∙ carried_accepted s m n g.ensures;
+      elements_after = ap (λ (r : Refusal). carry_answer r (registers_of g.result.types g.new.elements) g.result.counts) c.not_refused.ensures ∙ carried_accepted s m n g.ensures;
       memory_after = memory_accepted s m n g.ensures;
     }
