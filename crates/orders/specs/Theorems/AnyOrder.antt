@@ -4,7 +4,8 @@ use Rattle.std.proofs.Common.{ap, ◌∙◌, zero-add, add-zero, arith, eq-eqb}
 use mathlib.Core.List.Perm
 use mathlib.Core.List.Permᴰ
 use mathlib.Core.List.{List, Mem, Nodup, perm_ext_iff_of_Nodup}
-use Rattle.std.proofs.Math.Logic.{Iff·trans, Iff·symm, ∥∥₁_elim}
+use mathlib.Core.Logic.Iff
+use Rattle.std.proofs.Math.Logic.{∥∥₁_elim}
 use Rattle.numbers.specs.Choice.{pick}
 use Rattle.numbers.specs.Laws.Choice.{by_place}
 use Rattle.refusals.specs.Refusals.{not_refused}
@@ -42,8 +43,8 @@ module _ (a : Access) where
 
   pub each_once : (order : List ℕ) → Order a order ↔ (Nodup order × ((k : ℕ) → Mem k order ↔ IsPlaced a k))
   each_once order = (
-    λ p. (Perm.nodup (Perm.symm p) (placed_once (outcome_of a) (elements_of a)), λ k. Iff·trans (Perm.mem_iff p) (placed_exactly k)),
-    λ h. (perm_ext_iff_of_Nodup h.0 (placed_once (outcome_of a) (elements_of a))).1 (λ k. Iff·trans (h.1 k) (Iff·symm (placed_exactly k))),
+    λ p. (Perm.nodup (Perm.symm p) (placed_once (outcome_of a) (elements_of a)), λ k. Iff.trans (Perm.mem_iff p) (placed_exactly k)),
+    λ h. (perm_ext_iff_of_Nodup h.0 (placed_once (outcome_of a) (elements_of a))).1 (λ k. Iff.trans (h.1 k) (Iff.symm (placed_exactly k))),
   )
 
 -- Of a store that is not refused:
