@@ -79,6 +79,6 @@ returns c =
     let n = ap (λ (r : Refusal). r.number) (told q) ∙ y in
     let g = c.run_records-done in
     record {
-      elements_after = ap (λ (r : Refusal). carry_answer r (registers_of g.result.types g.new.elements.1.1.1.1.1.0) g.result.counts) c.not_refused.ensures ∙ run_accepted s t a.records m n g.ensures;
+      elements_after = ap (λ (r : Refusal). carry_answer r (registers_of g.result.types g.new.elements) g.result.counts) c.not_refused.ensures ∙ run_accepted s t a.records m n g.ensures;
       memory_after = ran_accepted s t a.records m n g.ensures;
     }
