@@ -27,7 +27,7 @@
 #                   night: each ninth) under valgrind, then 500 sheets of each edition of the comparison
 #                   under it: some 13 minutes
 #
-# The archive is made by `rt staticlib moonbleat`, which proves what is not proved yet: some
+# The archive is made by `rt lib` in crates/moonbleat_c, which proves what is not proved yet: some
 # minutes the first time. ARCHIVE=path names another one.
 
 TOOL = target/tool
@@ -102,11 +102,12 @@ deps:
 	@echo '$(if $(UNPACKED),apt install $(foreach program,$(UNPACKED),$(or $(PACKAGE_$(program)),$(program))),every package is there)'
 	@echo '$(if $(call lacking,rt),rt is not on the path: $(RT_ORIGIN),rt is there)'
 
-# rt keeps what it has proved; the time stamp tells make that it looked.
-target/staticlib/libmoonbleat.a: crates.txt $(shell find crates -name '*.rt' -o -name '*.antt')
+# rt keeps what it has proved, in each crate's out/; the time stamp tells make that it looked.
+target/staticlib/libmoonbleat.a: crates.txt $(shell find crates -name out -prune -o \( -name '*.rt' -o -name '*.antt' \) -print)
 	@echo 'proving the library, some minutes the first time'
-	@bash -o pipefail -c 'rt staticlib moonbleat 2>&1 | awk -f harness/progress.awk crates.txt -'
-	@touch $@
+	@cd crates/moonbleat_c && bash -o pipefail -c 'rt lib 2>&1 | awk -f ../../harness/progress.awk ../../crates.txt -'
+	@mkdir -p $(@D)
+	@cp crates/moonbleat_c/out/libmoonbleat_c.a $@
 
 archive: target/staticlib/libmoonbleat.a
 

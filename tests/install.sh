@@ -132,14 +132,19 @@ if git -C "$root" rev-parse -q --verify HEAD > /dev/null 2>&1; then
         grep -q -x 'moonbleat-$version/include/moonbleat.h'"
 fi
 
-# How far a proof has come.
-printf '%s\n' 'fn one::f: proved' 'logic=proved functions=1' 'rt: one proved (3 s)' 'error: no' \
-    'rt: two NOT PROVED (exit 1, 2 s)' 'rt: target/staticlib/libmoonbleat.a has' > "$work/rt"
-printf '%s\n' '# NAME: NEEDS' 'one:   # first' 'two: one' 'three: one io' 'moonbleat: two' > "$work/crates"
-expect 'progress' prints 'crate 1 of 3: one proved (3 s)
+# How far a proof has come; of one that was proved before rt says nothing.
+printf '%s\n' 'rt: one: begins with what a check kept in /there/crates/one' 'rt: chose --jobs 2 for one' \
+    'fn one::f: proved' 'logic /kit/logic.json: libraries=16' 'statements core: modules loaded=222 checked=0' \
+    'crate one: modules loaded=1 checked=2' 'logic=proved functions=1 sum=0' 'rt: chose --jobs 4 for three' \
+    'error: no' 'fn three::f: not proved' 'logic=not-proved' 'rt: chose --jobs 2 for moonbleat_c' \
+    'fn moonbleat_c::f: proved' 'logic=proved functions=1 target=x86_64-unknown-linux-gnu' > "$work/rt"
+printf '%s\n' '# NAME: NEEDS' 'one:   # first' 'two: one' 'three: one io' 'moonbleat: three two' \
+    'moonbleat_c staticlib: one moonbleat   # exports' > "$work/crates"
+expect 'progress' prints 'crate 1 of 5: one proved
 error: no
-crate 2 of 3: two NOT PROVED (exit 1, 2 s)
-crate 3 of 3: moonbleat proved' awk -f "$root/harness/progress.awk" "$work/crates" "$work/rt"
+fn three::f: not proved
+crate 2 of 5: three NOT PROVED
+crate 5 of 5: moonbleat_c proved' awk -f "$root/harness/progress.awk" "$work/crates" "$work/rt"
 
 echo "tests of the installation: $passed passed, $failed failed"
 [ "$failed" -eq 0 ]
