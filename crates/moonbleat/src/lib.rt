@@ -1,4 +1,4 @@
-// The C interface of include/moonbleat.h: the eleven public routines, with rows of numbers in place of structs.
+// The eleven public routines of include/moonbleat.h, with rows of numbers in place of structs.
 #![tactic(auto)]
 
 ghost use Rattle.std.specs.Prelude.{◌≡◌, [], ◌∷◌, length};
@@ -20,12 +20,7 @@ use rows::{ANSWER, COUNTS, OUTCOME, TYPES, VERDICT};
 use sheet::sizes::ELEMENTS;
 
 // Reads a sheet.
-#[unsafe(no_mangle)]
-pub extern "C" fn moonbleat_read(
-    sheet: &[u8],
-    counts: &mut [u32; COUNTS],
-    answer: &mut [u32; ANSWER],
-) -> u32
+pub fn moonbleat_read(sheet: &[u8], counts: &mut [u32; COUNTS], answer: &mut [u32; ANSWER]) -> u32
     ensures value { result ≡ (read_sheet sheet.now).refusal.number }
     ensures counts_after { counts.new ≡ counts_row (read_sheet sheet.now).sheet }
     ensures answer_after { answer.new ≡ answer_row (read_sheet sheet.now).refusal 0 }
@@ -38,8 +33,7 @@ pub extern "C" fn moonbleat_read(
 }
 
 // Reads a sheet and writes what was read.
-#[unsafe(no_mangle)]
-pub extern "C" fn moonbleat_rewrite(sheet: &[u8], out: &mut [u8], answer: &mut [u32; ANSWER]) -> u32
+pub fn moonbleat_rewrite(sheet: &[u8], out: &mut [u8], answer: &mut [u32; ANSWER]) -> u32
     ensures value { result ≡ (rewritten sheet.now (length out.old)).refusal.number }
     ensures out_after { out.new ≡ rewritten_room sheet.now out.old }
     ensures answer_after { answer.new ≡ answer_row (rewritten sheet.now (length out.old)).refusal (rewritten sheet.now (length out.old)).bytes }
@@ -55,12 +49,7 @@ pub extern "C" fn moonbleat_rewrite(sheet: &[u8], out: &mut [u8], answer: &mut [
 }
 
 // Checks a sheet for a memory of a length.
-#[unsafe(no_mangle)]
-pub extern "C" fn moonbleat_check(
-    sheet: &[u8],
-    memory_len: usize,
-    answer: &mut [u32; ANSWER],
-) -> u32
+pub fn moonbleat_check(sheet: &[u8], memory_len: usize, answer: &mut [u32; ANSWER]) -> u32
     ensures value { result ≡ (checked_sheet sheet.now memory_len).refusal.number }
     ensures answer_after { answer.new ≡ answer_row (checked_sheet sheet.now memory_len).refusal (checked_sheet sheet.now memory_len).count }
 {
@@ -69,12 +58,7 @@ pub extern "C" fn moonbleat_check(
 }
 
 // Counts the divisions of rule 3 over a sheet's loads and stores, for a memory of a length.
-#[unsafe(no_mangle)]
-pub extern "C" fn moonbleat_divisions(
-    sheet: &[u8],
-    memory_len: usize,
-    answer: &mut [u32; ANSWER],
-) -> u32
+pub fn moonbleat_divisions(sheet: &[u8], memory_len: usize, answer: &mut [u32; ANSWER]) -> u32
     ensures value { result ≡ (counted sheet.now memory_len).refusal.number }
     ensures answer_after { answer.new ≡ answer_row (counted sheet.now memory_len).refusal (counted sheet.now memory_len).divisions }
 {
@@ -83,8 +67,7 @@ pub extern "C" fn moonbleat_divisions(
 }
 
 // Explains one element of a sheet's load or store for a memory of a length.
-#[unsafe(no_mangle)]
-pub extern "C" fn moonbleat_outcome(
+pub fn moonbleat_outcome(
     sheet: &[u8],
     memory_len: usize,
     step: u32,
@@ -103,8 +86,7 @@ pub extern "C" fn moonbleat_outcome(
 }
 
 // Carries out a sheet on the lent memory.
-#[unsafe(no_mangle)]
-pub extern "C" fn moonbleat_carry_out(
+pub fn moonbleat_carry_out(
     sheet: &[u8],
     memory: &mut [u8],
     types: &mut [u8; TYPES],
@@ -124,8 +106,7 @@ pub extern "C" fn moonbleat_carry_out(
 }
 
 // Translates a sheet for a memory of a length into the lent tape and mask area.
-#[unsafe(no_mangle)]
-pub extern "C" fn moonbleat_translate(
+pub fn moonbleat_translate(
     sheet: &[u8],
     memory_len: usize,
     tape: &mut [i32],
@@ -145,8 +126,7 @@ pub extern "C" fn moonbleat_translate(
 }
 
 // Did a step touch an element, by its mask? 1 or 0.
-#[unsafe(no_mangle)]
-pub extern "C" fn moonbleat_touched(masks: &[u8], step: u32, element: u32) -> u32
+pub fn moonbleat_touched(masks: &[u8], step: u32, element: u32) -> u32
     ensures { result ≡ pick (touched masks.now «step» «element») 1 0 }
 {
     if masks::touched(masks, step as usize, element as usize) {
@@ -156,8 +136,7 @@ pub extern "C" fn moonbleat_touched(masks: &[u8], step: u32, element: u32) -> u3
 }
 
 // Runs a tape with its sheet on the lent memory.
-#[unsafe(no_mangle)]
-pub extern "C" fn moonbleat_run(
+pub fn moonbleat_run(
     sheet: &[u8],
     tape: &[i32],
     records: usize,
@@ -179,8 +158,7 @@ pub extern "C" fn moonbleat_run(
 }
 
 // Writes the trace that a sheet makes in a memory of a length into the lent room.
-#[unsafe(no_mangle)]
-pub extern "C" fn moonbleat_trace(
+pub fn moonbleat_trace(
     sheet: &[u8],
     memory_len: usize,
     out: &mut [u8],
@@ -195,8 +173,7 @@ pub extern "C" fn moonbleat_trace(
 }
 
 // Replays a trace against a sheet and a memory's length.
-#[unsafe(no_mangle)]
-pub extern "C" fn moonbleat_replay(
+pub fn moonbleat_replay(
     sheet: &[u8],
     memory_len: usize,
     trace: &[u8],
