@@ -17,7 +17,7 @@ use Rattle.runs.specs.declared.Run.{Run}
 use Rattle.runs.specs.declared.Run.TheVariants.{Idle, Bytes, Fills}
 use Rattle.runs.specs.declared.Progress.{Progress}
 use Rattle.runs.specs.Runs.{progress, meet_byte, meet_fill, next, emit, held, ending, ended, runs}
-use Rattle.runs.specs.Laws.Writing.{count_all}
+use Rattle.runs.proofs.Laws.Writing.{count_all}
 
 -- the same outcome, run or turn where these bits fill an element
 abbrev filled_outcome : ℕ → Outcome → Outcome

@@ -10,18 +10,18 @@ use Rattle.outcomes.specs.declared.Outcome.TheVariants.{Skipped}
 use Rattle.addressing.specs.Rules.{elements_of, low_bits}
 use Rattle.addressing.specs.declared.Access.{Access}
 use Rattle.accesses.specs.Entries.{entry_outcome, Told}
-use Rattle.accesses.specs.Laws.Surveys.{entry_cases}
+use Rattle.accesses.proofs.Laws.Surveys.{entry_cases}
 use Rattle.transfers.specs.Transfers.{outcome_of}
 use Rattle.accepted.specs.Accepted.{entries_outcome, Listed}
 use Rattle.accepted.specs.declared.Outcomes.{Outcomes}
 use Rattle.accepted.specs.Laws.Elements.{access_count, access_at}
 use Rattle.runs.specs.Ranges.{Fitting}
-use Rattle.runs.specs.Laws.RunRecords.{records_of, of_runs}
+use Rattle.runs.proofs.Laws.RunRecords.{records_of, of_runs}
 use Rattle.runs.specs.Runs.{runs, runs_records}
-use Rattle.runs.specs.Laws.Writing.{runs_same, count_all, count_few}
+use Rattle.runs.proofs.Laws.Writing.{runs_same, count_all, count_few}
 use Rattle.masks.specs.Masks.{bit_of, mask_of}
 use Rattle.masks.specs.Entries.{entry_bit}
-use Rattle.masks.specs.Laws.Bits.{entries_bit}
+use Rattle.masks.proofs.Laws.Bits.{entries_bit}
 use Rattle.access_tapes.specs.Accesses.{access_outcomes}
 
 -- an entry is of a byte of memory, and the bits that fill an element are 32

@@ -9,10 +9,10 @@ use Rattle.records.specs.Records.{tape_numbers}
 use Rattle.runs.specs.declared.Run.{Run}
 use Rattle.runs.specs.Runs.{runs}
 use Rattle.runs.specs.Even.{Stretch}
-use Rattle.runs.specs.Theorems.Longest.{LongestRun, AllRuns, runs_longest}
-use Rattle.runs.specs.Theorems.Unique.{run_of, stretches, runs_given}
+use Rattle.runs.proofs.Theorems.Longest.{LongestRun, AllRuns, runs_longest}
+use Rattle.runs.proofs.Theorems.Unique.{run_of, stretches, runs_given}
 use Rattle.runs.specs.RunRecords.{run_numbers}
-use Rattle.runs.specs.Laws.RunRecords.{records_of, of_runs, given_records, given_numbers}
+use Rattle.runs.proofs.Laws.RunRecords.{records_of, of_runs, given_records, given_numbers}
 use Rattle.access_tapes.specs.Accesses.{access_records}
 use Rattle.access_tapes.specs.Given.{AccessGiven}
 

@@ -1,4 +1,6 @@
 -- Laws of an access's elements, as the loops go over them.
+pub mod Accepted
+pub mod Surveys
 use Prim.Native.Nat.{ℕ, zero, suc, ◌+◌, ◌-◌, ◌<◌, ◌≤◌, zero-le}
 use mathlib.Core.Path.{◌≡◌, refl, sym, ap, ◌∙◌}
 use mathlib.Core.Bool.{Bool, true, false}

@@ -15,7 +15,7 @@ use Rattle.sheet.specs.Sizes.{rank_places, matrix_places, size_limit}
 use Rattle.sheet.specs.declared.ClampMode.{ClampMode}
 use Rattle.tensor_ranges.specs.Laws.Facts.{layout_some, layout_most, layout_span}
 use Rattle.clamps.specs.Clamps.{coordinate_of, outside}
-use Rattle.clamps.specs.Laws.Clamps.{stop_of, AtOr, Flat, outside_flat}
+use Rattle.clamps.proofs.Laws.Clamps.{stop_of, AtOr, Flat, outside_flat}
 use Rattle.sheet.specs.declared.Dimension.{Dimension}
 use Rattle.dimensions.specs.Dimensions.{lead, tail_of, part_limit}
 use Rattle.refusals.specs.Refusals.{stop_at, outside_undefined}

@@ -1,4 +1,3 @@
 pub mod Refusals
 pub mod Entries
 pub mod Rows
-pub mod Laws

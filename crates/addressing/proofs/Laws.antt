@@ -38,7 +38,7 @@ use Rattle.view_indices.specs.Indices.{view_sizes, view_strides, span_of}
 use Rattle.spans.specs.Spans.{span_coordinates}
 use Rattle.clamps.specs.Clamps.{twos, coordinate_of, clamped, sided}
 use Rattle.clamps.specs.declared.Sided.{Sided}
-use Rattle.clamps.specs.Laws.Offsets.{lower, upper}
+use Rattle.clamps.proofs.Laws.Offsets.{lower, upper}
 use Rattle.addressing.specs.Rules.{outside_clip, outside_view, elements_of, clip_width, low_bits, scaled, part, plus, tensor_index, refused, settled, reached}
 
 -- Rule 1: inside the clip the offset can be subtracted

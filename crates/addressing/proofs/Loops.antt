@@ -18,7 +18,7 @@ use Rattle.spans.specs.Spans.{split_by}
 use Rattle.addressing.specs.Rules.{part, plus}
 use Rattle.addressing.specs.Rows.{up_to}
 use Rattle.addressing.specs.Laws.Rows.{part_one, up_one, plus_stop, up_last}
-use Rattle.clamps.specs.Laws.Clamps.{stop_of, AtOr}
+use Rattle.clamps.proofs.Laws.Clamps.{stop_of, AtOr}
 use Rattle.spans.specs.Laws.Splits.{split_rest, split_quotient}
 use Rattle.spans.specs.declared.Split.{Split}
 use Rattle.dimensions.specs.Dimensions.{dimension_numbers, dimension_in, lead, lead_start, tail_of, tail_numbers, part_limit}

@@ -1,4 +1,7 @@
 -- The loop over a layout's dimensions that looks for the first one outside.
+pub mod Clamps
+pub mod Sides
+pub mod Offsets
 use Prim.Native.Nat.{ℕ, ◌+◌, ◌-◌, ◌<◌}
 use mathlib.Core.Path.{◌≡◌, refl, sym, ◌∙◌}
 use mathlib.Core.Bool.{Bool}
@@ -12,7 +15,7 @@ use Rattle.sheet.specs.declared.Layout.{Layout}
 use Rattle.clamps.specs.declared.Sided.{Sided}
 use Rattle.clamps.specs.Clamps.{twos, sided}
 use Rattle.clamps.specs.Sides.{side_at, named, outside_from, first_outside}
-use Rattle.clamps.specs.Laws.Sides.{outside_go}
+use Rattle.clamps.proofs.Laws.Sides.{outside_go}
 
 module _ (l : Layout) (cs : List ℕ) where
   -- what is left to look at from dimension d on has the whole's answer

@@ -2,5 +2,3 @@ pub mod Clamps
 pub mod Sides
 pub mod Named
 pub mod Coordinates
-pub mod Laws
-pub mod Theorems

@@ -20,7 +20,7 @@ use Rattle.sheet_reader.specs.Reading.{read_sheet}
 use Rattle.spans.specs.Spans.{span_coordinates}
 use Rattle.clamps.specs.Sides.{side_at}
 use Rattle.clamps.specs.Named.{First}
-use Rattle.clamps.specs.Theorems.{first_named}
+use Rattle.clamps.proofs.Theorems.{first_named}
 use Rattle.addressing.specs.Rules.{elements_of, indexed, located}
 use Rattle.addressing.specs.declared.Access.{Access}
 use Rattle.addressing.specs.declared.Indexed.TheVariants.{Index}

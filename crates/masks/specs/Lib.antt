@@ -1,6 +1,3 @@
 pub mod Masks
 pub mod Entries
 pub mod Placed
-pub mod Laws
-pub mod Examples
-pub mod Theorems

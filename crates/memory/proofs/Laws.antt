@@ -1,4 +1,5 @@
 -- Elements of 1, 2 and 4 bytes as the stores and reads of numbers give them.
+pub mod Elements
 use mathlib.Core.Path.{◌≡◌, sym, ◌∙◌}
 use mathlib.Core.Logic.{⊎_elim}
 use mathlib.Core.List.{List}

@@ -7,7 +7,7 @@ use Rattle.numbers.specs.Bytes.{AreBytes}
 use Rattle.sheet_reader.specs.Reading.{read_sheet}
 use Rattle.sheet_writer.specs.Writing.{write_answer, written, written_room}
 use Rattle.sheet_reader.specs.Laws.Growing.{not_refused_lem}
-use Rattle.round_trip.specs.Theorems.{WritesBack, read_writes_back}
+use Rattle.round_trip.proofs.Theorems.{WritesBack, read_writes_back}
 use Rattle.moonbleat.specs.Rewriting.{rewritten, rewritten_room}
 
 -- A sheet that is read and for which there is room is rewritten byte for byte, and its byte count is its length.

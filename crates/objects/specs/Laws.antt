@@ -22,8 +22,8 @@ use Rattle.registers.specs.Laws.Sized.{sized_places}
 use Rattle.registers.specs.declared.MatrixType.{MatrixType}
 use Rattle.transfers.specs.Acts.{State, loaded}
 use Rattle.transfers.specs.Transfers.{transferred}
-use Rattle.transfers.specs.Laws.Elements.{loaded_memory}
-use Rattle.transfers.specs.Laws.Effects.{transferred_keeps, loaded_places}
+use Rattle.transfers.proofs.Laws.Elements.{loaded_memory}
+use Rattle.transfers.proofs.Laws.Effects.{transferred_keeps, loaded_places}
 use Rattle.checking.specs.Steps.{object_register}
 use Rattle.checking.specs.Checking.{checked}
 use Rattle.checking.specs.Laws.Turns.{within_step}

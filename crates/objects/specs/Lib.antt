@@ -1,4 +1,2 @@
 pub mod Objects
-pub mod Examples
 pub mod Laws
-pub mod Theorems

@@ -1,5 +1,2 @@
 pub mod Orders
 pub mod Exchanges
-pub mod Examples
-pub mod Laws
-pub mod Theorems

@@ -1,4 +1,3 @@
 pub mod Shapes
 pub mod Reducing
 pub mod Parts
-pub mod Laws

@@ -1,4 +1,6 @@
 -- A check that goes from step to step, and the answer of a replay by what was found.
+pub mod Verdicts
+pub mod Matching
 use Prim.Native.Nat.{ℕ, ◌/◌, ◌-◌, ◌<◌}
 use mathlib.Core.Path.{◌≡◌, refl, sym, ap, ◌∙◌}
 use mathlib.Core.List.{List}
@@ -16,12 +18,12 @@ use Rattle.checking.specs.Checking.{checked_from, checked, checked_sheet}
 use Rattle.traces.specs.Events.{event_length}
 use Rattle.traces.specs.Reading.{read_trace}
 use Rattle.traces.specs.Numbered.{events_in}
-use Rattle.traces.specs.Laws.Numbered.{accepted_events, events_count}
+use Rattle.traces.proofs.Laws.Numbered.{accepted_events, events_count}
 use Rattle.expected.specs.Expected.{expected}
 use Rattle.replaying.specs.Verdicts.{verdict_at}
 use Rattle.replaying.specs.Matching.{matched, match_all}
 use Rattle.replaying.specs.Replaying.{replay_answer, replay_refused, replayed}
-use Rattle.replaying.specs.Laws.Matching.{match_is}
+use Rattle.replaying.proofs.Laws.Matching.{match_is}
 use Rattle.replaying.specs.declared.Matched.{Matched}
 
 -- a check that has come to step k without a refusal

@@ -1,4 +1,2 @@
 pub mod Typed
 pub mod Longest
-pub mod Laws
-pub mod Theorems

@@ -3,6 +3,3 @@ pub mod Even
 pub mod Acts
 pub mod RunRecords
 pub mod Ranges
-pub mod Examples
-pub mod Laws
-pub mod Theorems

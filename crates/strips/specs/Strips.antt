@@ -299,7 +299,7 @@ pub no_object_zeros : Strip
 no_object_zeros =
     no_object_strip 3 (accepted (0 ∷ 0 ∷ 16 ∷ 17 ∷ 0 ∷ 0 ∷ 20 ∷ 21 ∷ []))
 
-pub strips : List Strip
+unfoldable pub strips : List Strip
 strips =
     constant
     ∷ clamp_to_edge
@@ -330,95 +330,70 @@ found s =
     (refused r.refusal)
 
 -- each strip gives what is wanted, by computation
-constant_right : found constant ≡ constant.wanted
+pub constant_right : found constant ≡ constant.wanted
 unfolding found constant
 constant_right = refl
 
-clamp_to_edge_right : found clamp_to_edge ≡ clamp_to_edge.wanted
+pub clamp_to_edge_right : found clamp_to_edge ≡ clamp_to_edge.wanted
 unfolding found clamp_to_edge
 clamp_to_edge_right = refl
 
-repeated_right : found repeated ≡ repeated.wanted
+pub repeated_right : found repeated ≡ repeated.wanted
 unfolding found repeated
 repeated_right = refl
 
-mirrored_right : found mirrored ≡ mirrored.wanted
+pub mirrored_right : found mirrored ≡ mirrored.wanted
 unfolding found mirrored
 mirrored_right = refl
 
-mirrored_of_one_right : found mirrored_of_one ≡ mirrored_of_one.wanted
+pub mirrored_of_one_right : found mirrored_of_one ≡ mirrored_of_one.wanted
 unfolding found mirrored_of_one
 mirrored_of_one_right = refl
 
-undefined_right : found undefined ≡ undefined.wanted
+pub undefined_right : found undefined ≡ undefined.wanted
 unfolding found undefined
 undefined_right = refl
 
-clamped_store_right : found clamped_store ≡ clamped_store.wanted
+pub clamped_store_right : found clamped_store ≡ clamped_store.wanted
 unfolding found clamped_store
 clamped_store_right = refl
 
-permuted_right : found permuted ≡ permuted.wanted
+pub permuted_right : found permuted ≡ permuted.wanted
 unfolding found permuted
 permuted_right = refl
 
-clipped_right : found clipped ≡ clipped.wanted
+pub clipped_right : found clipped ≡ clipped.wanted
 unfolding found clipped
 clipped_right = refl
 
-large_index_right : found large_index ≡ large_index.wanted
+pub large_index_right : found large_index ≡ large_index.wanted
 unfolding found large_index
 large_index_right = refl
 
-stride_zero_single_right : found stride_zero_single ≡ stride_zero_single.wanted
+pub stride_zero_single_right : found stride_zero_single ≡ stride_zero_single.wanted
 unfolding found stride_zero_single
 stride_zero_single_right = refl
 
-stride_zero_pair_right : found stride_zero_pair ≡ stride_zero_pair.wanted
+pub stride_zero_pair_right : found stride_zero_pair ≡ stride_zero_pair.wanted
 unfolding found stride_zero_pair
 stride_zero_pair_right = refl
 
-two_by_two_right : found two_by_two ≡ two_by_two.wanted
+pub two_by_two_right : found two_by_two ≡ two_by_two.wanted
 unfolding found two_by_two
 two_by_two_right = refl
 
-blocks_of_two_right : found blocks_of_two ≡ blocks_of_two.wanted
+pub blocks_of_two_right : found blocks_of_two ≡ blocks_of_two.wanted
 unfolding found blocks_of_two
 blocks_of_two_right = refl
 
-two_layers_right : found two_layers ≡ two_layers.wanted
+pub two_layers_right : found two_layers ≡ two_layers.wanted
 unfolding found two_layers
 two_layers_right = refl
 
-no_object_kept_right : found no_object_kept ≡ no_object_kept.wanted
+pub no_object_kept_right : found no_object_kept ≡ no_object_kept.wanted
 unfolding found no_object_kept
 no_object_kept_right = refl
 
-no_object_zeros_right : found no_object_zeros ≡ no_object_zeros.wanted
+pub no_object_zeros_right : found no_object_zeros ≡ no_object_zeros.wanted
 unfolding found no_object_zeros
 no_object_zeros_right = refl
-
--- so all of them do
-also : {x y : Answer} {xs ys : List Answer} → x ≡ y → xs ≡ ys → x ∷ xs ≡ y ∷ ys
-also p q = ap₂ ◌∷◌ p q
-
-pub strips_right : map found strips ≡ map (λ (s : Strip). s.wanted) strips
-unfolding strips
-strips_right =
-    (also constant_right
-    (also clamp_to_edge_right
-    (also repeated_right
-    (also mirrored_right
-    (also mirrored_of_one_right
-    (also undefined_right
-    (also clamped_store_right
-    (also permuted_right
-    (also clipped_right
-    (also large_index_right
-    (also stride_zero_single_right
-    (also stride_zero_pair_right
-    (also two_by_two_right
-    (also blocks_of_two_right
-    (also two_layers_right
-    (also no_object_kept_right
-    (also no_object_zeros_right refl)))))))))))))))))

@@ -3,5 +3,3 @@ pub mod Reading
 pub mod Writing
 pub mod Numbered
 pub mod Ascending
-pub mod Laws
-pub mod Theorems

@@ -15,7 +15,7 @@ use Rattle.checking.specs.Checking.{checked_sheet}
 use Rattle.checking.specs.declared.CheckAnswer.{CheckAnswer}
 use Rattle.traces.specs.Events.{event_length}
 use Rattle.traces.specs.Writing.{event_bytes, trace_bytes}
-use Rattle.traces.specs.Laws.Writing.{length_trace, trace_append, trace_one}
+use Rattle.traces.proofs.Laws.Writing.{length_trace, trace_append, trace_one}
 use Rattle.traces.specs.declared.Event.{Event}
 use Rattle.tracing.specs.Tracing.{trace_answer, traced_events, traced_length, traced, traced_room}
 

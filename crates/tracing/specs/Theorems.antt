@@ -13,8 +13,8 @@ use Rattle.checking.specs.Checking.{checked_sheet}
 use Rattle.traces.specs.Events.{event_length}
 use Rattle.traces.specs.Reading.{trace, read_trace}
 use Rattle.traces.specs.Writing.{trace_bytes}
-use Rattle.traces.specs.Laws.Writing.{length_trace}
-use Rattle.traces.specs.Theorems.{trace_back}
+use Rattle.traces.proofs.Laws.Writing.{length_trace}
+use Rattle.traces.proofs.Theorems.{trace_back}
 use Rattle.expected.specs.Laws.Ascending.{expected_ascends}
 use Rattle.tracing.specs.Tracing.{traced_events, traced_length, traced, traced_room}
 use Rattle.tracing.specs.declared.TraceAnswer.{TraceAnswer}

@@ -1,3 +1,2 @@
 pub mod Acts
 pub mod Transfers
-pub mod Laws

@@ -45,7 +45,7 @@ use Rattle.records.specs.declared.Record.TheVariants as records
 use Rattle.records.specs.Records.{record_length, tape_numbers}
 use Rattle.records.specs.Room.{records_fit}
 use Rattle.runs.specs.Runs.{held, runs, runs_records}
-use Rattle.runs.specs.Laws.Writing.{count_records}
+use Rattle.runs.proofs.Laws.Writing.{count_records}
 use Rattle.accepted.specs.Elements.{of_access}
 use Rattle.accepted.specs.Accepted.{ClearAccess, ClearStep}
 use Rattle.accepted.specs.Laws.Clear.{step_clear}

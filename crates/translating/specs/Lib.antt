@@ -3,4 +3,3 @@ pub mod Turns
 pub mod Masks
 pub mod Translating
 pub mod GivenTape
-pub mod Theorems

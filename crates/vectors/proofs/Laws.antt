@@ -1,4 +1,10 @@
 -- Bounds of the sums that place an element.
+pub mod Reach
+pub mod Refusals
+pub mod Within
+pub mod Saturation
+pub mod Results
+pub mod Fits
 use Prim.Native.Nat.{ℕ, ◌+◌, ◌*◌, ◌<◌, ◌≤◌, ◌^◌}
 use native.Mathlib.Nat.{mul-le-mul}
 use native.Mathlib.Omega.{arith}

@@ -5,6 +5,3 @@ pub mod Components
 pub mod Results
 pub mod Within
 pub mod Residues
-pub mod Laws
-pub mod Theorems
-pub mod Examples

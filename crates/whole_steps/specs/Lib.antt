@@ -2,5 +2,3 @@ pub mod Transposing
 pub mod Refusals
 pub mod Whole
 pub mod Within
-pub mod Laws
-pub mod Theorems

@@ -4,8 +4,8 @@ use native.Mathlib.Omega.{arith}
 use Prim.Native.Nat.{ℕ, ◌*◌}
 use Rattle.addressing.specs.Rules.{elements_of}
 use Rattle.addressing.specs.Laws.Plans.{planned_access, plan_count}
-use Rattle.accesses.specs.Laws.Accepted.{accepted_valid}
-use Rattle.accesses.specs.Laws.Surveys.{surveyed_outcome}
+use Rattle.accesses.proofs.Laws.Accepted.{accepted_valid}
+use Rattle.accesses.proofs.Laws.Surveys.{surveyed_outcome}
 use Rattle.accepted.proofs.survey_access.Goals as goal
 
 pub returns-then-access-lt1 : goal.returns-then-access-lt1

@@ -3,8 +3,8 @@ use Prim.Native.Nat.{◌+◌, ◌-◌}
 use lib.ListN.{length, get_or}
 use Rattle.runs.specs.declared.Run.{Run}
 use Rattle.runs.specs.Runs.{emit, runs}
-use Rattle.runs.specs.Laws.Ranges.{held_small}
-use Rattle.runs.specs.Laws.Writing.{held_none, held_more, ending_is, count_none, count_more, count_few, count_all, emit_one}
+use Rattle.runs.proofs.Laws.Ranges.{held_small}
+use Rattle.runs.proofs.Laws.Writing.{held_none, held_more, ending_is, count_none, count_more, count_few, count_all, emit_one}
 use Rattle.accepted.specs.Accepted.{entries_outcome}
 use Rattle.access_tapes.proofs.Laws.{entry_fits}
 use Rattle.access_tapes.proofs.Fills.{runs_count}

@@ -8,11 +8,6 @@ use Rattle.access_tapes.specs.Writing.{Room, Wrote}
 use Rattle.access_tapes.proofs.Laws.{listed_records, listed_mask}
 use Rattle.access_tapes.proofs.write_access.Goals as goal
 
-pub put_mask-requires : goal.put_mask-requires
-put_mask-requires c =
-    let s = c in
-    (s.requires.k_lt_step_places.0, s.requires.k_lt_step_places.1, c.survey_access-o.ensures.listed.few)
-
 pub write_runs-requires : goal.write_runs-requires
 write_runs-requires c =
     let s = c in

@@ -1,8 +1,8 @@
 use mathlib.Core.Path.{◌≡◌, sym, ◌∙◌}
 use Prim.Native.Nat.{◌-◌, ◌^◌, ◌<◌}
 use lib.ListN.{get_or}
-use Rattle.runs.specs.Laws.Ranges.{held_small, ending_within, held_within}
-use Rattle.runs.specs.Laws.Writing.{held_none, held_more, ending_is, count_records, written_none, written_more, written_length, written_all, written_place, room_more, room_last}
+use Rattle.runs.proofs.Laws.Ranges.{held_small, ending_within, held_within}
+use Rattle.runs.proofs.Laws.Writing.{held_none, held_more, ending_is, count_records, written_none, written_more, written_length, written_all, written_place, room_more, room_last}
 use Rattle.accepted.specs.Accepted.{entries_outcome}
 use Rattle.access_tapes.proofs.Laws.{entry_fits}
 use native.Mathlib.Omega.{arith}

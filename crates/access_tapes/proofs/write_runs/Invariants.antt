@@ -1,7 +1,7 @@
 use mathlib.Core.Path.{◌≡◌}
 use Prim.Native.Nat.{◌-◌, ◌≤◌}
 use Rattle.runs.specs.Runs.{held as theHeld}
-use Rattle.runs.specs.Laws.Writing.{Written}
+use Rattle.runs.proofs.Laws.Writing.{Written}
 use Rattle.accepted.specs.Accepted.{entries_outcome}
 use Rattle.access_tapes.proofs.write_runs.Given as goal
 

@@ -6,7 +6,7 @@ use Rattle.addressing.specs.Rules.{elements_of}
 use Rattle.addressing.specs.declared.Access.{Access}
 use Rattle.transfers.specs.Transfers.{outcome_of}
 use Rattle.runs.specs.Runs.{runs}
-use Rattle.runs.specs.Laws.Writing.{count_all, count_few, count_records}
+use Rattle.runs.proofs.Laws.Writing.{count_all, count_few, count_records}
 use Rattle.access_tapes.specs.Accesses.{access_records}
 
 -- no more runs than elements

@@ -2,7 +2,7 @@ use mathlib.Core.Path.{ap, ◌∙◌}
 use native.Mathlib.Omega.{arith}
 use Rattle.numbers.specs.Laws.Choice.{went, tests}
 use Rattle.addressing.specs.Laws.Plans.{planned_access}
-use Rattle.accesses.specs.Laws.Accepted.{ranks_agree}
+use Rattle.accesses.proofs.Laws.Accepted.{ranks_agree}
 use Rattle.accesses.proofs.Laws.{number, access_nine, access_ten, access_eleven, access_elements}
 use Rattle.accesses.proofs.check_access.Goals as goal
 

@@ -3,7 +3,7 @@ use native.Mathlib.Omega.{arith}
 use Rattle.numbers.specs.Laws.Choice.{went}
 use Rattle.addressing.specs.Laws.Plans.{plan_count}
 use Rattle.clashes.specs.Laws.Clashes.{apart_none, apart_found}
-use Rattle.accesses.specs.Laws.Surveys.{element_near, surveyed_told}
+use Rattle.accesses.proofs.Laws.Surveys.{element_near, surveyed_told}
 use Rattle.accesses.proofs.Laws.{number, clash_surveyed, checked_refused, checked_load, checked_clash, checked_apart}
 use Rattle.accesses.proofs.check_elements.Goals as goal
 

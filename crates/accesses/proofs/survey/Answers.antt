@@ -1,7 +1,7 @@
 use Rattle.accesses.proofs.RowLaws.{tail_few}
 use Rattle.accesses.proofs.Laws.{passed_none, passed_stop, passed_more, passed_end}
 use Rattle.addressing.specs.Laws.Plans.{plan_count}
-use Rattle.accesses.specs.Laws.Surveys.{element_near}
+use Rattle.accesses.proofs.Laws.Surveys.{element_near}
 use Rattle.accesses.specs.Refusals.{element_outcome, placed_count}
 use mathlib.Core.Path.{refl, ap, ◌∙◌}
 use Prim.Native.Nat.{◌-◌}

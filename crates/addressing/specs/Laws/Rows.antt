@@ -15,7 +15,7 @@ use Rattle.spans.specs.Laws.Coordinates.{coordinates_keep}
 use Rattle.sheet.specs.declared.ClampMode.{ClampMode}
 use Rattle.sheet.specs.declared.Dimension.{Dimension}
 use Rattle.clamps.specs.Clamps.{coordinate_of, clamped}
-use Rattle.clamps.specs.Laws.Clamps.{stop_of, AtOr, clamped_one}
+use Rattle.clamps.proofs.Laws.Clamps.{stop_of, AtOr, clamped_one}
 use Rattle.clamps.specs.declared.Clamped.{Clamped}
 use Rattle.clamps.specs.declared.Clamped.TheVariants.{Refused, Discarded, Filled, At}
 use Rattle.addressing.specs.declared.Access.{Access}

@@ -12,7 +12,7 @@ use Rattle.clamps.specs.declared.Clamped.{Clamped}
 use Rattle.clamps.specs.declared.Clamped.TheVariants.{Refused, Discarded, Filled, At}
 use Rattle.addressing.specs.declared.Located.{Located}
 use Rattle.clamps.specs.Clamps.{coordinate_of, clamped}
-use Rattle.clamps.specs.Laws.Clamps.{ByLoad, clamped_by}
+use Rattle.clamps.proofs.Laws.Clamps.{ByLoad, clamped_by}
 use Rattle.addressing.specs.Sound.{Sound}
 use Rattle.spans.specs.Spans.{span_coordinates}
 use Rattle.addressing.specs.Rules.{scaled, part, plus, tensor_index, low_bits, addressed, settled, reached, indexed, landed, located}

@@ -16,7 +16,7 @@ use Rattle.records.specs.Records.{moved}
 use Rattle.runs.specs.declared.Run.{Run}
 use Rattle.runs.specs.declared.Run.TheVariants.{Idle, Bytes, Fills}
 use Rattle.runs.specs.Runs.{held, ending, run_records, ended_records, runs_records}
-use Rattle.runs.specs.Theorems.Longest.{Going, Pouring, Open, held_open, ending_open}
+use Rattle.runs.proofs.Theorems.Longest.{Going, Pouring, Open, held_open, ending_open}
 use Rattle.judging.specs.Records.{bytes_record_ok, fill_record_ok}
 use Rattle.judging.specs.Laws.Bytes.{inside_natural}
 use Rattle.agreement.specs.Laws.Passing.{Passes, none, more, passes_append}

@@ -19,7 +19,7 @@ use Rattle.records.specs.declared.Record.TheVariants.{Fill}
 use Rattle.records.specs.Records.{moved}
 use Rattle.runs.specs.Runs.{runs_records}
 use Rattle.runs.specs.Acts.{Act, one, spread, pour, meet, give}
-use Rattle.runs.specs.Laws.States.{fold, elementwise, fold_append, same_records}
+use Rattle.runs.proofs.Laws.States.{fold, elementwise, fold_append, same_records}
 use Rattle.moves.specs.Elements.{on_elements}
 use Rattle.running.specs.Records.{ran_record_with, ran_record}
 use Rattle.judging.specs.Laws.Bytes.{byte_natural}

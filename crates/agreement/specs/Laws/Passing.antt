@@ -12,7 +12,7 @@ use Rattle.records.specs.declared.Record.{Record}
 use Rattle.records.specs.declared.Record.TheVariants.{Whole}
 use Rattle.records.specs.declared.Decoded.{Decoded}
 use Rattle.records.specs.declared.Decoded.TheVariants.{Good}
-use Rattle.runs.specs.Laws.States.{perform_all}
+use Rattle.runs.proofs.Laws.States.{perform_all}
 use Rattle.judging.specs.Records.{record_ok, record_types}
 use Rattle.running.specs.Records.{ran_record}
 use Rattle.judging.specs.Judging.{range_from}

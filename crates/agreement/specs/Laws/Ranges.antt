@@ -35,7 +35,7 @@ use Rattle.records.specs.Ranges.{AllInRange}
 use Rattle.records.specs.Laws.Records.{all_append}
 use Rattle.records.specs.Ranges as ranges
 use Rattle.runs.specs.Ranges.{Fitting}
-use Rattle.runs.specs.Laws.Ranges.{runs_within}
+use Rattle.runs.proofs.Laws.Ranges.{runs_within}
 use Rattle.access_tapes.specs.Accesses.{access_records}
 use Rattle.translating.specs.Tapes.{object_records, step_records, tape_from, tape_of}
 use Rattle.agreement.specs.Laws.InRange.{Passable}

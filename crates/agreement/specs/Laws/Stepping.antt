@@ -28,7 +28,7 @@ use Rattle.addressing.specs.Rules.{elements_of}
 use Rattle.addressing.specs.declared.Access.{Access}
 use Rattle.addressing.specs.Sound.{Sound}
 use Rattle.addressing.specs.Laws.Sound.{low_bits_fit}
-use Rattle.accesses.specs.Laws.Accepted.{element_sound}
+use Rattle.accesses.proofs.Laws.Accepted.{element_sound}
 use Rattle.transfers.specs.Transfers.{outcome_of, transferred}
 use Rattle.checking.specs.Steps.{access_of, object_register, checked_step, step_types}
 use Rattle.checking.specs.Laws.Names.{load_register}
@@ -38,7 +38,7 @@ use Rattle.carrying.specs.Machines.{check_on, Accepted}
 use Rattle.carrying.specs.Laws.Types.{object_type}
 use Rattle.records.specs.declared.Record.{Record}
 use Rattle.records.specs.declared.Record.TheVariants.{Whole}
-use Rattle.runs.specs.Laws.States.{perform_all, perform_all_append}
+use Rattle.runs.proofs.Laws.States.{perform_all, perform_all_append}
 use Rattle.access_tapes.specs.Accesses.{access_records}
 use Rattle.translating.specs.Tapes.{object_records, step_records}
 use Rattle.judging.specs.Records.{fill_record_ok, whole_record_ok, record_ok}

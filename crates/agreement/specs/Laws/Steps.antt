@@ -15,7 +15,7 @@ use Rattle.carrying.specs.Carrying.{performed_from}
 use Rattle.carrying.specs.Machines.{step_on, AcceptedStep, Formed}
 use Rattle.carrying.specs.Laws.Types.{check_from, step_types_lem, step_length_lem, step_formed, first_accepted, rest_checked}
 use Rattle.records.specs.declared.Record.{Record}
-use Rattle.runs.specs.Laws.States.{perform_all, perform_all_append}
+use Rattle.runs.proofs.Laws.States.{perform_all, perform_all_append}
 use Rattle.translating.specs.Tapes.{step_records, tape_from}
 use Rattle.running.specs.Records.{ran_record}
 use Rattle.agreement.specs.Laws.Passing.{Passes, none, passes_append, ran_all}

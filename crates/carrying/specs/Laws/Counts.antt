@@ -9,7 +9,7 @@ use Rattle.registers.specs.Types.{the_type, with_type}
 use Rattle.addressing.specs.Rules.{elements_of}
 use Rattle.accesses.specs.Refusals.{element_outcome}
 use Rattle.counts.specs.declared.Counts.{Counts}
-use Rattle.transfers.specs.Laws.Effects.{transferred_counts, loaded_counts, stored_counts}
+use Rattle.transfers.proofs.Laws.Effects.{transferred_counts, loaded_counts, stored_counts}
 use Rattle.checking.specs.Steps.{access_of, object_register, checked_step}
 use Rattle.checking.specs.Laws.Names.{load_register}
 use Rattle.checking.specs.Laws.Accesses.{access_moved, access_clear}

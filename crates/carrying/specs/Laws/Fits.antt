@@ -20,9 +20,9 @@ use Rattle.registers.specs.Laws.Fits.{fit_empty, fit_zeroed, fit_copied}
 use Rattle.whole_steps.specs.Refusals.{whole_refusal}
 use Rattle.whole_steps.specs.Whole.{whole_result}
 use Rattle.whole_steps.specs.Within.{WholeOk}
-use Rattle.whole_steps.specs.Laws.Within.{whole_ok_lem}
-use Rattle.whole_steps.specs.Laws.Fits.{whole_fits}
-use Rattle.transfers.specs.Laws.Fits.{Fits, load_fits, store_fits}
+use Rattle.whole_steps.proofs.Laws.Within.{whole_ok_lem}
+use Rattle.whole_steps.proofs.Laws.Fits.{whole_fits}
+use Rattle.transfers.proofs.Laws.Fits.{Fits, load_fits, store_fits}
 use Rattle.checking.specs.Steps.{object_register, access_of, checked_step}
 use Rattle.checking.specs.Checking.{checked}
 use Rattle.checking.specs.Laws.Names.{load_register, load_object}

@@ -23,11 +23,11 @@ use Rattle.registers.specs.Laws.Sized.{sized_with, sized_empty}
 use Rattle.registers.specs.Laws.Past.{past_empty, past_zeroed, past_copied, past_made}
 use Rattle.whole_steps.specs.Whole.{whole_result, whole_type}
 use Rattle.whole_steps.specs.Within.{WholeOk}
-use Rattle.whole_steps.specs.Laws.Within.{whole_ok_lem, sized_type}
+use Rattle.whole_steps.proofs.Laws.Within.{whole_ok_lem, sized_type}
 use Rattle.transfers.specs.Acts.{State}
-use Rattle.transfers.specs.Laws.Elements.{loaded_memory, stored_elements_lem, stored_length}
-use Rattle.transfers.specs.Laws.Effects.{transferred_keeps, loaded_places}
-use Rattle.transfers.specs.Laws.Fits.{load_past}
+use Rattle.transfers.proofs.Laws.Elements.{loaded_memory, stored_elements_lem, stored_length}
+use Rattle.transfers.proofs.Laws.Effects.{transferred_keeps, loaded_places}
+use Rattle.transfers.proofs.Laws.Fits.{load_past}
 use Rattle.checking.specs.Steps.{object_register, step_types, access_of}
 use Rattle.checking.specs.Laws.Names.{load_object}
 use Rattle.checking.specs.Checking.{checked_from, checked}

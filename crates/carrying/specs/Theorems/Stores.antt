@@ -10,9 +10,9 @@ use Rattle.sheet.specs.declared.Step.TheVariants.{Nothing, Load, Store, Whole}
 use Rattle.registers.specs.Types.{the_type}
 use Rattle.addressing.specs.declared.Access.{Access}
 use Rattle.accesses.specs.Refusals.{access_refusal}
-use Rattle.accesses.specs.Laws.Accepted.{placed_inside, placed_apart}
+use Rattle.accesses.proofs.Laws.Accepted.{placed_inside, placed_apart}
 use Rattle.transfers.specs.Transfers.{outcome_of}
-use Rattle.transfers.specs.Laws.Effects.{has_placed}
+use Rattle.transfers.proofs.Laws.Effects.{has_placed}
 use Rattle.checking.specs.Steps.{access_of, object_register, checked_step}
 use Rattle.checking.specs.Checking.{checked}
 use Rattle.checking.specs.Laws.Accesses.{access_clear}

@@ -9,8 +9,8 @@ use Rattle.sheet.specs.declared.Step.{Step}
 use Rattle.sheet.specs.declared.Step.TheVariants.{Nothing, Load, Store, Whole}
 use Rattle.sheet_reader.specs.Reading.{read_sheet}
 use Rattle.transfers.specs.Acts.{State}
-use Rattle.transfers.specs.Laws.Elements.{loaded_memory}
-use Rattle.transfers.specs.Laws.Effects.{transferred_keeps, stores_outside}
+use Rattle.transfers.proofs.Laws.Elements.{loaded_memory}
+use Rattle.transfers.proofs.Laws.Effects.{transferred_keeps, stores_outside}
 use Rattle.checking.specs.Checking.{checked_sheet}
 use Rattle.carrying.specs.Steps.{Machine, state_of, load_done, store_done, object_done, performed_step}
 use Rattle.carrying.specs.Carrying.{performed_from, performed, started, carried_memory}

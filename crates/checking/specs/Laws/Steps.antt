@@ -14,13 +14,13 @@ use Rattle.registers.specs.Sized.{Sized}
 use Rattle.registers.specs.Laws.Sized.{sized_with, sized_places}
 use Rattle.registers.specs.declared.MatrixType.{MatrixType}
 use Rattle.whole_steps.specs.Whole.{whole_result}
-use Rattle.whole_steps.specs.Laws.Within.{whole_ok_lem, sized_whole}
+use Rattle.whole_steps.proofs.Laws.Within.{whole_ok_lem, sized_whole}
 use Rattle.addressing.specs.Rules.{elements_of}
 use Rattle.addressing.specs.declared.Access.{Access}
 use Rattle.addressing.specs.declared.Located.{Located}
 use Rattle.accesses.specs.Refusals.{checked_access, element_outcome, placed_count}
 use Rattle.accesses.specs.Refusals as accesses
-use Rattle.accesses.specs.Laws.Accepted.{placed_most}
+use Rattle.accesses.proofs.Laws.Accepted.{placed_most}
 use Rattle.checking.specs.Steps.{access_of, object_register, access_check, checked_step, step_types}
 use Rattle.checking.specs.Laws.Accesses.{access_moved, access_clear}
 use Rattle.checking.specs.declared.StepCheck.{StepCheck}

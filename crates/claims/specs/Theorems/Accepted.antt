@@ -33,7 +33,7 @@ use Rattle.carrying.specs.Theorems.Counts.{sheet_count}
 use Rattle.access_tapes.specs.Laws.Few.{access_few}
 use Rattle.access_tapes.specs.Accesses.{access_records}
 use Rattle.translating.specs.Tapes.{object_records, step_records, sheet_records}
-use Rattle.translating.specs.Theorems.Masks.{types_sized}
+use Rattle.translating.proofs.Theorems.Masks.{types_sized}
 
 -- ---- vector steps
 

@@ -16,7 +16,7 @@ use Rattle.clamps.specs.declared.Clamped.{Clamped}
 use Rattle.clamps.specs.declared.Clamped.TheVariants.{Refused, Discarded, Filled, At}
 use Rattle.clamps.specs.Clamps.{coordinate_of, clamped, side_of}
 use Rattle.clamps.specs.Sides.{side_at, first_outside}
-use Rattle.clamps.specs.Theorems.{store_inside, constant_inside, inside_nowhere}
+use Rattle.clamps.proofs.Theorems.{store_inside, constant_inside, inside_nowhere}
 use Rattle.addressing.specs.Rules.{scaled, part, plus, tensor_index, settled, reached, landed, indexed, located}
 use Rattle.addressing.specs.declared.Access.{Access}
 use Rattle.addressing.specs.declared.Indexed.{Indexed}

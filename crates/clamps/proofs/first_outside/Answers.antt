@@ -3,7 +3,7 @@ use lib.ListN.{get_or}
 use Rattle.sheet.specs.Sizes.{size_limit}
 use mathlib.Core.Path.{sym, ◌∙◌}
 use Rattle.tensor_ranges.specs.Laws.Facts.{layout_most, layout_size}
-use Rattle.clamps.specs.Laws.Sides.{outside_end}
+use Rattle.clamps.proofs.Laws.Sides.{outside_end}
 use Rattle.clamps.specs.Sides.{side_at}
 use Rattle.clamps.proofs.Laws.{look_start, look_on}
 use native.Mathlib.Omega.{arith}

@@ -3,7 +3,7 @@ use mathlib.Core.Path.{ap}
 use native.Mathlib.Omega.{arith}
 use lib.IntN.{pos, negsuc}
 use borrow.Author.Tests.{lt-ltb, le-ltb}
-use Rattle.clamps.specs.Laws.Offsets.{lower, upper}
+use Rattle.clamps.proofs.Laws.Offsets.{lower, upper}
 use Rattle.clamps.proofs.shifted.Goals as goal
 
 pub returns-then-raw-lt32768 : goal.returns-then-raw-lt32768

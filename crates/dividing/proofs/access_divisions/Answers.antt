@@ -1,6 +1,6 @@
 use mathlib.Core.Path.{sym}
 use Rattle.addressing.specs.Laws.Plans.{planned_access}
-use Rattle.accesses.specs.Laws.Accepted.{accepted_valid}
+use Rattle.accesses.proofs.Laws.Accepted.{accepted_valid}
 use Rattle.dividing.specs.Laws.Few.{bare_none}
 use native.Mathlib.Omega.{arith}
 use Rattle.dividing.proofs.access_divisions.Goals as goal

@@ -10,7 +10,7 @@ use Rattle.sheet.specs.declared.Step.{Step}
 use Rattle.registers.specs.declared.MatrixType.{MatrixType}
 use Rattle.addressing.specs.Rules.{elements_of, low_bits}
 use Rattle.addressing.specs.declared.Access.{Access}
-use Rattle.accesses.specs.Laws.Surveys.{entry_cases}
+use Rattle.accesses.proofs.Laws.Surveys.{entry_cases}
 use Rattle.clashes.specs.Entries.{filled_entry}
 use Rattle.accesses.specs.Entries.{Near, entry_outcome, Told}
 use Rattle.transfers.specs.Transfers.{outcome_of}

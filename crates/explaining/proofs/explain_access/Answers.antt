@@ -3,7 +3,7 @@ use mathlib.Core.Path.{◌≡◌, sym, ap, ◌∙◌}
 use native.Mathlib.Nat.{zero-mul}
 use Rattle.addressing.specs.Rules.{elements_of}
 use Rattle.addressing.specs.Laws.Plans.{planned_access}
-use Rattle.accesses.specs.Laws.Accepted.{accepted_valid}
+use Rattle.accesses.proofs.Laws.Accepted.{accepted_valid}
 use Rattle.explaining.specs.Laws.Asking.{access_past}
 use native.Mathlib.Omega.{arith}
 use Rattle.explaining.proofs.explain_access.Goals as goal

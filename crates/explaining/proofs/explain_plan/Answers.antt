@@ -2,7 +2,7 @@ use mathlib.Core.Path.{refl, sym}
 use Prim.Native.Nat.{◌<◌}
 use Rattle.addressing.specs.Rules.{elements_of}
 use Rattle.addressing.specs.Laws.Plans.{plan_count}
-use Rattle.accesses.specs.Laws.Surveys.{surveyed_outcome}
+use Rattle.accesses.proofs.Laws.Surveys.{surveyed_outcome}
 use Rattle.explaining.specs.Laws.Asking.{access_past, access_asked}
 use Rattle.explaining.proofs.explain_plan.Goals as goal
 

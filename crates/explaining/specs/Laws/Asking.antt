@@ -9,7 +9,7 @@ use Rattle.addressing.specs.Rules.{elements_of, reached, indexed, located}
 use Rattle.addressing.specs.declared.Access.{Access}
 use Rattle.addressing.specs.declared.Indexed.TheVariants.{Index}
 use Rattle.accesses.specs.Refusals.{element_outcome, access_refusal}
-use Rattle.accesses.specs.Laws.Accepted.{element_accepted}
+use Rattle.accesses.proofs.Laws.Accepted.{element_accepted}
 use Rattle.accepted.specs.Elements.{of_access}
 use Rattle.accepted.specs.Laws.Elements.{access_count, access_at, at_past}
 use Rattle.explaining.specs.declared.Asked.TheVariants.{Nothing, Element}

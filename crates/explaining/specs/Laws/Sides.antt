@@ -13,8 +13,8 @@ use Rattle.clamps.specs.declared.Clamped.{Clamped}
 use Rattle.clamps.specs.declared.Clamped.TheVariants.{Refused, Discarded, Filled, At}
 use Rattle.clamps.specs.Clamps.{coordinate_of}
 use Rattle.clamps.specs.Sides.{side_at, first_outside}
-use Rattle.clamps.specs.Laws.Sides.{inside_stays}
-use Rattle.clamps.specs.Theorems.{first_named}
+use Rattle.clamps.proofs.Laws.Sides.{inside_stays}
+use Rattle.clamps.proofs.Theorems.{first_named}
 use Rattle.addressing.specs.Rules.{part, plus, tensor_index, addressed, settled, reached, landed}
 use Rattle.addressing.specs.declared.Access.{Access}
 use Rattle.addressing.specs.declared.Indexed.{Indexed}

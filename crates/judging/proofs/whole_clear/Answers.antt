@@ -1,7 +1,7 @@
 use mathlib.Core.Path.{refl, ap}
 use lib.Dec.{eqb}
 use Rattle.refusals.specs.declared.Stop.{Stop}
-use Rattle.whole_steps.specs.Laws.Within.{whole_ok_lem}
+use Rattle.whole_steps.proofs.Laws.Within.{whole_ok_lem}
 use Rattle.judging.proofs.whole_clear.Goals as goal
 
 pub whole_refusal-stop-requires : goal.whole_refusal-stop-requires

@@ -14,7 +14,7 @@ use Rattle.registers.specs.Sized.{Sized}
 use Rattle.registers.specs.Laws.Sized.{sized_with}
 use Rattle.whole_steps.specs.Refusals.{whole_refusal}
 use Rattle.whole_steps.specs.Within.{WholeOk}
-use Rattle.whole_steps.specs.Laws.Within.{whole_ok_lem, sized_whole}
+use Rattle.whole_steps.proofs.Laws.Within.{whole_ok_lem, sized_whole}
 use Rattle.checking.specs.Laws.Turns.{within_step}
 use Rattle.records.specs.declared.Record.{Record}
 use Rattle.records.specs.declared.Record.TheVariants.{Copy, Take, Put, Fill, Whole}

@@ -4,7 +4,7 @@ use native.Mathlib.Omega.{arith}
 use lib.ListN.{length}
 use lib.Seq.{length-sets}
 use Rattle.masks.specs.Masks.{mask_bytes, mask_place}
-use Rattle.masks.specs.Laws.Written.{zeros, zeros_none, zeros_more, empty_masks_lem}
+use Rattle.masks.proofs.Laws.Written.{zeros, zeros_none, zeros_more, empty_masks_lem}
 use Rattle.masks.proofs.clear_masks.Goals as goal
 
 pub loop-j-init : goal.loop-j-init

@@ -1,7 +1,7 @@
 use mathlib.Core.Path.{◌≡◌}
 use Prim.Native.Nat.{◌-◌, ◌≤◌}
 use lib.Seq.{sets}
-use Rattle.masks.specs.Laws.Written.{zeros}
+use Rattle.masks.proofs.Laws.Written.{zeros}
 use Rattle.masks.proofs.clear_masks.Given as goal
 
 abbrev pub invariant-loop-j : goal.invariant-loop-j

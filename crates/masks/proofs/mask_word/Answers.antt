@@ -3,8 +3,8 @@ use Prim.Native.Nat.{◌+◌, ◌-◌, ◌<◌, ◌^◌}
 use native.Mathlib.Omega.{arith}
 use Rattle.numbers.specs.Laws.Choice.{by_order}
 use Rattle.masks.specs.Entries.{entry_bit}
-use Rattle.masks.specs.Laws.Packed.{packed_none, packed_zeros, packed_next, packed_room}
-use Rattle.masks.specs.Laws.Bits.{entry_bits, entry_inside, entry_past}
+use Rattle.masks.proofs.Laws.Packed.{packed_none, packed_zeros, packed_next, packed_room}
+use Rattle.masks.proofs.Laws.Bits.{entry_bits, entry_inside, entry_past}
 use Rattle.masks.proofs.mask_word.Goals as goal
 use Rattle.masks.proofs.mask_word.Goals.{In-loop-left}
 

@@ -5,9 +5,9 @@ use lib.ListN.{length}
 use lib.Seq.{length-sets}
 use Rattle.sheet.specs.Sizes.{matrix_places}
 use Rattle.masks.specs.Entries.{entry_bit}
-use Rattle.masks.specs.Laws.Packed.{sum_none}
-use Rattle.masks.specs.Laws.Bits.{entry_bits}
-use Rattle.masks.specs.Laws.Written.{bits, bits_none, sum_most, word_counted, word_written}
+use Rattle.masks.proofs.Laws.Packed.{sum_none}
+use Rattle.masks.proofs.Laws.Bits.{entry_bits}
+use Rattle.masks.proofs.Laws.Written.{bits, bits_none, sum_most, word_counted, word_written}
 use Rattle.masks.proofs.put_bits.Goals as goal
 use Rattle.masks.proofs.put_bits.Goals.{In-loop-i}
 

@@ -3,7 +3,7 @@ use Prim.Native.Nat.{◌-◌, ◌*◌, ◌≤◌}
 use lib.Seq.{sets}
 use Rattle.masks.specs.Masks.{sum_of}
 use Rattle.masks.specs.Entries.{entry_bit}
-use Rattle.masks.specs.Laws.Written.{bits}
+use Rattle.masks.proofs.Laws.Written.{bits}
 use Rattle.masks.proofs.put_bits.Given as goal
 
 abbrev pub invariant-loop-i : goal.invariant-loop-i

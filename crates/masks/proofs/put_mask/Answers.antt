@@ -3,8 +3,8 @@ use native.Mathlib.Omega.{arith}
 use Rattle.sheet.specs.Sizes.{matrix_places}
 use Rattle.masks.specs.Masks.{mask_place}
 use Rattle.masks.specs.Entries.{entry_bit}
-use Rattle.masks.specs.Laws.Bits.{entry_bits}
-use Rattle.masks.specs.Laws.Written.{sum_most, mask_written, none_written}
+use Rattle.masks.proofs.Laws.Bits.{entry_bits}
+use Rattle.masks.proofs.Laws.Written.{sum_most, mask_written, none_written}
 use Rattle.masks.proofs.put_mask.Goals as goal
 
 pub returns-then-count-lt1 : goal.returns-then-count-lt1

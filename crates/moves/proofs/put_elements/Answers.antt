@@ -1,7 +1,7 @@
 use lib.ListN.{length}
 use mathlib.Core.Path.{◌≡◌, refl, ap, ◌∙◌}
 use Prim.Native.Nat.{◌-◌}
-use Rattle.memory.specs.Laws.Elements.{length_with}
+use Rattle.memory.proofs.Laws.Elements.{length_with}
 use Rattle.moves.specs.Laws.Elements.{order_start, put_turn}
 use Rattle.judging.specs.Laws.Elements.{inside_lies}
 use borrow.Author.Rules.{rules}

@@ -13,7 +13,7 @@ use Rattle.counts.specs.Counts.{more_placed}
 use Rattle.counts.specs.Laws.Counts.{placed_none}
 use Rattle.counts.specs.declared.Counts.{Counts}
 use Rattle.transfers.specs.Acts.{State, state}
-use Rattle.transfers.specs.Laws.Elements.{took_counted, put_counted}
+use Rattle.transfers.proofs.Laws.Elements.{took_counted, put_counted}
 use Rattle.judging.specs.Records.{byte_at}
 use Rattle.moves.specs.Elements.{taking, putting, filling}
 

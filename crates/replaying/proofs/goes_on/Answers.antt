@@ -5,7 +5,7 @@ use borrow.Author.Tests.{le-ltb, lt-ltb}
 use Rattle.numbers.specs.Laws.Choice.{stop, pass, tests}
 use Rattle.traces.specs.Events.{same_event}
 use Rattle.traces.specs.Numbered.{events_in}
-use Rattle.traces.specs.Laws.Numbered.{events_count, events_at_lem}
+use Rattle.traces.proofs.Laws.Numbered.{events_count, events_at_lem}
 use Rattle.replaying.specs.Matching.{no_event, goes_on}
 use Rattle.replaying.proofs.goes_on.Goals as goal
 

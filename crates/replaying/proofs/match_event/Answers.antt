@@ -1,5 +1,5 @@
 use Rattle.numbers.specs.Laws.Choice.{went}
-use Rattle.replaying.specs.Laws.Matching.{one_in, one_out}
+use Rattle.replaying.proofs.Laws.Matching.{one_in, one_out}
 use Rattle.replaying.proofs.match_event.Goals as goal
 
 pub returns-then-goes_on : goal.returns-then-goes_on

@@ -6,7 +6,7 @@ use Rattle.numbers.specs.Lists.{each}
 use Rattle.numbers.specs.Laws.Joins.{length_each}
 use Rattle.traces.specs.Numbered.{events_in}
 use Rattle.expected.specs.Listed.{listed_event, listed_events}
-use Rattle.replaying.specs.Laws.Matching.{match_none, match_more, match_count, match_ordered}
+use Rattle.replaying.proofs.Laws.Matching.{match_none, match_more, match_count, match_ordered}
 use native.Mathlib.Omega.{arith}
 use Rattle.replaying.proofs.match_events.Goals as goal
 

@@ -19,7 +19,7 @@ use Rattle.traces.specs.Numbered.{events_in}
 use Rattle.expected.specs.Expected.{outcome_event, step_events, events_at, expected}
 use Rattle.expected.specs.Laws.Events.{events_count, turned_few, told_events}
 use Rattle.replaying.specs.Matching.{match_all}
-use Rattle.replaying.specs.Laws.Matching.{match_append, match_count, match_ordered}
+use Rattle.replaying.proofs.Laws.Matching.{match_append, match_count, match_ordered}
 use native.Mathlib.Omega.{arith}
 use Rattle.replaying.proofs.match_sheet.Goals as goal
 

@@ -1,7 +1,7 @@
 use mathlib.Core.Path.{refl, sym}
 use mathlib.Core.Bool.{true≢false}
 use borrow.Author.Tests.{eqb-true}
-use Rattle.whole_steps.specs.Laws.Within.{whole_ok_lem}
+use Rattle.whole_steps.proofs.Laws.Within.{whole_ok_lem}
 use Rattle.carrying.specs.Steps.{machine, registers_of, performed_step}
 use Rattle.running.proofs.perform_named.Goals as goal
 

@@ -12,8 +12,8 @@ use Rattle.records.specs.declared.Decoded.{Decoded}
 use Rattle.judging.specs.Judging.{tape_record, decoded_ok}
 use Rattle.judging.specs.Laws.Named.{named_placed, named_ok}
 use Rattle.running.specs.Running.{ran_decoded}
-use Rattle.running.specs.Laws.Records.{named_ran}
-use Rattle.running.specs.Laws.Turns.{ready_start, turn_ok, turn_next, turns_end}
+use Rattle.running.proofs.Laws.Records.{named_ran}
+use Rattle.running.proofs.Laws.Turns.{ready_start, turn_ok, turn_next, turns_end}
 use Rattle.running.proofs.run_records.Goals as goal
 use Rattle.running.proofs.run_records.Goals.{After-read_record-d}
 

@@ -8,7 +8,7 @@ use Rattle.carrying.specs.Steps.{machine_of}
 use Rattle.carrying.specs.Carrying.{started}
 use Rattle.judging.specs.Judging.{tape_record}
 use Rattle.running.specs.Running.{ran}
-use Rattle.running.specs.Laws.Turns.{RunReady}
+use Rattle.running.proofs.Laws.Turns.{RunReady}
 use Rattle.running.proofs.run_records.Given as goal
 
 abbrev pub invariant-loop-k : goal.invariant-loop-k

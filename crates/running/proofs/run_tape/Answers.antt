@@ -10,7 +10,7 @@ use Rattle.records.specs.Laws.Records.{fit_few, fit_room}
 use Rattle.judging.specs.Judging.{tape_refusal}
 use Rattle.judging.specs.Laws.Turns.{tape_fit, tape_clear}
 use Rattle.running.specs.Running.{run_refusal}
-use Rattle.running.specs.Laws.Answers.{run_unread, run_readable, run_refused, ran_refused, run_accepted, ran_accepted}
+use Rattle.running.proofs.Laws.Answers.{run_unread, run_readable, run_refused, ran_refused, run_accepted, ran_accepted}
 use native.Mathlib.Omega.{arith}
 use Rattle.running.proofs.run_tape.Goals as goal
 use Rattle.running.proofs.run_tape.Goals.{After-tape_refusal-refused}

@@ -21,8 +21,8 @@ use Rattle.sheet_writer.specs.Writing.{written}
 use Rattle.sheet_writer.specs.declared.WriteAnswer.{WriteAnswer}
 use Rattle.sheet.specs.Sizes.{side_places, step_places, matrix_places, record_places, memory_limit}
 use Rattle.sheet_ranges.specs.Laws.Within.{Within, within, within_places}
-use Rattle.round_trip.specs.Laws.Sheets.{sheet_short}
-use Rattle.round_trip.specs.Laws.Growing.{reading}
+use Rattle.round_trip.proofs.Laws.Sheets.{sheet_short}
+use Rattle.round_trip.proofs.Laws.Growing.{reading}
 use Rattle.sheet_reader.specs.Laws.Growing.{read_within}
 use Rattle.registers.specs.Types.{the_type, is_empty, with_type}
 use Rattle.registers.specs.Sized.{Sized}
@@ -36,7 +36,7 @@ use Rattle.clashes.specs.Clashes.{clash_from}
 use Rattle.accesses.specs.Refusals as accesses
 use Rattle.accesses.specs.Refusals.{element_outcome, misplaced, other_rank, store_blocked, first_refused, same_at, clash_refusal, elements_refusal, access_refusal}
 use Rattle.refusals.specs.declared.Stop.{Stop}
-use Rattle.whole_steps.specs.Laws.Within.{whole_ok_lem, refusal_element}
+use Rattle.whole_steps.proofs.Laws.Within.{whole_ok_lem, refusal_element}
 use Rattle.checking.specs.Steps.{access_of, object_register, access_check, checked_step}
 use Rattle.carrying.specs.Steps.{Machine}
 use Rattle.checking.specs.Checking.{checked_from, checked, checked_sheet}
@@ -56,7 +56,7 @@ use Rattle.outcomes.specs.declared.Outcome.{Outcome}
 use Rattle.outcomes.specs.declared.Outcome.TheVariants.{Skipped, Filled, Discarded, Placed}
 use Rattle.outcomes.specs.declared.Explained.{Explained}
 use Rattle.addressing.specs.Sound.{Sound}
-use Rattle.accesses.specs.Laws.Accepted.{element_sound}
+use Rattle.accesses.proofs.Laws.Accepted.{element_sound}
 use Rattle.transfers.specs.Transfers.{outcome_of}
 use Rattle.accepted.specs.Passes.{types_at}
 use Rattle.accepted.specs.Elements.{of_access, of_step, at_step}
@@ -70,12 +70,12 @@ use Rattle.records.specs.declared.Decoded.{Decoded}
 use Rattle.translating.specs.Translating.{fits_room, translated}
 use Rattle.judging.specs.Judging.{tape_record, decoded_ok, decoded_types, range_from, tape_refusal}
 use Rattle.running.specs.Running.{ran, ran_decoded, run_refusal, run_tape}
-use Rattle.running.specs.Laws.Turns.{RunReady, ready_start, turn_next, turns_end}
+use Rattle.running.proofs.Laws.Turns.{RunReady, ready_start, turn_next, turns_end}
 use Rattle.records.specs.Laws.Records.{fit_few}
 use Rattle.judging.specs.Laws.Turns.{tape_fit, tape_clear}
 use Rattle.translating.specs.declared.TranslateAnswer.{TranslateAnswer}
 use Rattle.traces.specs.Reading.{read_trace}
-use Rattle.traces.specs.Laws.Refusals.{refusal_element as trace-element}
+use Rattle.traces.proofs.Laws.Refusals.{refusal_element as trace-element}
 use Rattle.traces.specs.declared.Event.{Event}
 use Rattle.expected.specs.Expected.{expected}
 use Rattle.expected.specs.Laws.Few.{expected_few}
@@ -83,7 +83,7 @@ use Rattle.tracing.specs.Tracing.{traced_length, traced}
 use Rattle.tracing.specs.declared.TraceAnswer.{TraceAnswer}
 use Rattle.replaying.specs.Verdicts.{common, verdict_at, verdict_of}
 use Rattle.replaying.specs.Replaying.{replayed}
-use Rattle.replaying.specs.Laws.Verdicts.{common_most}
+use Rattle.replaying.proofs.Laws.Verdicts.{common_most}
 use Rattle.replaying.specs.declared.Verdict.TheVariants.{Agrees, Differs}
 use Rattle.replaying.specs.declared.ReplayAnswer.{ReplayAnswer}
 use Rattle.rows.specs.Rows.{row_most, capped}

@@ -9,7 +9,7 @@ use Rattle.fields.specs.declared.Cursor.{Cursor}
 use Rattle.fields.specs.declared.Field.TheVariants.{Whole}
 use Rattle.fields.specs.Laws.Bounds.{FieldIn, field_in}
 use Rattle.traces.specs.Reading.{Trace, read_from, read_trace}
-use Rattle.traces.specs.Laws.Turns.{field_taken, turn_on, turn_over, turn_end, turn_short, turn_refused, turn_next}
+use Rattle.traces.proofs.Laws.Turns.{field_taken, turn_on, turn_over, turn_end, turn_short, turn_refused, turn_next}
 use Rattle.traces.specs.declared.Previous.{Previous}
 use Rattle.traces.proofs.judge_trace.Invariants.{Left}
 use Rattle.traces.proofs.judge_trace.Goals as goal

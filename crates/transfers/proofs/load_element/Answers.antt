@@ -1,4 +1,4 @@
-use Rattle.transfers.specs.Laws.Elements.{took_counted}
+use Rattle.transfers.proofs.Laws.Elements.{took_counted}
 use mathlib.Core.Path.{refl}
 use Rattle.transfers.proofs.load_element.Goals as goal
 

@@ -1,4 +1,4 @@
-use Rattle.transfers.specs.Laws.Elements.{put_counted}
+use Rattle.transfers.proofs.Laws.Elements.{put_counted}
 use mathlib.Core.Path.{refl}
 use Rattle.transfers.proofs.store_element.Goals as goal
 

@@ -1,10 +1,10 @@
-use Rattle.transfers.specs.Laws.Elements.{transferred_turn, stored_count, stored_length, transferred_start, transferred_same, sound_inside, access_size}
+use Rattle.transfers.proofs.Laws.Elements.{transferred_turn, stored_count, stored_length, transferred_start, transferred_same, sound_inside, access_size}
 use Rattle.transfers.specs.Transfers.{outcome_of}
 use Rattle.transfers.specs.Acts.{State, state, stored}
 use Rattle.addressing.specs.Rules.{elements_of}
 use Rattle.addressing.specs.Laws.Plans.{plan_count}
-use Rattle.accesses.specs.Laws.Surveys.{surveyed_outcome}
-use Rattle.accesses.specs.Laws.Accepted.{element_sound}
+use Rattle.accesses.proofs.Laws.Surveys.{surveyed_outcome}
+use Rattle.accesses.proofs.Laws.Accepted.{element_sound}
 use Rattle.counts.specs.Counts.{no_counts, more_placed}
 use lib.ListN.{length}
 use mathlib.Core.Path.{◌≡◌, refl, ap, ◌∙◌}

@@ -20,7 +20,7 @@ use Rattle.accepted.specs.Laws.Clear.{met_gives}
 use Rattle.accepted.specs.Laws.Elements.{at_step_lem, at_past}
 use Rattle.accepted.specs.Laws.Rests.{rest_start, rest_step, rest_next, types_go, pass_start, pass_go, pass_end}
 use Rattle.masks.specs.Masks.{bit_of, mask_of, mask_place}
-use Rattle.masks.specs.Laws.Written.{masks_none, masks_next, masks_rest}
+use Rattle.masks.proofs.Laws.Written.{masks_none, masks_next, masks_rest}
 use Rattle.access_tapes.specs.Writing.{Room, Wrote}
 use Rattle.access_tapes.specs.Laws.Writing.{records_after}
 use Rattle.translating.specs.Tapes.{step_records, sheet_records, tape_of}

@@ -3,7 +3,7 @@ use mathlib.Core.List.{List}
 use Prim.Native.Nat.{ℕ}
 use lib.Seq.{sets}
 use Rattle.masks.specs.Masks.{mask_place}
-use Rattle.masks.specs.Laws.Written.{one_empty}
+use Rattle.masks.proofs.Laws.Written.{one_empty}
 use native.Mathlib.Omega.{arith}
 use Rattle.translating.proofs.write_whole.Goals as goal
 

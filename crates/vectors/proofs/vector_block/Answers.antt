@@ -5,8 +5,8 @@ use Rattle.registers.specs.Grids.{block_on}
 use Rattle.registers.specs.Laws.Grids.{block_same}
 use Rattle.vectors.specs.Results.{result_at}
 use Rattle.vectors.specs.Residues.{listed}
-use Rattle.vectors.specs.Laws.Refusals.{accepted_inside}
-use Rattle.vectors.specs.Laws.Results.{listed_result}
+use Rattle.vectors.proofs.Laws.Refusals.{accepted_inside}
+use Rattle.vectors.proofs.Laws.Results.{listed_result}
 use Rattle.vectors.proofs.vector_block.Goals as goal
 
 pub result_block-requires : goal.result_block-requires

@@ -8,7 +8,7 @@ use Rattle.registers.specs.Laws.Past.{block_written}
 use Rattle.registers.specs.Laws.Sized.{sized_places}
 use Rattle.registers.specs.declared.MatrixType.{MatrixType}
 use Rattle.whole_steps.specs.Whole.{whole_result, whole_type, whole_element}
-use Rattle.whole_steps.specs.Laws.Within.{sized_type}
+use Rattle.whole_steps.proofs.Laws.Within.{sized_type}
 use Rattle.whole_steps.proofs.perform_whole.Goals as goal
 
 pub element_count-old-requires : goal.element_count-old-requires

@@ -3,7 +3,7 @@ use Prim.Native.Nat.{◌<◌}
 use Rattle.registers.specs.Sized.{SizedType}
 use Rattle.registers.specs.Grids.{block_on}
 use Rattle.registers.specs.declared.MatrixType.{MatrixType}
-use Rattle.reduces.specs.Laws.Shapes.{some_rows}
+use Rattle.reduces.proofs.Laws.Shapes.{some_rows}
 use Rattle.products.specs.Laws.Shapes.{agreed}
 use Rattle.whole_steps.specs.Transposing.{transposed}
 use Rattle.whole_steps.specs.Within.{WholeParts}

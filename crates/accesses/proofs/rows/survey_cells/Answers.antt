@@ -1,6 +1,6 @@
 use Prim.Native.Nat.{◌+◌, ◌-◌}
 use mathlib.Core.Path.{◌≡◌, sym, ◌∙◌}
-use Rattle.accesses.specs.Laws.Surveys.{element_near}
+use Rattle.accesses.proofs.Laws.Surveys.{element_near}
 use Rattle.accesses.specs.Refusals.{element_outcome}
 use Rattle.accesses.proofs.Laws.{passed_more}
 use Rattle.accesses.proofs.RowLaws.{went_stop, went_on}

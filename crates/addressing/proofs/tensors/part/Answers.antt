@@ -1,5 +1,5 @@
 use Rattle.addressing.proofs.Laws.{part_told}
-use Rattle.clamps.specs.Laws.Clamps.{clamped_lt}
+use Rattle.clamps.proofs.Laws.Clamps.{clamped_lt}
 use Rattle.clamps.specs.declared.Sided.{Sided}
 use Rattle.dimensions.specs.Laws.Tails.{part_most}
 use mathlib.Core.Path.{sym, ap, ◌∙◌}

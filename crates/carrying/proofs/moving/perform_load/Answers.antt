@@ -1,7 +1,7 @@
 use mathlib.Core.Path.{ap, ◌∙◌}
 use Rattle.addressing.specs.Laws.Plans.{planned_access}
 use Rattle.addressing.specs.declared.Access.{Access}
-use Rattle.accesses.specs.Laws.Accepted.{accepted_valid}
+use Rattle.accesses.proofs.Laws.Accepted.{accepted_valid}
 use Rattle.transfers.specs.Acts.{state}
 use Rattle.transfers.specs.Transfers.{loaded_elements}
 use Rattle.carrying.proofs.moving.perform_load.Goals as goal

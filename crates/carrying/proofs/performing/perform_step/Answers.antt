@@ -1,7 +1,7 @@
 use mathlib.Core.Path.{ap}
 use Rattle.addressing.specs.declared.Access.{Access}
 use Rattle.transfers.specs.Acts.{state}
-use Rattle.whole_steps.specs.Laws.Within.{whole_ok_lem}
+use Rattle.whole_steps.proofs.Laws.Within.{whole_ok_lem}
 use Rattle.checking.specs.Steps.{checked_step}
 use Rattle.checking.specs.Laws.Names.{load_register, load_object, store_register}
 use Rattle.carrying.specs.Steps.{machine, machine_of, registers_of, performed_step}

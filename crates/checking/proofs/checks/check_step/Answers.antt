@@ -1,6 +1,6 @@
 use mathlib.Core.Path.{ap, ◌∙◌}
 use Rattle.registers.specs.Types.{the_type, with_type}
-use Rattle.whole_steps.specs.Laws.Within.{whole_ok_lem}
+use Rattle.whole_steps.proofs.Laws.Within.{whole_ok_lem}
 use Rattle.checking.specs.Steps.{checked_step}
 use Rattle.checking.specs.Laws.Names.{load_register, load_object}
 use Rattle.checking.specs.Laws.Accesses.{turned_sized, told_none, nothing_bare, whole_bare, load_check_lem, store_check_lem}

@@ -1,5 +1,5 @@
 use mathlib.Core.Path.{◌∙◌}
-use Rattle.whole_steps.specs.Laws.Within.{whole_ok_lem}
+use Rattle.whole_steps.proofs.Laws.Within.{whole_ok_lem}
 use Rattle.checking.specs.Laws.Names.{load_register, load_object}
 use Rattle.checking.proofs.checks.step_types.Goals as goal
 

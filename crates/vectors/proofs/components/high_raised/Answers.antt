@@ -2,7 +2,7 @@ use native.Mathlib.Omega.{arith}
 use lib.Pow.{pow_pos}
 use Rattle.kinds.specs.Widths.{width}
 use Rattle.vectors.specs.Saturation.{above}
-use Rattle.vectors.specs.Laws.Saturation.{below_half, above_most}
+use Rattle.vectors.proofs.Laws.Saturation.{below_half, above_most}
 use Rattle.vectors.proofs.components.high_raised.Goals as goal
 
 pub overflow_sub-result : goal.overflow_sub-result

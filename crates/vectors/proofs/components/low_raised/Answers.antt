@@ -1,5 +1,5 @@
 use native.Mathlib.Omega.{arith}
-use Rattle.vectors.specs.Laws.Saturation.{below_most}
+use Rattle.vectors.proofs.Laws.Saturation.{below_most}
 use Rattle.vectors.proofs.components.low_raised.Goals as goal
 
 pub overflow_sub-result : goal.overflow_sub-result

@@ -1,7 +1,7 @@
 use mathlib.Core.Path.{ap, ◌∙◌}
 use Prim.Native.Nat.{ℕ, ◌%◌, ◌^◌}
 use Rattle.vectors.specs.Residues.{clamped}
-use Rattle.vectors.specs.Laws.Saturation.{clamped_saturated}
+use Rattle.vectors.proofs.Laws.Saturation.{clamped_saturated}
 use Rattle.vectors.proofs.components.saturated.Goals as goal
 
 pub returns : goal.returns

@@ -9,7 +9,7 @@ use Rattle.kinds.specs.Laws.Widths.{bytes_size}
 use Rattle.kinds.specs.Sums.{sum_z}
 use Rattle.kinds.specs.Laws.Sums.{sum_fits, product_fits}
 use Rattle.memory.specs.Elements.{element_at}
-use Rattle.vectors.specs.Laws.Results.{line_next}
+use Rattle.vectors.proofs.Laws.Results.{line_next}
 use Rattle.vectors.proofs.results.dot.Goals as goal
 
 pub loop-c-init : goal.loop-c-init

@@ -2,7 +2,7 @@ use mathlib.Core.Path.{ap₂, ◌∙◌}
 use Prim.Native.Nat.{ℕ, ◌^◌}
 use Rattle.numbers.specs.Remainders.{remainder}
 use Rattle.vectors.specs.Residues.{listed, line_to}
-use Rattle.vectors.specs.Laws.Results.{bias_next}
+use Rattle.vectors.proofs.Laws.Results.{bias_next}
 use Rattle.vectors.proofs.results.result_at.Goals as goal
 
 pub dot-sum-requires : goal.dot-sum-requires

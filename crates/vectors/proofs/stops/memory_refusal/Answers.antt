@@ -5,7 +5,7 @@ use Rattle.numbers.specs.Laws.Choice.{tests, taken, left}
 use Rattle.refusals.specs.Refusals.{outside_memory, stop_at}
 use Rattle.vectors.specs.Places.{elements_of}
 use Rattle.vectors.specs.Refusals.{memory_refusal, first_outside}
-use Rattle.vectors.specs.Laws.Refusals.{memory_clear}
+use Rattle.vectors.proofs.Laws.Refusals.{memory_clear}
 use Rattle.vectors.proofs.stops.memory_refusal.Goals as goal
 
 pub returns-then-last_inside : goal.returns-then-last_inside

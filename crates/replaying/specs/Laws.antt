@@ -1,3 +1,0 @@
--- What is proved of the definitions.
-pub mod Verdicts
-pub mod Matching
