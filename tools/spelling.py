@@ -32,7 +32,7 @@ def own(path, crates):
 
 
 def proof_of_function(path):
-    return path.endswith(('/Proof.antt', '/Answers.antt', '/Invariants.antt'))
+    return '/proofs/' in path and path.endswith(('/Proof.antt', '/Answers.antt', '/Invariants.antt'))
 
 
 def texts(ending):

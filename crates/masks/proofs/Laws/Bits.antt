@@ -73,10 +73,6 @@ placed_bits [] n h = no_bits n
 placed_bits (o ∷ os) zero h = absurd (not-suc-le-zero h)
 placed_bits (o ∷ os) (suc n) h = sum_first (bit_of (o ∷ os)) n ∙ ap (λ (k : ℕ). placed_one o + k) (placed_bits os n (le_of_suc-le-suc h))
 
-pub sum_none : (f : ℕ → ℕ) → sum_of f 0 ≡ 0
-unfolding sum_of
-sum_none f = refl
-
 -- past them there is none more
 pub sum_past : (f : ℕ → ℕ) (n m : ℕ) → ((k : ℕ) → n ≤ k → f k ≡ 0) → sum_of f (n + m) ≡ sum_of f n
 unfolding sum_of

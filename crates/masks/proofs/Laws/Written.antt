@@ -15,8 +15,8 @@ use Rattle.sheet.specs.Sizes.{matrix_places}
 use Rattle.outcomes.specs.declared.Outcome.{Outcome}
 use Rattle.masks.specs.Masks.{bit_bytes, mask_bytes, bit_of, packed, sum_of, bit_byte, mask_of, masks_of, mask_place}
 use Rattle.masks.specs.Entries.{entry_bit, empty_masks}
-use Rattle.masks.proofs.Laws.Packed.{Bits, packed_ones, packed_zeros, word_bytes}
-use Rattle.masks.proofs.Laws.Bits.{sum_none, sum_past, entry_past}
+use Rattle.masks.proofs.Laws.Packed.{Bits, sum_none, packed_ones, packed_zeros, word_bytes}
+use Rattle.masks.proofs.Laws.Bits.{no_bits, sum_past, entry_past}
 
 -- ---- a step's bits, word by word
 
@@ -109,8 +109,12 @@ no_bit : (e : ℕ) → bit_of [] e ≡ 0
 unfolding bit_of
 no_bit e = refl
 
+empty_bits : each bit_bytes (bit_byte (bit_of [])) ≡ zeros bit_bytes
+empty_bits = unset_bits (bit_of []) no_bit
+
 empty_mask : mask_of (bit_of []) ≡ zeros mask_bytes
-empty_mask = unset_mask (bit_of []) no_bit
+unfolding mask_of
+empty_mask = rw (no_bits matrix_places, empty_bits, two_zeros) (sym (each_join bit_bytes 2 (λ (i : ℕ). 0 ∷ [])))
 
 pub empty_masks_lem : (n : ℕ) → zeros (n * mask_bytes) ≡ empty_masks n
 unfolding each
