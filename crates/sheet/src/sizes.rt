@@ -50,6 +50,7 @@ pub fn size_ok(x: u16) -> bool
 }
 
 // The 16 bits of an offset from -4,096 to 4,095.
+#[tactic(auto, using(numbers::specs::Laws::Choice::calls), unfolding(crate::specs::Sizes::offset_ok))]
 pub fn offset_ok(x: u16) -> bool
     ensures { result ≡ offset_ok x }
 {
