@@ -159,10 +159,8 @@ class Turner:
         return ''.join(out)
 
     def edit(self, text):
-        lines, file = [], ''
+        lines = []
         for line in text.split('\n'):
-            if line.startswith('file: '):
-                file = line
             if line.startswith(('old: ', 'new: ')):
                 line = line[:5] + self.code(line[5:], self.table, set(self.table))
             lines.append(line)
