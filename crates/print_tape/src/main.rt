@@ -2,7 +2,7 @@
 // line of three numbers, its number and its place. Where the input cannot be read, one line on standard error says so, and the exit status is 1.
 #![tactic(auto)]
 
-ghost use Rattle.std.specs.Prelude.{◌<◌, ◌≤◌};
+ghost use Rattle.std.specs.Prelude.{◌<◌, ◌≤◌, length, IfOk};
 ghost use Rattle.sheet.specs.Sizes.{record_places};
 
 use masks::MASK_AREA;
@@ -63,19 +63,33 @@ fn unreadable(rt: &impl Eprint) -> io::Result<ExitCode> {
     Ok(ExitCode::FAILURE)
 }
 
+// Fills the buffer as far as the input goes: how many bytes came.
+fn read_full<R: Read>(input: &mut R, buffer: &mut [u8]) -> io::Result<usize>
+    ensures { IfOk result (λ n. n ≤ length buffer.new) }
+{
+    let mut n = 0;
+    while n < buffer.len() {
+        let more = input.read(&mut buffer[n..])?;
+        if more == 0 {
+            return Ok(n);
+        }
+        n += more;
+    }
+    Ok(n)
+}
+
 // The longest accepted sheet has 1,096 bytes and the longest field 65,538: what is past both cannot change the answer (theorem
 // `prefix_reads` of the crate round_trip).
-const ENOUGH: u64 = 1_096 + 65_538;
+const ENOUGH: usize = 1_096 + 65_538;
 
 fn main(rt: HostRuntime) -> io::Result<ExitCode> {
-    let mut input = Vec::new(rt.alloc());
-    let read = rt.reader().take(ENOUGH).read_to_end(&mut input);
-    if read.is_err() {
+    let mut input = [0u8; ENOUGH];
+    let Ok(n) = read_full(&mut rt.reader(), &mut input) else {
         return unreadable(&rt);
-    }
+    };
     let mut tape = [0i32; RECORDS * NUMBERS];
     let mut masks = [0u8; MASK_AREA];
-    let answer = translating::translate(&input, MEMORY, &mut tape, &mut masks);
+    let answer = translating::translate(&input[..n], MEMORY, &mut tape, &mut masks);
     print(&rt, &tape, answer)?;
     Ok(ExitCode::SUCCESS)
 }
