@@ -18,61 +18,45 @@ pub fn no_dimension() -> Dimension
     }
 }
 
+#[tactic(auto, unfolding(crate::specs::Layouts::no_layout))]
 pub fn no_layout() -> Layout
     ensures { result ≡ no_layout }
 {
-    let d = no_dimension();
     Layout {
         rank: 0,
         mode: ClampMode::Undefined,
         clamp: 0,
-        dimensions: [d; RANK],
+        dimensions: [no_dimension(); RANK],
     }
 }
 
 // Any stride of 16 bits is within Sizes.
+#[tactic(auto, unfolding(crate::specs::Layouts::dimension_ok, numbers::specs::Choice::both, numbers::specs::Choice::pick))]
 fn dimension_ok(d: Dimension) -> bool
     ensures { result ≡ dimension_ok d }
 {
-    if !sizes::size_ok(d.block) {
-        return false;
-    }
-    if !sizes::size_ok(d.size) {
-        return false;
-    }
-    if !sizes::offset_ok(d.offset) {
-        return false;
-    }
-    sizes::size_ok(d.span)
+    sizes::size_ok(d.block)
+        && sizes::size_ok(d.size)
+        && sizes::offset_ok(d.offset)
+        && sizes::size_ok(d.span)
 }
 
+#[tactic(auto, unfolding(crate::specs::Layouts::dimension_unused, numbers::specs::Choice::both, numbers::specs::Choice::pick))]
 fn dimension_unused(d: Dimension) -> bool
     ensures { result ≡ dimension_unused d }
 {
-    if d.block != 0 {
-        return false;
-    }
-    if d.size != 0 {
-        return false;
-    }
-    if d.stride != 0 {
-        return false;
-    }
-    if d.offset != 0 {
-        return false;
-    }
-    d.span == 0
+    d.block == 0 && d.size == 0 && d.stride == 0 && d.offset == 0 && d.span == 0
 }
 
+#[tactic(auto, unfolding(crate::specs::Layouts::dimension_at_ok, numbers::specs::Choice::pick))]
 fn dimension_at_ok(rank: u8, ds: [Dimension; RANK], k: usize) -> bool
     requires { k < rank_places }
     ensures { result ≡ dimension_at_ok rank ds k }
 {
-    let d = ds[k];
-    if k < rank as usize {
-        dimension_ok(d)
+    if k < usize::from(rank) {
+        dimension_ok(ds[k])
     } else {
-        dimension_unused(d)
+        dimension_unused(ds[k])
     }
 }
 
@@ -90,30 +74,16 @@ fn dimensions_ok(rank: u8, ds: [Dimension; RANK]) -> bool
     true
 }
 
+#[tactic(auto, unfolding(crate::specs::Layouts::layout_ok, numbers::specs::Choice::both, numbers::specs::Choice::pick))]
 pub fn layout_ok(l: Layout) -> bool
     ensures { result ≡ layout_ok l }
 {
-    let rank = l.rank;
-    if !sizes::rank_ok(rank) {
-        return false;
-    }
-    let ds = l.dimensions;
-    dimensions_ok(rank, ds)
+    sizes::rank_ok(l.rank) && dimensions_ok(l.rank, l.dimensions)
 }
 
+#[tactic(auto, unfolding(crate::specs::Layouts::layout_unused, numbers::specs::Choice::both, numbers::specs::Choice::pick))]
 pub fn layout_unused(l: Layout) -> bool
     ensures { result ≡ layout_unused l }
 {
-    if l.rank != 0 {
-        return false;
-    }
-    let mode = l.mode;
-    if !codes::undefined(mode) {
-        return false;
-    }
-    if l.clamp != 0 {
-        return false;
-    }
-    let ds = l.dimensions;
-    dimensions_ok(0, ds)
+    l.rank == 0 && codes::undefined(l.mode) && l.clamp == 0 && dimensions_ok(0, l.dimensions)
 }

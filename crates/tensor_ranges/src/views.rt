@@ -18,18 +18,17 @@ fn no_clip() -> Clip
     Clip { offset: 0, span: 0 }
 }
 
+#[tactic(auto, unfolding(crate::specs::Views::no_view))]
 pub fn no_view() -> View
     ensures { result ≡ no_view }
 {
-    let d = no_view_dimension();
-    let clip = no_clip();
     View {
         rank: 0,
         sized: false,
-        permutation: [0u8; RANK],
-        dimensions: [d; RANK],
-        rows: clip,
-        columns: clip,
+        permutation: [0; RANK],
+        dimensions: [no_view_dimension(); RANK],
+        rows: no_clip(),
+        columns: no_clip(),
     }
 }
 
@@ -48,18 +47,16 @@ fn fresh(p: [u8; RANK], k: usize) -> bool
     true
 }
 
+#[tactic(auto, unfolding(crate::specs::Views::entry_ok, numbers::specs::Choice::both, numbers::specs::Choice::pick))]
 fn entry_ok(rank: u8, p: [u8; RANK], k: usize) -> bool
     requires { k < rank_places }
     ensures { result ≡ entry_ok rank p k }
 {
-    let e = p[k];
-    if k < rank as usize {
-        if e < rank {
-            return fresh(p, k);
-        }
-        return false;
+    if k < usize::from(rank) {
+        p[k] < rank && fresh(p, k)
+    } else {
+        p[k] == 0
     }
-    e == 0
 }
 
 // Of the places the first `rank` hold each number below it once, the others 0.
@@ -76,25 +73,23 @@ fn permutation_ok(rank: u8, p: [u8; RANK]) -> bool
     true
 }
 
+#[tactic(auto, unfolding(crate::specs::Views::view_dimension_unused, numbers::specs::Choice::both, numbers::specs::Choice::pick))]
 fn view_dimension_unused(d: ViewDimension) -> bool
     ensures { result ≡ view_dimension_unused d }
 {
-    if d.size != 0 {
-        return false;
-    }
-    d.stride == 0
+    d.size == 0 && d.stride == 0
 }
 
 // Any stride of 16 bits is within Sizes.
+#[tactic(auto, unfolding(crate::specs::Views::view_dimension_at_ok, numbers::specs::Choice::pick))]
 fn view_dimension_at_ok(count: u8, ds: [ViewDimension; RANK], k: usize) -> bool
     requires { k < rank_places }
     ensures { result ≡ view_dimension_at_ok count ds k }
 {
-    let d = ds[k];
-    if k < count as usize {
-        sizes::size_ok(d.size)
+    if k < usize::from(count) {
+        sizes::size_ok(ds[k].size)
     } else {
-        view_dimension_unused(d)
+        view_dimension_unused(ds[k])
     }
 }
 
@@ -113,6 +108,7 @@ fn view_dimensions_ok(count: u8, ds: [ViewDimension; RANK]) -> bool
 }
 
 // How many dimensions and strides of its own a view has.
+#[tactic(auto, unfolding(crate::specs::Views::sized_rank, numbers::specs::Choice::pick))]
 pub fn sized_rank(sized: bool, rank: u8) -> u8
     ensures { result ≡ sized_rank sized rank }
 {
@@ -120,51 +116,30 @@ pub fn sized_rank(sized: bool, rank: u8) -> u8
 }
 
 // Any clip of four 16-bit numbers is within Sizes.
+#[tactic(auto, unfolding(crate::specs::Views::view_ok, numbers::specs::Choice::both, numbers::specs::Choice::pick))]
 pub fn view_ok(v: View) -> bool
     ensures { result ≡ view_ok v }
 {
-    let rank = v.rank;
-    if !sizes::rank_ok(rank) {
-        return false;
-    }
-    let p = v.permutation;
-    if !permutation_ok(rank, p) {
-        return false;
-    }
-    let ds = v.dimensions;
-    view_dimensions_ok(sized_rank(v.sized, rank), ds)
+    sizes::rank_ok(v.rank)
+        && permutation_ok(v.rank, v.permutation)
+        && view_dimensions_ok(sized_rank(v.sized, v.rank), v.dimensions)
 }
 
+#[tactic(auto, unfolding(crate::specs::Views::clip_unused, numbers::specs::Choice::both, numbers::specs::Choice::pick))]
 fn clip_unused(c: Clip) -> bool
     ensures { result ≡ clip_unused c }
 {
-    if c.offset != 0 {
-        return false;
-    }
-    c.span == 0
+    c.offset == 0 && c.span == 0
 }
 
+#[tactic(auto, unfolding(crate::specs::Views::view_unused, numbers::specs::Choice::both, numbers::specs::Choice::pick))]
 pub fn view_unused(v: View) -> bool
     ensures { result ≡ view_unused v }
 {
-    if v.rank != 0 {
-        return false;
-    }
-    if v.sized {
-        return false;
-    }
-    let p = v.permutation;
-    if !permutation_ok(0, p) {
-        return false;
-    }
-    let ds = v.dimensions;
-    if !view_dimensions_ok(0, ds) {
-        return false;
-    }
-    let rows = v.rows;
-    if !clip_unused(rows) {
-        return false;
-    }
-    let columns = v.columns;
-    clip_unused(columns)
+    v.rank == 0
+        && !v.sized
+        && permutation_ok(0, v.permutation)
+        && view_dimensions_ok(0, v.dimensions)
+        && clip_unused(v.rows)
+        && clip_unused(v.columns)
 }
