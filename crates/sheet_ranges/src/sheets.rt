@@ -9,41 +9,39 @@ use sheet::sizes::{LAYOUTS, STEPS, VIEWS};
 use sheet::{Cell, Layout, Sheet, Tensors, View, editions};
 use tensor_ranges::{layouts, views};
 
+#[tactic(auto, unfolding(crate::specs::Sheets::no_tensors))]
 pub fn no_tensors() -> Tensors
     ensures { result ≡ no_tensors }
 {
-    let l = layouts::no_layout();
-    let v = views::no_view();
     Tensors {
         layouts: 0,
-        layout: [l; LAYOUTS],
+        layout: [layouts::no_layout(); LAYOUTS],
         views: 0,
-        view: [v; VIEWS],
+        view: [views::no_view(); VIEWS],
     }
 }
 
+#[tactic(auto, unfolding(crate::specs::Sheets::empty_sheet))]
 pub fn empty_sheet() -> Sheet
     ensures { result ≡ empty_sheet }
 {
-    let tensors = no_tensors();
-    let c = steps::no_cell();
     Sheet {
         edition: 0,
-        tensors,
+        tensors: no_tensors(),
         steps: 0,
-        step: [c; STEPS],
+        step: [steps::no_cell(); STEPS],
     }
 }
 
+#[tactic(auto, unfolding(crate::specs::Sheets::layout_at_ok, numbers::specs::Choice::pick))]
 fn layout_at_ok(count: usize, ls: [Layout; LAYOUTS], k: usize) -> bool
     requires { k < layout_places }
     ensures { result ≡ layout_at_ok count ls k }
 {
-    let l = ls[k];
     if k < count {
-        layouts::layout_ok(l)
+        layouts::layout_ok(ls[k])
     } else {
-        layouts::layout_unused(l)
+        layouts::layout_unused(ls[k])
     }
 }
 
@@ -60,15 +58,15 @@ fn layouts_ok(count: usize, ls: [Layout; LAYOUTS]) -> bool
     true
 }
 
+#[tactic(auto, unfolding(crate::specs::Sheets::view_at_ok, numbers::specs::Choice::pick))]
 fn view_at_ok(count: usize, vs: [View; VIEWS], k: usize) -> bool
     requires { k < view_places }
     ensures { result ≡ view_at_ok count vs k }
 {
-    let v = vs[k];
     if k < count {
-        views::view_ok(v)
+        views::view_ok(vs[k])
     } else {
-        views::view_unused(v)
+        views::view_unused(vs[k])
     }
 }
 
@@ -85,23 +83,17 @@ fn views_ok(count: usize, vs: [View; VIEWS]) -> bool
     true
 }
 
+#[tactic(auto, unfolding(crate::specs::Sheets::tensors_ok, numbers::specs::Choice::both, numbers::specs::Choice::pick))]
 fn tensors_ok(t: Tensors) -> bool
     ensures { result ≡ tensors_ok t }
 {
-    if LAYOUTS < t.layouts {
-        return false;
-    }
-    if VIEWS < t.views {
-        return false;
-    }
-    let ls = t.layout;
-    if !layouts_ok(t.layouts, ls) {
-        return false;
-    }
-    let vs = t.view;
-    views_ok(t.views, vs)
+    t.layouts <= LAYOUTS
+        && t.views <= VIEWS
+        && layouts_ok(t.layouts, t.layout)
+        && views_ok(t.views, t.view)
 }
 
+#[tactic(auto, unfolding(crate::specs::Sheets::step_at_ok, numbers::specs::Choice::pick))]
 fn step_at_ok(
     edition: u8,
     layouts: usize,
@@ -113,12 +105,10 @@ fn step_at_ok(
     requires { k < step_places }
     ensures { result ≡ step_at_ok edition layouts views count cs k }
 {
-    let c = cs[k];
-    let s = c.step;
     if k < count {
-        steps::step_ok(edition, layouts, views, s)
+        steps::step_ok(edition, layouts, views, cs[k].step)
     } else {
-        steps::step_unused(s)
+        steps::step_unused(cs[k].step)
     }
 }
 
@@ -135,28 +125,26 @@ fn cells_ok(edition: u8, layouts: usize, views: usize, count: usize, cs: [Cell; 
     true
 }
 
+#[tactic(auto, unfolding(crate::specs::Sheets::steps_ok, numbers::specs::Choice::both, numbers::specs::Choice::pick))]
 fn steps_ok(edition: u8, layouts: usize, views: usize, count: usize, cs: [Cell; STEPS]) -> bool
     ensures { result ≡ steps_ok edition layouts views count cs }
 {
-    let most = editions::limits(edition);
-    if most.steps < count {
-        return false;
-    }
-    cells_ok(edition, layouts, views, count, cs)
+    count <= editions::limits(edition).steps && cells_ok(edition, layouts, views, count, cs)
 }
 
 // A model that a sheet reads as: each number is within Sizes, and each unused place is zero.
+#[tactic(auto, unfolding(crate::specs::Sheets::writable, numbers::specs::Choice::both, numbers::specs::Choice::pick))]
 pub fn writable(sheet: Sheet) -> bool
     ensures { result ≡ writable sheet }
 {
-    let edition = sheet.edition;
-    if !editions::edition_ok(edition) {
-        return false;
-    }
     let tensors = sheet.tensors;
-    if !tensors_ok(tensors) {
-        return false;
-    }
-    let cs = sheet.step;
-    steps_ok(edition, tensors.layouts, tensors.views, sheet.steps, cs)
+    editions::edition_ok(sheet.edition)
+        && tensors_ok(tensors)
+        && steps_ok(
+            sheet.edition,
+            tensors.layouts,
+            tensors.views,
+            sheet.steps,
+            sheet.step,
+        )
 }

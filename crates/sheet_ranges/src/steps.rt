@@ -12,22 +12,15 @@ pub fn no_cell() -> Cell
     }
 }
 
+#[tactic(auto, unfolding(crate::specs::Steps::fill_ok, numbers::specs::Choice::both, numbers::specs::Choice::pick))]
 pub fn fill_ok(edition: u8, register: u8, rows: u8, columns: u8, kind: u8, value: u32) -> bool
     ensures { result ≡ fill_ok edition register rows columns kind value }
 {
-    if !sizes::register_ok(register) {
-        return false;
-    }
-    if !editions::side_ok(edition, rows) {
-        return false;
-    }
-    if !editions::side_ok(edition, columns) {
-        return false;
-    }
-    if !kinds::kind_ok(kind) {
-        return false;
-    }
-    kinds::fits(kind, value)
+    sizes::register_ok(register)
+        && editions::side_ok(edition, rows)
+        && editions::side_ok(edition, columns)
+        && kinds::kind_ok(kind)
+        && kinds::fits(kind, value)
 }
 
 // A register, or what no object means in the edition.
@@ -46,21 +39,19 @@ fn viewing_ok(views: usize, view: Viewing) -> bool
 {
     match view {
         Viewing::Plain => true,
-        Viewing::Through(v) => (v as usize) < views,
+        Viewing::Through(v) => usize::from(v) < views,
     }
 }
 
 // Any base of 32 bits is within Sizes.
+#[tactic(auto, unfolding(crate::specs::Steps::window_ok, numbers::specs::Choice::both, numbers::specs::Choice::pick))]
 fn window_ok(layouts: usize, views: usize, window: Window) -> bool
     ensures { result ≡ window_ok layouts views window }
 {
-    if layouts <= window.layout as usize {
-        return false;
-    }
-    let view = window.view;
-    viewing_ok(views, view)
+    usize::from(window.layout) < layouts && viewing_ok(views, window.view)
 }
 
+#[tactic(auto, unfolding(crate::specs::Steps::load_ok, numbers::specs::Choice::both, numbers::specs::Choice::pick))]
 pub fn load_ok(
     edition: u8,
     layouts: usize,
@@ -71,101 +62,64 @@ pub fn load_ok(
 ) -> bool
     ensures { result ≡ load_ok edition layouts views register object window }
 {
-    if !sizes::register_ok(register) {
-        return false;
-    }
-    if !object_ok(edition, object) {
-        return false;
-    }
-    window_ok(layouts, views, window)
+    sizes::register_ok(register) && object_ok(edition, object) && window_ok(layouts, views, window)
 }
 
+#[tactic(auto, unfolding(crate::specs::Steps::store_ok, numbers::specs::Choice::both, numbers::specs::Choice::pick))]
 pub fn store_ok(layouts: usize, views: usize, register: u8, window: Window) -> bool
     ensures { result ≡ store_ok layouts views register window }
 {
-    if !sizes::register_ok(register) {
-        return false;
-    }
-    window_ok(layouts, views, window)
+    sizes::register_ok(register) && window_ok(layouts, views, window)
 }
 
+#[tactic(auto, unfolding(crate::specs::Steps::reduce_ok, numbers::specs::Choice::both, numbers::specs::Choice::pick))]
 pub fn reduce_ok(edition: u8, res: u8, source: u8, rows: u8, columns: u8) -> bool
     ensures { result ≡ reduce_ok edition res source rows columns }
 {
-    if !sizes::register_ok(res) {
-        return false;
-    }
-    if !sizes::register_ok(source) {
-        return false;
-    }
-    if !editions::side_ok(edition, rows) {
-        return false;
-    }
-    editions::side_ok(edition, columns)
+    sizes::register_ok(res)
+        && sizes::register_ok(source)
+        && editions::side_ok(edition, rows)
+        && editions::side_ok(edition, columns)
 }
 
+#[tactic(auto, unfolding(crate::specs::Steps::transpose_ok, numbers::specs::Choice::both, numbers::specs::Choice::pick))]
 pub fn transpose_ok(res: u8, source: u8) -> bool
     ensures { result ≡ transpose_ok res source }
 {
-    if !sizes::register_ok(res) {
-        return false;
-    }
-    sizes::register_ok(source)
+    sizes::register_ok(res) && sizes::register_ok(source)
 }
 
+#[tactic(auto, unfolding(crate::specs::Steps::multiply_ok, numbers::specs::Choice::both, numbers::specs::Choice::pick))]
 pub fn multiply_ok(res: u8, a: u8, b: u8, c: u8) -> bool
     ensures { result ≡ multiply_ok res a b c }
 {
-    if !sizes::register_ok(res) {
-        return false;
-    }
-    if !sizes::register_ok(a) {
-        return false;
-    }
-    if !sizes::register_ok(b) {
-        return false;
-    }
-    sizes::register_ok(c)
+    sizes::register_ok(res)
+        && sizes::register_ok(a)
+        && sizes::register_ok(b)
+        && sizes::register_ok(c)
 }
 
 // Without a bias there is no bias offset.
+#[tactic(auto, unfolding(crate::specs::Steps::bias_ok, numbers::specs::Choice::pick))]
 fn bias_ok(v: VectorStep) -> bool
     ensures { result ≡ bias_ok v }
 {
-    if v.biased {
-        return true;
-    }
-    v.bias == 0
+    v.biased || v.bias == 0
 }
 
+#[tactic(auto, unfolding(crate::specs::Steps::vector_ok, numbers::specs::Choice::both, numbers::specs::Choice::pick))]
 pub fn vector_ok(edition: u8, v: VectorStep) -> bool
     ensures { result ≡ vector_ok edition v }
 {
-    if !editions::has_vectors(edition) {
-        return false;
-    }
-    if !sizes::register_ok(v.result) {
-        return false;
-    }
-    if !kinds::word_kind(v.kind) {
-        return false;
-    }
-    if !sizes::register_ok(v.input) {
-        return false;
-    }
-    if !kinds::interpretations::interpretation_ok(v.interpretation) {
-        return false;
-    }
-    if !kinds::kind_ok(v.matrix) {
-        return false;
-    }
-    if !editions::side_ok(edition, v.rows) {
-        return false;
-    }
-    if !editions::side_ok(edition, v.columns) {
-        return false;
-    }
-    bias_ok(v)
+    editions::has_vectors(edition)
+        && sizes::register_ok(v.result)
+        && kinds::word_kind(v.kind)
+        && sizes::register_ok(v.input)
+        && kinds::interpretations::interpretation_ok(v.interpretation)
+        && kinds::kind_ok(v.matrix)
+        && editions::side_ok(edition, v.rows)
+        && editions::side_ok(edition, v.columns)
+        && bias_ok(v)
 }
 
 fn whole_ok(edition: u8, step: WholeStep) -> bool
@@ -184,8 +138,7 @@ fn whole_ok(edition: u8, step: WholeStep) -> bool
             source,
             rows,
             columns,
-            mode: _,
-            combine: _,
+            ..
         } => reduce_ok(edition, result, source, rows, columns),
         WholeStep::Transpose { result, source } => transpose_ok(result, source),
         WholeStep::MultiplyAdd { result, a, b, c } => multiply_ok(result, a, b, c),
@@ -211,17 +164,5 @@ pub fn step_ok(edition: u8, layouts: usize, views: usize, step: Step) -> bool
 pub fn step_unused(step: Step) -> bool
     ensures { result ≡ step_unused step }
 {
-    match step {
-        Step::Nothing => true,
-        Step::Load {
-            register: _,
-            object: _,
-            window: _,
-        } => false,
-        Step::Store {
-            register: _,
-            window: _,
-        } => false,
-        Step::Whole(_) => false,
-    }
+    matches!(step, Step::Nothing)
 }
