@@ -64,14 +64,7 @@ fn dimension_at_ok(rank: u8, ds: [Dimension; RANK], k: usize) -> bool
 fn dimensions_ok(rank: u8, ds: [Dimension; RANK]) -> bool
     ensures { result ≡ dimensions_ok rank ds }
 {
-    let mut k = 0;
-    while k < RANK {
-        if !dimension_at_ok(rank, ds, k) {
-            return false;
-        }
-        k += 1;
-    }
-    true
+    (0..RANK).all(|k| dimension_at_ok(rank, ds, k))
 }
 
 #[tactic(auto, unfolding(crate::specs::Layouts::layout_ok, numbers::specs::Choice::both, numbers::specs::Choice::pick))]

@@ -37,14 +37,7 @@ fn fresh(p: [u8; RANK], k: usize) -> bool
     requires { k < rank_places }
     ensures { result ≡ fresh p k }
 {
-    let mut j = 0;
-    while j < k {
-        if p[j] == p[k] {
-            return false;
-        }
-        j += 1;
-    }
-    true
+    (0..k).all(|j| p[j] != p[k])
 }
 
 #[tactic(auto, unfolding(crate::specs::Views::entry_ok, numbers::specs::Choice::both, numbers::specs::Choice::pick))]
@@ -63,14 +56,7 @@ fn entry_ok(rank: u8, p: [u8; RANK], k: usize) -> bool
 fn permutation_ok(rank: u8, p: [u8; RANK]) -> bool
     ensures { result ≡ permutation_ok rank p }
 {
-    let mut k = 0;
-    while k < RANK {
-        if !entry_ok(rank, p, k) {
-            return false;
-        }
-        k += 1;
-    }
-    true
+    (0..RANK).all(|k| entry_ok(rank, p, k))
 }
 
 #[tactic(auto, unfolding(crate::specs::Views::view_dimension_unused, numbers::specs::Choice::both, numbers::specs::Choice::pick))]
@@ -97,14 +83,7 @@ fn view_dimension_at_ok(count: u8, ds: [ViewDimension; RANK], k: usize) -> bool
 fn view_dimensions_ok(count: u8, ds: [ViewDimension; RANK]) -> bool
     ensures { result ≡ view_dimensions_ok count ds }
 {
-    let mut k = 0;
-    while k < RANK {
-        if !view_dimension_at_ok(count, ds, k) {
-            return false;
-        }
-        k += 1;
-    }
-    true
+    (0..RANK).all(|k| view_dimension_at_ok(count, ds, k))
 }
 
 // How many dimensions and strides of its own a view has.
