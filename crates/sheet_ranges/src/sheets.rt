@@ -48,14 +48,7 @@ fn layout_at_ok(count: usize, ls: [Layout; LAYOUTS], k: usize) -> bool
 fn layouts_ok(count: usize, ls: [Layout; LAYOUTS]) -> bool
     ensures { result ≡ all layout_places (layout_at_ok count ls) }
 {
-    let mut k = 0;
-    while k < LAYOUTS {
-        if !layout_at_ok(count, ls, k) {
-            return false;
-        }
-        k += 1;
-    }
-    true
+    (0..LAYOUTS).all(|k| layout_at_ok(count, ls, k))
 }
 
 #[tactic(auto, unfolding(crate::specs::Sheets::view_at_ok, numbers::specs::Choice::pick))]
@@ -73,14 +66,7 @@ fn view_at_ok(count: usize, vs: [View; VIEWS], k: usize) -> bool
 fn views_ok(count: usize, vs: [View; VIEWS]) -> bool
     ensures { result ≡ all view_places (view_at_ok count vs) }
 {
-    let mut k = 0;
-    while k < VIEWS {
-        if !view_at_ok(count, vs, k) {
-            return false;
-        }
-        k += 1;
-    }
-    true
+    (0..VIEWS).all(|k| view_at_ok(count, vs, k))
 }
 
 #[tactic(auto, unfolding(crate::specs::Sheets::tensors_ok, numbers::specs::Choice::both, numbers::specs::Choice::pick))]
@@ -115,14 +101,7 @@ fn step_at_ok(
 fn cells_ok(edition: u8, layouts: usize, views: usize, count: usize, cs: [Cell; STEPS]) -> bool
     ensures { result ≡ all step_places (step_at_ok edition layouts views count cs) }
 {
-    let mut k = 0;
-    while k < STEPS {
-        if !step_at_ok(edition, layouts, views, count, cs, k) {
-            return false;
-        }
-        k += 1;
-    }
-    true
+    (0..STEPS).all(|k| step_at_ok(edition, layouts, views, count, cs, k))
 }
 
 #[tactic(auto, unfolding(crate::specs::Sheets::steps_ok, numbers::specs::Choice::both, numbers::specs::Choice::pick))]

@@ -1,26 +1,6 @@
-use mathlib.Core.Path.{◌≡◌, sym}
-use mathlib.Core.Bool.{true}
-use Prim.Native.Nat.{◌-◌}
-use Rattle.numbers.specs.Laws.Choice.{went}
-use Rattle.numbers.specs.Laws.All.{all_none, all_more, all_false}
-use Rattle.sheet_ranges.specs.Sheets.{layout_at_ok}
-use borrow.Author.Rules.{rules}
-use native.Mathlib.Omega.{arith}
+use Rattle.std.proofs.Common.{rules}
+use Rattle.numbers.specs.Laws.All.{all_range}
 use Rattle.sheet_ranges.proofs.sheets.layouts_ok.Goals as goal
 
-pub loop-k-init : goal.loop-k-init
-loop-k-init c = (search rules, all_none _)
-
-pub returns-then-not-layout_at_ok : goal.returns-then-not-layout_at_ok
-returns-then-not-layout_at_ok c =
-    sym (all_false 4 _ c.loop-k.k c.loop-k-test.true (went c.layout_at_ok.ensures c.if-not-layout_at_ok.true))
-
-pub loop-k-preserved : goal.loop-k-preserved
-loop-k-preserved c =
-    (search rules, all_more _ _ c.loop-k.invariant.1 (went c.layout_at_ok.ensures c.if-not-layout_at_ok.false))
-
 pub returns : goal.returns
-returns c =
-    let i = c.loop-k in
-    let e : i.k ≡ 4 = omega arith in
-    sym (rw e at i.invariant.1)
+returns c = all_range _ _ _ _ _ c.all.ensures.ran (λ x b q k. search rules)
