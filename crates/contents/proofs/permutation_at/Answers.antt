@@ -1,20 +1,18 @@
-use mathlib.Core.Path.{refl, ◌≡◌}
-use Rattle.numbers.specs.Laws.Lists.{line_start, line_step}
-use Prim.Native.Nat.{◌-◌}
+use Rattle.std.specs.Prelude.{ℕ, ◌+◌, ◌-◌, ◌≤◌, ◌≡◌, List, ◌++◌, length, take, drop, get_or, replicate}
+use Rattle.std.proofs.Common.{sym, arith}
+use Rattle.std.proofs.lemmas.Grind.{common_steps, elements}
+use Rattle.numbers.specs.Lists.{line}
+use Rattle.numbers.specs.Laws.Places.{places_are}
 use Rattle.contents.specs.Contents.{permutation_at}
-use borrow.Author.Rules.{rules}
-use native.Mathlib.Omega.{arith}
 use Rattle.contents.proofs.permutation_at.Goals as goal
 
-pub loop-k-init : goal.loop-k-init
-loop-k-init c = (search rules, line_start _ _)
-
-pub loop-k-preserved : goal.loop-k-preserved
-loop-k-preserved c = (search rules, line_step _ _ _ c.loop-k.invariant.1 refl)
+-- n elements of s from p on, copied to the first of N places
+copied : (N : ℕ) (s : List ℕ) (p n : ℕ) → n ≤ N → p + n ≤ length s
+    → take (p + n - p) (drop p s) ++ drop n (replicate N 0) ≡ line (replicate N 0) 0 (λ (k : ℕ). get_or s (p + k) 0) n
+copied N s p n h l =
+    sym
+    (places_are N 0 0 _ n h _ (grind (arith, common_steps)) (λ k m. grind (arith, elements)) (λ k m o. grind (arith, elements)))
 
 pub returns : goal.returns
 unfolding permutation_at
-returns c =
-    let i = c.loop-k in
-    let e : i.k ≡ c.args.rank = omega arith in
-    rw e at i.invariant.1
+returns c = let a = c.args in rw c.copy_from_slice.ensures.after (copied 5 a.s.now a.p a.rank c.requires.0 c.requires.1)
