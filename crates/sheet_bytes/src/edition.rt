@@ -9,6 +9,7 @@ use sheet::codes::EDITION_TAG;
 // Its bytes.
 pub const EDITION_LEN: usize = 4;
 
+#[tactic(auto, unfolding(fields::specs::Bytes::field_bytes))]
 pub fn put_edition(out: &mut [u8], edition: u8)
     requires { 4 ≤ length out.old }
     ensures { out.new ≡ sets out.old 0 (edition_field edition) }

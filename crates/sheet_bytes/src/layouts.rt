@@ -13,12 +13,14 @@ const START: usize = 6;
 
 const DIMENSION: usize = 10;
 
+#[tactic(auto, using(crate::specs::Laws::Lengths::length_layout))]
 pub fn layout_len(l: Layout) -> u16
     ensures { result ≡ length (layout_bytes l) }
 {
-    (START + l.rank as usize * DIMENSION) as u16
+    (START + usize::from(l.rank) * DIMENSION) as u16
 }
 
+#[tactic(auto, unfolding(crate::specs::Bytes::dimension_bytes))]
 fn put_dimension(out: &mut [u8], at: usize, d: Dimension)
     requires { at + 10 ≤ length out.old }
     ensures { out.new ≡ sets out.old at (dimension_bytes d) }
@@ -28,34 +30,30 @@ fn put_dimension(out: &mut [u8], at: usize, d: Dimension)
     numbers::put_u16(out, at + 8, d.span);
 }
 
+#[tactic(auto, using(fields::specs::Laws::Puts::all_turns))]
 fn put_dimensions(out: &mut [u8], at: usize, rank: u8, ds: [Dimension; RANK])
     requires { (rank ≤ rank_places) × (at + length (dimensions_bytes rank ds) ≤ length out.old) }
     ensures { out.new ≡ sets out.old at (dimensions_bytes rank ds) }
 {
-    let n = rank as usize;
     let mut p = at;
-    let mut k = 0;
-    while k < n {
-        let d = ds[k];
-        put_dimension(out, p, d);
+    for d in &ds[..usize::from(rank)] {
+        put_dimension(out, p, *d);
         p += DIMENSION;
-        k += 1;
     }
 }
 
+#[tactic(auto, using(crate::specs::Laws::Lengths::length_layout, crate::specs::Laws::Lengths::length_dimensions), unfolding(crate::specs::Bytes::layout_bytes))]
 fn put_layout_content(out: &mut [u8], at: usize, l: Layout)
     requires { (l.rank ≤ rank_places) × (at + length (layout_bytes l) ≤ length out.old) }
     ensures { out.new ≡ sets out.old at (layout_bytes l) }
 {
-    let rank = l.rank;
-    let mode = l.mode;
-    let ds = l.dimensions;
-    writing::put_pair(out, at, rank, codes::clamp_code(mode));
+    writing::put_pair(out, at, l.rank, codes::clamp_code(l.mode));
     numbers::put_u32(out, at + 2, l.clamp);
-    put_dimensions(out, at + START, rank, ds);
+    put_dimensions(out, at + START, l.rank, l.dimensions);
 }
 
 // Returns the place after the field.
+#[tactic(auto, using(fields::specs::Laws::Lengths::length_field, fields::specs::Laws::Puts::field_put))]
 pub fn put_layout(out: &mut [u8], at: usize, l: Layout) -> usize
     requires { (l.rank ≤ rank_places) × (at + length (layout_field l) ≤ length out.old) }
     ensures { (result ≡ at + length (layout_field l)) × (out.new ≡ sets out.old at (layout_field l)) }

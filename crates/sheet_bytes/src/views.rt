@@ -16,43 +16,35 @@ const DIMENSION: usize = 4;
 
 const CLIP: usize = 4;
 
+#[tactic(auto, using(crate::specs::Laws::Lengths::length_view))]
 pub fn view_len(v: View) -> u16
     ensures { result ≡ length (view_bytes v) }
 {
-    let rank = v.rank;
-    let own = views::sized_rank(v.sized, rank);
-    (START + rank as usize + own as usize * DIMENSION + 2 * CLIP) as u16
+    let own = views::sized_rank(v.sized, v.rank);
+    (START + usize::from(v.rank) + usize::from(own) * DIMENSION + 2 * CLIP) as u16
 }
 
 fn put_permutation(out: &mut [u8], at: usize, rank: u8, p: [u8; RANK])
     requires { (rank ≤ rank_places) × (at + length (entries_bytes rank p) ≤ length out.old) }
     ensures { out.new ≡ sets out.old at (entries_bytes rank p) }
 {
-    let n = rank as usize;
-    let mut q = at;
-    let mut k = 0;
-    while k < n {
-        out[q] = p[k];
-        q += 1;
-        k += 1;
-    }
+    let n = usize::from(rank);
+    out[at..at + n].copy_from_slice(&p[..n]);
 }
 
+#[tactic(auto, using(fields::specs::Laws::Puts::all_turns))]
 fn put_view_dimensions(out: &mut [u8], at: usize, count: u8, ds: [ViewDimension; RANK])
     requires { (count ≤ rank_places) × (at + length (view_dimensions_bytes count ds) ≤ length out.old) }
     ensures { out.new ≡ sets out.old at (view_dimensions_bytes count ds) }
 {
-    let n = count as usize;
     let mut p = at;
-    let mut k = 0;
-    while k < n {
-        let d = ds[k];
+    for d in &ds[..usize::from(count)] {
         writing::put_u16s(out, p, d.size, d.stride);
         p += DIMENSION;
-        k += 1;
     }
 }
 
+#[tactic(auto, unfolding(crate::specs::Bytes::clip_bytes))]
 fn put_clips(out: &mut [u8], at: usize, rows: Clip, columns: Clip)
     requires { at + 8 ≤ length out.old }
     ensures { out.new ≡ sets out.old at (clip_bytes rows ++ clip_bytes columns) }
@@ -61,24 +53,26 @@ fn put_clips(out: &mut [u8], at: usize, rows: Clip, columns: Clip)
     writing::put_u16s(out, at + CLIP, columns.offset, columns.span);
 }
 
+#[tactic(auto, using(crate::specs::Laws::Lengths::length_view, crate::specs::Laws::Lengths::length_entries, crate::specs::Laws::Lengths::length_view_dimensions, crate::specs::Laws::Lengths::sized_within), unfolding(crate::specs::Bytes::view_bytes))]
 fn put_view_content(out: &mut [u8], at: usize, v: View)
     requires { (v.rank ≤ rank_places) × (at + length (view_bytes v) ≤ length out.old) }
     ensures { out.new ≡ sets out.old at (view_bytes v) }
 {
-    let rank = v.rank;
-    let own = views::sized_rank(v.sized, rank);
-    let permutation = v.permutation;
-    let ds = v.dimensions;
-    let rows = v.rows;
-    let columns = v.columns;
-    writing::put_pair(out, at, rank, codes::flag_code(v.sized));
-    put_permutation(out, at + START, rank, permutation);
-    let dimensions = at + START + rank as usize;
-    put_view_dimensions(out, dimensions, own, ds);
-    put_clips(out, dimensions + DIMENSION * own as usize, rows, columns);
+    let own = views::sized_rank(v.sized, v.rank);
+    writing::put_pair(out, at, v.rank, codes::flag_code(v.sized));
+    put_permutation(out, at + START, v.rank, v.permutation);
+    let dimensions = at + START + usize::from(v.rank);
+    put_view_dimensions(out, dimensions, own, v.dimensions);
+    put_clips(
+        out,
+        dimensions + DIMENSION * usize::from(own),
+        v.rows,
+        v.columns,
+    );
 }
 
 // Returns the place after the field.
+#[tactic(auto, using(fields::specs::Laws::Lengths::length_field, fields::specs::Laws::Puts::field_put))]
 pub fn put_view(out: &mut [u8], at: usize, v: View) -> usize
     requires { (v.rank ≤ rank_places) × (at + length (view_field v) ≤ length out.old) }
     ensures { (result ≡ at + length (view_field v)) × (out.new ≡ sets out.old at (view_field v)) }

@@ -1,33 +1,32 @@
-use Prim.Native.Nat.{◌-◌}
-use native.Mathlib.Omega.{arith}
-use borrow.Author.Rules.{rules}
+use Rattle.std.specs.Prelude.{◌+◌, ◌<◌, ◌≤◌, length}
+use Rattle.std.proofs.Common.{arith, rules}
+use Rattle.std.proofs.lemmas.List.{length-take, get_or-take}
 use Rattle.tensor_ranges.specs.Layouts.{the_dimension}
-use Rattle.fields.specs.Laws.Puts.{no_turns, one_turn, turn_fits, all_turns}
+use Rattle.fields.specs.Laws.Puts.{no_turns, one_turn, turn_fits}
 use Rattle.sheet_bytes.specs.Laws.Lengths.{length_dimension}
 use Rattle.sheet_bytes.proofs.layouts.put_dimensions.Goals as goal
+use Rattle.sheet_bytes.proofs.layouts.put_dimensions.Goals.{In-loop-d}
 
-pub loop-k-init : goal.loop-k-init
-loop-k-init c = (search rules, no_turns _ _ _)
+pub loop-d-init : goal.loop-d-init
+loop-d-init c = no_turns _ _ _
+
+-- one more is given, and has room
+given : (c : In-loop-d) → c.loop-d.d-index < c.args.rank
+given c = omega (arith, length-take c.from.result c.args.ds)
+
+room : (c : In-loop-d) → c.loop-d.p + 10 ≤ length c.loop-d.out
+room c =
+    let i = c.loop-d in
+    omega (arith, turn_fits _ _ _ _ i.invariant c.requires.1 (given c), length_dimension (the_dimension c.args.ds i.d-index))
 
 pub put_dimension-requires : goal.put_dimension-requires
-put_dimension-requires c =
-    let t = turn_fits _ _ _ _ c.loop-k.invariant.1 c.requires.1 c.loop-k-test.true in
-    let e = length_dimension (the_dimension c.args.ds c.loop-k.k) in
-    omega arith
+put_dimension-requires c = room (goal.at.put_dimension-requires c).In-loop-d
 
 pub overflow_add-p : goal.overflow_add-p
-overflow_add-p c =
-    let t = turn_fits _ _ _ _ c.loop-k.invariant.1 c.requires.1 c.loop-k-test.true in
-    let e = length_dimension (the_dimension c.args.ds c.loop-k.k) in
-    search rules
+overflow_add-p c = let r = room (goal.at.overflow_add-p c).In-loop-d in search rules
 
-pub loop-k-preserved : goal.loop-k-preserved
-loop-k-preserved c =
-    let e = length_dimension (the_dimension c.args.ds c.loop-k.k) in
-    (search rules, one_turn _ _ _ c.loop-k.invariant.1 (rw e) c.put_dimension.ensures)
-
-pub shape_of-out : goal.shape_of-out
-shape_of-out c = c.loop-k.invariant.1.kept
-
-pub returns : goal.returns
-returns c = (all_turns _ _ _ _ c.loop-k.invariant.1 c.loop-k.invariant.0 c.loop-k-test.false).1
+pub loop-d-preserved : goal.loop-d-preserved
+loop-d-preserved c =
+    let i = c.loop-d in
+    let h : i.d-index < c.from.result = omega (arith, length-take c.from.result c.args.ds) in
+    one_turn _ _ _ i.invariant (rw (length_dimension (the_dimension c.args.ds i.d-index))) (rw (get_or-take _ _ _ _ h) at c.put_dimension.ensures)

@@ -6,37 +6,8 @@ use Rattle.tensor_ranges.specs.Views.{sized_rank}
 use Rattle.sheet_bytes.specs.Bytes.{entries_bytes, view_dimensions_bytes, clip_bytes, view_bytes}
 use Rattle.sheet.specs.Codes.{flag_code}
 use Rattle.fields.specs.Laws.Puts.{puts_at}
-use Rattle.sheet_bytes.specs.Laws.Lengths.{length_view, length_entries, length_view_dimensions, sized_within}
+use Rattle.sheet_bytes.specs.Laws.Lengths.{length_entries, length_view_dimensions}
 use Rattle.sheet_bytes.proofs.views.put_view_content.Goals as goal
-
-pub put_pair-requires : goal.put_pair-requires
-put_pair-requires c =
-    let v = c.args.v in
-    let e = length_view v in
-    omega arith
-
-pub put_permutation-requires : goal.put_permutation-requires
-put_permutation-requires c =
-    let v = c.args.v in
-    let e = length_view v in
-    let p = length_entries v.rank v.permutation in
-    (c.requires.0, omega arith)
-
-pub put_view_dimensions-requires : goal.put_view_dimensions-requires
-put_view_dimensions-requires c =
-    let v = c.args.v in
-    let e = length_view v in
-    let s = c.sized_rank-own.ensures in
-    let d = length_view_dimensions (sized_rank v.sized v.rank) v.dimensions in
-    let w = sized_within v.sized v.rank in
-    rw s (omega arith, omega arith)
-
-pub put_clips-requires : goal.put_clips-requires
-put_clips-requires c =
-    let v = c.args.v in
-    let e = length_view v in
-    let s = c.sized_rank-own.ensures in
-    omega arith
 
 pub returns : goal.returns
 unfolding view_bytes

@@ -1,35 +1,34 @@
-use Prim.Native.Nat.{◌-◌}
-use native.Mathlib.Omega.{arith}
-use borrow.Author.Rules.{rules}
+use Rattle.std.specs.Prelude.{◌+◌, ◌<◌, ◌≤◌, length}
+use Rattle.std.proofs.Common.{arith, rules}
+use Rattle.std.proofs.lemmas.List.{length-take, get_or-take}
 use Rattle.tensor_ranges.specs.Views.{the_view_dimension}
 use Rattle.sheet_bytes.specs.Bytes.{view_dimension_bytes}
-use Rattle.fields.specs.Laws.Puts.{no_turns, one_turn, turn_fits, all_turns}
+use Rattle.fields.specs.Laws.Puts.{no_turns, one_turn, turn_fits}
 use Rattle.sheet_bytes.specs.Laws.Lengths.{length_view_dimension}
 use Rattle.sheet_bytes.proofs.views.put_view_dimensions.Goals as goal
+use Rattle.sheet_bytes.proofs.views.put_view_dimensions.Goals.{In-loop-d}
 
-pub loop-k-init : goal.loop-k-init
-loop-k-init c = (search rules, no_turns _ _ _)
+pub loop-d-init : goal.loop-d-init
+loop-d-init c = no_turns _ _ _
+
+-- one more is given, and has room
+given : (c : In-loop-d) → c.loop-d.d-index < c.args.count
+given c = omega (arith, length-take c.from.result c.args.ds)
+
+room : (c : In-loop-d) → c.loop-d.p + 4 ≤ length c.loop-d.out
+room c =
+    let i = c.loop-d in
+    omega (arith, turn_fits _ _ _ _ i.invariant c.requires.1 (given c), length_view_dimension (the_view_dimension c.args.ds i.d-index))
 
 pub put_u16s-requires : goal.put_u16s-requires
-put_u16s-requires c =
-    let t = turn_fits _ _ _ _ c.loop-k.invariant.1 c.requires.1 c.loop-k-test.true in
-    let e = length_view_dimension (the_view_dimension c.args.ds c.loop-k.k) in
-    omega arith
+put_u16s-requires c = room (goal.at.put_u16s-requires c).In-loop-d
 
 pub overflow_add-p : goal.overflow_add-p
-overflow_add-p c =
-    let t = turn_fits _ _ _ _ c.loop-k.invariant.1 c.requires.1 c.loop-k-test.true in
-    let e = length_view_dimension (the_view_dimension c.args.ds c.loop-k.k) in
-    search rules
+overflow_add-p c = let r = room (goal.at.overflow_add-p c).In-loop-d in search rules
 
-pub loop-k-preserved : goal.loop-k-preserved
+pub loop-d-preserved : goal.loop-d-preserved
 unfolding view_dimension_bytes
-loop-k-preserved c =
-    let e = length_view_dimension (the_view_dimension c.args.ds c.loop-k.k) in
-    (search rules, one_turn _ _ _ c.loop-k.invariant.1 (rw e) c.put_u16s.ensures)
-
-pub shape_of-out : goal.shape_of-out
-shape_of-out c = c.loop-k.invariant.1.kept
-
-pub returns : goal.returns
-returns c = (all_turns _ _ _ _ c.loop-k.invariant.1 c.loop-k.invariant.0 c.loop-k-test.false).1
+loop-d-preserved c =
+    let i = c.loop-d in
+    let h : i.d-index < c.from.result = omega (arith, length-take c.from.result c.args.ds) in
+    one_turn _ _ _ i.invariant (rw (length_view_dimension (the_view_dimension c.args.ds i.d-index))) (rw (get_or-take _ _ _ _ h) at c.put_u16s.ensures)
