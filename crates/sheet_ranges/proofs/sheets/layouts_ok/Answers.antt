@@ -1,5 +1,5 @@
 use Rattle.std.proofs.Common.{rules}
-use Rattle.numbers.specs.Laws.All.{all_range}
+use Rattle.numbers.specs.Laws.Ranges.{all_range}
 use Rattle.sheet_ranges.proofs.sheets.layouts_ok.Goals as goal
 
 pub returns : goal.returns

@@ -1,6 +1,6 @@
 use Rattle.std.proofs.Common.{rules}
 use borrow.Author.Tests.{tests}
-use Rattle.numbers.specs.Laws.All.{all_range}
+use Rattle.numbers.specs.Laws.Ranges.{all_range}
 use Rattle.tensor_ranges.specs.Views.{fresh}
 use Rattle.tensor_ranges.proofs.views.fresh.Goals as goal
 
