@@ -14,55 +14,40 @@ fn layouts_len(count: usize, ls: [Layout; LAYOUTS]) -> usize
     requires { count ≤ layout_places }
     ensures { (result ≡ length (layouts_bytes count ls)) × (result ≤ count * 65538) }
 {
-    let mut total = 0;
-    let mut k = 0;
-    while k < count {
-        let l = ls[k];
-        total += writing::field_len(layouts::layout_len(l));
-        k += 1;
-    }
-    total
+    ls[..count]
+        .iter()
+        .map(|l| writing::field_len(layouts::layout_len(*l)))
+        .sum()
 }
 
 fn views_len(count: usize, vs: [View; VIEWS]) -> usize
     requires { count ≤ view_places }
     ensures { (result ≡ length (views_bytes count vs)) × (result ≤ count * 65538) }
 {
-    let mut total = 0;
-    let mut k = 0;
-    while k < count {
-        let v = vs[k];
-        total += writing::field_len(views::view_len(v));
-        k += 1;
-    }
-    total
+    vs[..count]
+        .iter()
+        .map(|v| writing::field_len(views::view_len(*v)))
+        .sum()
 }
 
 fn steps_len(edition: u8, count: usize, cs: [Cell; STEPS]) -> usize
     requires { count ≤ step_places }
     ensures { (result ≡ length (steps_bytes edition count cs)) × (result ≤ count * 65538) }
 {
-    let mut total = 0;
-    let mut k = 0;
-    while k < count {
-        let c = cs[k];
-        let s = c.step;
-        total += writing::field_len(step_bytes::step_len(edition, s));
-        k += 1;
-    }
-    total
+    cs[..count]
+        .iter()
+        .map(|c| writing::field_len(step_bytes::step_len(edition, c.step)))
+        .sum()
 }
 
+#[tactic(auto, using(crate::proofs::Laws::Places::places))]
 pub fn sheet_len(model: Sheet) -> usize
     requires { writable model ≡ true }
     ensures { result ≡ length (sheet_bytes model) }
 {
     let t = model.tensors;
-    let ls = t.layout;
-    let vs = t.view;
-    let cs = model.step;
     EDITION_LEN
-        + layouts_len(t.layouts, ls)
-        + views_len(t.views, vs)
-        + steps_len(model.edition, model.steps, cs)
+        + layouts_len(t.layouts, t.layout)
+        + views_len(t.views, t.view)
+        + steps_len(model.edition, model.steps, model.step)
 }

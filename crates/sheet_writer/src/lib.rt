@@ -27,8 +27,10 @@ pub struct WriteAnswer {
 fn answer(number: u8, bytes: usize) -> WriteAnswer
     ensures { result ≡ write_answer number bytes }
 {
-    let refusal = refusals::refusal_at(number, 0, 0);
-    WriteAnswer { refusal, bytes }
+    WriteAnswer {
+        refusal: refusals::refusal_at(number, 0, 0),
+        bytes,
+    }
 }
 
 // Returns the place after the last field, as do the next two.
@@ -37,11 +39,8 @@ fn put_layouts(out: &mut [u8], at: usize, count: usize, ls: [Layout; LAYOUTS]) -
     ensures { (result ≡ at + length (layouts_bytes count ls)) × (out.new ≡ sets out.old at (layouts_bytes count ls)) }
 {
     let mut p = at;
-    let mut k = 0;
-    while k < count {
-        let l = ls[k];
-        p = layouts::put_layout(out, p, l);
-        k += 1;
+    for l in &ls[..count] {
+        p = layouts::put_layout(out, p, *l);
     }
     p
 }
@@ -51,11 +50,8 @@ fn put_views(out: &mut [u8], at: usize, count: usize, vs: [View; VIEWS]) -> usiz
     ensures { (result ≡ at + length (views_bytes count vs)) × (out.new ≡ sets out.old at (views_bytes count vs)) }
 {
     let mut p = at;
-    let mut k = 0;
-    while k < count {
-        let v = vs[k];
-        p = views::put_view(out, p, v);
-        k += 1;
+    for v in &vs[..count] {
+        p = views::put_view(out, p, *v);
     }
     p
 }
@@ -65,12 +61,8 @@ fn put_steps(out: &mut [u8], at: usize, edition: u8, count: usize, cs: [Cell; ST
     ensures { (result ≡ at + length (steps_bytes edition count cs)) × (out.new ≡ sets out.old at (steps_bytes edition count cs)) }
 {
     let mut p = at;
-    let mut k = 0;
-    while k < count {
-        let c = cs[k];
-        let s = c.step;
-        p = step_bytes::put_step(out, p, edition, s);
-        k += 1;
+    for c in &cs[..count] {
+        p = step_bytes::put_step(out, p, edition, c.step);
     }
     p
 }
@@ -81,15 +73,13 @@ fn put_sheet(out: &mut [u8], model: Sheet) -> usize
     ensures { (result ≡ length (sheet_bytes model)) × (out.new ≡ sets out.old 0 (sheet_bytes model)) }
 {
     let t = model.tensors;
-    let ls = t.layout;
-    let vs = t.view;
-    let cs = model.step;
     edition::put_edition(out, model.edition);
-    let views_at = put_layouts(out, edition::EDITION_LEN, t.layouts, ls);
-    let steps_at = put_views(out, views_at, t.views, vs);
-    put_steps(out, steps_at, model.edition, model.steps, cs)
+    let views_at = put_layouts(out, edition::EDITION_LEN, t.layouts, t.layout);
+    let steps_at = put_views(out, views_at, t.views, t.view);
+    put_steps(out, steps_at, model.edition, model.steps, model.step)
 }
 
+#[tactic(auto, unfolding(crate::specs::Writing::written, crate::specs::Writing::written_room, numbers::specs::Choice::pick))]
 pub fn write_sheet(model: Sheet, out: &mut [u8]) -> WriteAnswer
     ensures { (result ≡ written model (length out.old)) × (out.new ≡ written_room model out.old) }
 {
@@ -99,6 +89,5 @@ pub fn write_sheet(model: Sheet, out: &mut [u8]) -> WriteAnswer
     if out.len() < lengths::sheet_len(model) {
         return answer(refusals::ROOM_TOO_SHORT, 0);
     }
-    let bytes = put_sheet(out, model);
-    answer(0, bytes)
+    answer(0, put_sheet(out, model))
 }
