@@ -14,31 +14,10 @@ fn whole_tag(s: WholeStep) -> u8
     ensures { result ≡ whole_tag s }
 {
     match s {
-        WholeStep::Fill {
-            register: _,
-            rows: _,
-            columns: _,
-            kind: _,
-            value: _,
-        } => codes::FILL_TAG,
-        WholeStep::Reduce {
-            result: _,
-            source: _,
-            rows: _,
-            columns: _,
-            mode: _,
-            combine: _,
-        } => codes::REDUCE_TAG,
-        WholeStep::Transpose {
-            result: _,
-            source: _,
-        } => codes::TRANSPOSE_TAG,
-        WholeStep::MultiplyAdd {
-            result: _,
-            a: _,
-            b: _,
-            c: _,
-        } => codes::MULTIPLY_TAG,
+        WholeStep::Fill { .. } => codes::FILL_TAG,
+        WholeStep::Reduce { .. } => codes::REDUCE_TAG,
+        WholeStep::Transpose { .. } => codes::TRANSPOSE_TAG,
+        WholeStep::MultiplyAdd { .. } => codes::MULTIPLY_TAG,
         WholeStep::Vector(_) => codes::VECTOR_TAG,
     }
 }
@@ -49,49 +28,22 @@ fn step_tag(s: Step) -> u8
 {
     match s {
         Step::Nothing => 0,
-        Step::Load {
-            register: _,
-            object: _,
-            window: _,
-        } => codes::LOAD_TAG,
-        Step::Store {
-            register: _,
-            window: _,
-        } => codes::STORE_TAG,
+        Step::Load { .. } => codes::LOAD_TAG,
+        Step::Store { .. } => codes::STORE_TAG,
         Step::Whole(whole) => whole_tag(whole),
     }
 }
 
 // By the table of "The sheet".
+#[tactic(auto, unfolding(sheet::specs::Editions::fill_length))]
 fn whole_len(edition: u8, s: WholeStep) -> u16
     ensures { result ≡ length (whole_bytes edition s) }
 {
     match s {
-        WholeStep::Fill {
-            register: _,
-            rows: _,
-            columns: _,
-            kind: _,
-            value: _,
-        } => editions::fill_length(edition) as u16,
-        WholeStep::Reduce {
-            result: _,
-            source: _,
-            rows: _,
-            columns: _,
-            mode: _,
-            combine: _,
-        } => 6,
-        WholeStep::Transpose {
-            result: _,
-            source: _,
-        } => 2,
-        WholeStep::MultiplyAdd {
-            result: _,
-            a: _,
-            b: _,
-            c: _,
-        } => 4,
+        WholeStep::Fill { .. } => editions::fill_length(edition) as u16,
+        WholeStep::Reduce { .. } => 6,
+        WholeStep::Transpose { .. } => 2,
+        WholeStep::MultiplyAdd { .. } => 4,
         WholeStep::Vector(_) => 19,
     }
 }
@@ -101,15 +53,8 @@ pub fn step_len(edition: u8, s: Step) -> u16
 {
     match s {
         Step::Nothing => 0,
-        Step::Load {
-            register: _,
-            object: _,
-            window: _,
-        } => 8,
-        Step::Store {
-            register: _,
-            window: _,
-        } => 7,
+        Step::Load { .. } => 8,
+        Step::Store { .. } => 7,
         Step::Whole(whole) => whole_len(edition, whole),
     }
 }
@@ -134,8 +79,7 @@ fn put_window(out: &mut [u8], at: usize, w: Window)
     requires { at + 6 ≤ length out.old }
     ensures { out.new ≡ sets out.old at (window_bytes w) }
 {
-    let view = w.view;
-    writing::put_pair(out, at, w.layout, codes::viewing_code(view));
+    writing::put_pair(out, at, w.layout, codes::viewing_code(w.view));
     numbers::put_u32(out, at + 2, w.base);
 }
 
@@ -182,7 +126,6 @@ fn put_vector_operands(out: &mut [u8], at: usize, v: VectorStep)
     requires { at + 8 ≤ length out.old }
     ensures { out.new ≡ sets out.old at (vector_operands v) }
 {
-    let layout = v.layout;
     put_four(out, at, v.result, v.kind, v.input, v.interpretation);
     put_four(
         out,
@@ -190,7 +133,7 @@ fn put_vector_operands(out: &mut [u8], at: usize, v: VectorStep)
         v.matrix,
         v.rows,
         v.columns,
-        codes::memory_layout_code(layout),
+        codes::memory_layout_code(v.layout),
     );
 }
 
@@ -256,6 +199,7 @@ fn put_step_content(out: &mut [u8], at: usize, edition: u8, s: Step)
 }
 
 // Returns the place after the field.
+#[tactic(auto, using(fields::specs::Laws::Lengths::length_field, fields::specs::Laws::Puts::field_put))]
 pub fn put_step(out: &mut [u8], at: usize, edition: u8, s: Step) -> usize
     requires { at + length (step_field edition s) ≤ length out.old }
     ensures { (result ≡ at + length (step_field edition s)) × (out.new ≡ sets out.old at (step_field edition s)) }
