@@ -7,10 +7,8 @@ use Rattle.sheet_writer.proofs.lengths.steps_len.Goals as goal
 
 pub sum-requires-clause-fits : goal.sum-requires-clause-fits
 sum-requires-clause-fits c =
-    let a = c.args in
-    sum_fits _ (λ (x : Cell). step_field a.edition x.step) 65538 a.count a.cs c.map.result (omega arith) (cc) (λ x r q k. let e = length_field (step_tag x.now.step) (step_bytes a.edition x.now.step) in search rules) _ (omega arith)
+    sum_fits _ (λ (x : Cell). step_field c.args.edition x.step) 65538 c.args.count c.args.cs c.map.result (omega arith) (cc) (λ x r q k. let e = length_field (step_tag x.now.step) (step_bytes c.args.edition x.now.step) in search rules) _ (omega arith)
 
 pub returns : goal.returns
 returns c =
-    let a = c.args in
-    sum_is _ (λ (x : Cell). step_field a.edition x.step) 65538 a.count a.cs c.map.result (omega arith) (cc) (λ x r q k. let e = length_field (step_tag x.now.step) (step_bytes a.edition x.now.step) in search rules) _ _ c.sum.ensures.ran
+    sum_is _ (λ (x : Cell). step_field c.args.edition x.step) 65538 c.args.count c.args.cs c.map.result (omega arith) (cc) (λ x r q k. let e = length_field (step_tag x.now.step) (step_bytes c.args.edition x.now.step) in search rules) _ _ c.sum.ensures.ran
