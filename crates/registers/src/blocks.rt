@@ -7,6 +7,7 @@ ghost use Rattle.registers.specs.Grids.{block_on};
 use sheet::sizes::PLACES;
 
 // A row of a block: elements of a list from a place on, a step apart.
+#[tactic(auto, unfolding(numbers::specs::Lists::line))]
 fn spread_row(
     out: &mut [u32; PLACES],
     start: usize,
