@@ -3,7 +3,7 @@
 
 pub mod blocks;
 
-ghost use Rattle.std.specs.Prelude.{◌≡◌, ℕ, ◌+◌, ◌-◌, ◌*◌, ◌<◌, ◌≤◌, get_or};
+ghost use Rattle.std.specs.Prelude.{◌≡◌, ℕ, ◌+◌, ◌*◌, ◌<◌, ◌≤◌, get_or};
 ghost use Rattle.sheet.specs.Sizes.{register_count, matrix_places};
 ghost use Rattle.registers.specs.Types.{no_type, the_type, is_empty, with_type};
 ghost use Rattle.registers.specs.Registers.{place_of, element_of, with_element_of, filled_elements, empty_registers};
