@@ -4,12 +4,11 @@ use mathlib.Core.List.{List}
 use mathlib.Core.Bool.{true}
 use Prim.Native.Nat.{ℕ, zero, suc, ◌+◌, ◌*◌, ◌%◌, ◌^◌, ◌<◌, ◌≤◌}
 use native.Mathlib.Nat.{add_comm, zero-add}
-use native.Mathlib.Numerals.{add-one}
 use native.Mathlib.Omega.{arith}
 use lib.IntN.{ℤ, ◌*ℤ◌}
 use lib.ListN.{length, get_or}
 use Rattle.numbers.specs.Lists.{line}
-use Rattle.numbers.specs.Laws.Lines.{line_inside}
+use Rattle.numbers.specs.Laws.Lines.{line_inside, line_same}
 use Rattle.numbers.specs.Remainders.{remainder}
 use Rattle.kinds.specs.Laws.Modulo.{dot_more, sum_more}
 use Rattle.kinds.specs.Sums.{sum_z}
@@ -24,11 +23,6 @@ use Rattle.products.specs.Laws.Shapes.{inner_agree, columns_agree}
 use Rattle.products.specs.Multiplying.{value_at, product_at, multiplied}
 use Rattle.products.specs.Shapes.{multiply_agrees}
 use Rattle.products.specs.Residues.{residue_at, residues_on, dot_of, dot_plus}
-
--- one more product
-pub dot_next : (x y : ℕ → ℕ) (t : ℕ) {s a b : ℕ} → s ≡ dot_of x y t → a ≡ x t → b ≡ y t → (s + a * b) % 2 ^ 32 ≡ dot_of x y (t + 1)
-unfolding dot_of
-dot_next x y t e f g = (λ i. (e i + f i * g i) % 2 ^ 32) ∙ rw add-one
 
 -- equal factors give equal sums
 dot_same : (x z y : ℕ → ℕ) (n : ℕ) → ((t : ℕ) → t < n → x t ≡ z t) → dot_of x y n ≡ dot_of z y n
@@ -68,6 +62,17 @@ plus_same es a ta y c tc i j first base f g =
     let at : first + i * ta.columns + t ≡ place_of a (i * ta.columns + t) = omega arith in
     ap (λ (k : ℕ). remainder (value ta.kind (get_or es k 0)) (2 ^ 32)) at))
     (ap (λ (k : ℕ). remainder (value tc.kind (get_or es k 0)) (2 ^ 32)) own)
+
+-- what the code lists of a matrix
+pub residues_listed : (d es : List ℕ) (s : ℕ) (t : MatrixType) {first count : ℕ} → first ≡ place_of s 0 → count ≡ t.rows * t.columns
+    → line d 0 (λ (e : ℕ). remainder (value t.kind (get_or es (first + e) 0)) (2 ^ 32)) count ≡ residues_on d es s t
+unfolding residues_on
+residues_listed d es s t {first} f g =
+    rw g
+    (line_same d 0 (λ (e : ℕ). remainder (value t.kind (get_or es (first + e) 0)) (2 ^ 32)) (residue_at es s t) (t.rows * t.columns)
+    (λ e l.
+    let at : first + e ≡ place_of s e = omega arith in
+    ap (λ (k : ℕ). remainder (value t.kind (get_or es k 0)) (2 ^ 32)) at))
 
 residues_at : (d es : List ℕ) (s : ℕ) (t : MatrixType) → length d ≡ matrix_places → SizedType t → (e : ℕ) → e < t.rows * t.columns
     → get_or (residues_on d es s t) e 0 ≡ residue_at es s t e

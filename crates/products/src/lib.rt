@@ -3,7 +3,7 @@
 
 pub mod shapes;
 
-ghost use Rattle.std.specs.Prelude.{◌≡◌, ℕ, ◌+◌, ◌*◌, ◌%◌, ◌^◌, ◌<◌, ◌≤◌, true, get_or};
+ghost use Rattle.std.specs.Prelude.{◌≡◌, ℕ, ◌+◌, ◌*◌, ◌%◌, ◌^◌, ◌<◌, ◌≤◌, true, length, get_or};
 ghost use Rattle.numbers.specs.Lists.{line};
 ghost use Rattle.numbers.specs.Remainders.{remainder};
 ghost use Rattle.kinds.specs.Values.{value};
@@ -12,61 +12,37 @@ ghost use Rattle.registers.specs.Sized.{SizedType};
 ghost use Rattle.registers.specs.Grids.{block_on};
 ghost use Rattle.products.specs.Multiplying.{multiplied};
 ghost use Rattle.products.specs.Shapes.{multiply_agrees};
-ghost use Rattle.products.specs.Residues.{residues_on, dot_of, dot_plus};
+ghost use Rattle.products.specs.Residues.{dot_of, dot_plus};
 
 use registers::MatrixType;
 use sheet::sizes::{PLACES, SIDE};
 
-const WRAP: u64 = 4294967296;
-
-fn wide(x: u32) -> u64
-    ensures { (result ≡ x) × (result < 2 ^ 32) }
+// The values of elements that stand from a place on, in the first places of a list.
+#[tactic(auto, unfolding(numbers::specs::Lists::line))]
+fn residues(out: &mut [u32], elements: &[u32], kind: u8, first: usize, count: usize)
+    requires { (count ≤ length out.old) × (count ≤ matrix_places) × (first ≤ 2 * element_places) }
+    ensures { out.new ≡ line out.old 0 (λ (e : ℕ). remainder (value kind (get_or elements.now (first + e) 0)) (2 ^ 32)) count }
 {
-    x as u64
-}
-
-// The values of a matrix by element number.
-fn residues(out: &mut [u32; PLACES], elements: &[u32], source: u8, t: MatrixType)
-    requires { (source < register_count) × SizedType t }
-    ensures { out.new ≡ residues_on out.old elements.now source t }
-{
-    let count = registers::element_count(t);
-    let first = registers::place_of(source, 0);
-    let kind = t.kind;
-    let mut e = 0;
-    while e < count {
+    for e in 0..count {
         out[e] = kinds::residue(kind, numbers::at(elements, first + e));
-        e += 1;
-    }
-}
-
-// The values of a row, whose elements stand from a place on.
-fn residue_row(out: &mut [u32; SIDE], elements: &[u32], kind: u8, first: usize, count: usize)
-    requires { (count ≤ side_places) × (first ≤ 2 * element_places) }
-    ensures { out.new ≡ line out.old 0 (λ (t : ℕ). remainder (value kind (get_or elements.now (first + t) 0)) (2 ^ 32)) count }
-{
-    let mut t = 0;
-    while t < count {
-        out[t] = kinds::residue(kind, numbers::at(elements, first + t));
-        t += 1;
     }
 }
 
 // The sum of products of a row and a column of y from q on, whose elements are n apart.
-fn dot(x: &[u32; SIDE], y: &[u32; PLACES], q: usize, n: usize, count: usize) -> u64
+#[tactic(auto, unfolding(crate::specs::Residues::dot_of))]
+fn dot(x: &[u32; SIDE], y: &[u32; PLACES], q: usize, n: usize, count: usize) -> u32
     requires { (count ≤ side_places) × (n ≤ side_places) × (q < n) }
-    ensures { (result ≡ dot_of (λ (t : ℕ). get_or x.now t 0) (λ (t : ℕ). get_or y.now (q + t * n) 0) count) × (result < 2 ^ 32) }
+    ensures { result ≡ dot_of (λ (t : ℕ). get_or x.now t 0) (λ (t : ℕ). get_or y.now (q + t * n) 0) count }
 {
-    let mut sum: u64 = 0;
-    let mut t = 0;
-    while t < count {
-        sum = (sum + wide(x[t]) * wide(y[q + t * n])) % WRAP;
-        t += 1;
+    let mut sum: u32 = 0;
+    for t in 0..count {
+        sum = sum.wrapping_add(x[t].wrapping_mul(y[q + t * n]));
     }
     sum
 }
 
 // A row of a block: the row x times each of n columns of y, plus the elements of a kind from a place on.
+#[tactic(auto, unfolding(numbers::specs::Lists::line))]
 fn product_row(
     out: &mut [u32; PLACES],
     start: usize,
@@ -81,12 +57,9 @@ fn product_row(
     requires { (start + n ≤ matrix_places) × (from ≤ 2 * element_places) × (inner ≤ side_places) × (n ≤ side_places) }
     ensures { out.new ≡ line out.old start (λ (j : ℕ). (dot_of (λ (t : ℕ). get_or x.now t 0) (λ (t : ℕ). get_or y.now (j + t * n) 0) inner + remainder (value kind (get_or elements.now (from + j) 0)) (2 ^ 32)) % 2 ^ 32) n }
 {
-    let mut j = 0;
-    while j < n {
-        let sum = dot(x, y, j, n, inner)
-            + wide(kinds::residue(kind, numbers::at(elements, from + j)));
-        out[start + j] = (sum % WRAP) as u32;
-        j += 1;
+    for j in 0..n {
+        let added = kinds::residue(kind, numbers::at(elements, from + j));
+        out[start + j] = dot(x, y, j, n, inner).wrapping_add(added);
     }
 }
 
@@ -103,29 +76,24 @@ fn product(
     requires { ((a < register_count) × SizedType ta) × ((c < register_count) × SizedType tc) }
     ensures { out.new ≡ block_on out.old tc.rows tc.columns (dot_plus elements.now a ta y.now c tc) }
 {
-    let rows = tc.rows as usize;
-    let columns = tc.columns as usize;
-    let inner = ta.columns as usize;
+    let columns = usize::from(tc.columns);
+    let inner = usize::from(ta.columns);
     let first = registers::place_of(a, 0);
     let base = registers::place_of(c, 0);
-    let kind = ta.kind;
-    let added = tc.kind;
     let mut row = [0u32; SIDE];
-    let mut i = 0;
-    while i < rows {
-        residue_row(&mut row, elements, kind, first + i * inner, inner);
+    for i in 0..usize::from(tc.rows) {
+        residues(&mut row, elements, ta.kind, first + i * inner, inner);
         product_row(
             out,
             i * columns,
             &row,
             y,
             elements,
-            added,
+            tc.kind,
             base + i * columns,
             inner,
             columns,
         );
-        i += 1;
     }
 }
 
@@ -143,6 +111,8 @@ pub fn multiply_block(
     ensures { out.new ≡ block_on out.old tc.rows tc.columns (multiplied elements.now a ta b tb c tc) }
 {
     let mut y = [0u32; PLACES];
-    residues(&mut y, elements, b, tb);
+    let first = registers::place_of(b, 0);
+    let count = registers::element_count(tb);
+    residues(&mut y, elements, tb.kind, first, count);
     product(out, elements, a, ta, &y, c, tc);
 }

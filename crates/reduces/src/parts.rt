@@ -8,6 +8,7 @@ use sheet::Combine;
 use sheet::sizes::{PLACES, SIDE};
 
 // The folds of `count` parts whose first elements are `apart` places apart, each of `later` more elements in steps.
+#[tactic(auto, unfolding(numbers::specs::Lists::line, crate::specs::Parts::folds, crate::specs::Parts::no_folds))]
 pub fn fold_parts(
     elements: &[u32],
     kind: u8,
@@ -22,15 +23,14 @@ pub fn fold_parts(
     ensures { result ≡ folds elements.now kind combine first apart step later count }
 {
     let mut out = [0u32; SIDE];
-    let mut k = 0;
-    while k < count {
+    for k in 0..count {
         out[k] = combines::fold(elements, kind, combine, first + k * apart, step, later);
-        k += 1;
     }
     out
 }
 
 // Two elements at a place and the two a row of n below them, combined.
+#[tactic(auto, unfolding(combines::specs::Combining::folded))]
 fn quad(elements: &[u32], kind: u8, combine: Combine, n: usize, first: usize) -> u32
     requires { (n ≤ side_places) × (first < 2 ^ 16) }
     ensures { result ≡ quad elements.now kind combine n first }
@@ -46,6 +46,7 @@ fn quad(elements: &[u32], kind: u8, combine: Combine, n: usize, first: usize) ->
 }
 
 // A row of a block: the blocks of 2 by 2 from a place on.
+#[tactic(auto, unfolding(numbers::specs::Lists::line))]
 pub fn quad_row(
     out: &mut [u32; PLACES],
     start: usize,
@@ -59,9 +60,7 @@ pub fn quad_row(
     requires { (start + columns ≤ matrix_places) × (n ≤ side_places) × (first ≤ 2 * element_places) }
     ensures { out.new ≡ line out.old start (λ (j : ℕ). quad elements.now kind combine n (first + 2 * j)) columns }
 {
-    let mut j = 0;
-    while j < columns {
+    for j in 0..columns {
         out[start + j] = quad(elements, kind, combine, n, first + 2 * j);
-        j += 1;
     }
 }

@@ -1,6 +1,5 @@
 // When a reduce is refused, and the type that it makes.
 ghost use Rattle.std.specs.Prelude.{◌≡◌, ◌*◌, eqb};
-ghost use Rattle.sheet.specs.declared.ReduceMode.TheVariants.{TwoByTwo};
 ghost use Rattle.reduces.specs.Shapes.{reduce_agrees, reduce_refusal, reduced_type};
 
 use refusals::{EMPTY_REGISTER, SHAPES_DISAGREE};
@@ -11,18 +10,10 @@ use sheet::ReduceMode;
 fn twice(side: u8, half: u8) -> bool
     ensures { result ≡ eqb side (2 * half) }
 {
-    side as u16 == 2 * (half as u16)
+    u16::from(side) == 2 * u16::from(half)
 }
 
-fn halved(t: MatrixType, rows: u8, columns: u8) -> bool
-    ensures { result ≡ reduce_agrees t rows columns TwoByTwo }
-{
-    if !twice(t.rows, rows) {
-        return false;
-    }
-    twice(t.columns, columns)
-}
-
+#[tactic(auto, unfolding(numbers::specs::Choice::both, numbers::specs::Choice::pick))]
 fn reduce_agrees(t: MatrixType, rows: u8, columns: u8, mode: ReduceMode) -> bool
     ensures { result ≡ reduce_agrees t rows columns mode }
 {
@@ -30,28 +21,25 @@ fn reduce_agrees(t: MatrixType, rows: u8, columns: u8, mode: ReduceMode) -> bool
         ReduceMode::Row => rows == t.rows,
         ReduceMode::Column => columns == t.columns,
         ReduceMode::Both => true,
-        ReduceMode::TwoByTwo => halved(t, rows, columns),
+        ReduceMode::TwoByTwo => twice(t.rows, rows) && twice(t.columns, columns),
     }
 }
 
+#[tactic(auto, using(numbers::specs::Laws::Choice::calls), unfolding(crate::specs::Shapes::reduce_refusal))]
 pub fn reduce_refusal(t: MatrixType, rows: u8, columns: u8, mode: ReduceMode) -> u8
     ensures { result ≡ reduce_refusal t rows columns mode }
 {
     if registers::is_empty(t) {
-        return EMPTY_REGISTER;
+        EMPTY_REGISTER
+    } else if reduce_agrees(t, rows, columns, mode) {
+        0
+    } else {
+        SHAPES_DISAGREE
     }
-    if reduce_agrees(t, rows, columns, mode) {
-        return 0;
-    }
-    SHAPES_DISAGREE
 }
 
 pub fn reduced_type(t: MatrixType, rows: u8, columns: u8) -> MatrixType
     ensures { result ≡ reduced_type t rows columns }
 {
-    MatrixType {
-        kind: t.kind,
-        rows,
-        columns,
-    }
+    MatrixType { rows, columns, ..t }
 }

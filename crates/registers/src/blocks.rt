@@ -7,6 +7,7 @@ ghost use Rattle.registers.specs.Grids.{block_on};
 use sheet::sizes::PLACES;
 
 // A row of a block: elements of a list from a place on, a step apart.
+#[tactic(auto, unfolding(numbers::specs::Lists::line))]
 fn spread_row(
     out: &mut [u32; PLACES],
     start: usize,
@@ -18,10 +19,8 @@ fn spread_row(
     requires { (start + columns ≤ matrix_places) × (first < 2 ^ 16) × (across ≤ side_places) }
     ensures { out.new ≡ line out.old start (λ (j : ℕ). get_or from.now (first + j * across) 0) columns }
 {
-    let mut j = 0;
-    while j < columns {
+    for j in 0..columns {
         out[start + j] = numbers::at(from, first + j * across);
-        j += 1;
     }
 }
 
@@ -38,10 +37,8 @@ pub fn spread(
     requires { (first ≤ element_places) × (down ≤ side_places) × (across ≤ side_places) × (rows ≤ side_places) × (columns ≤ side_places) }
     ensures { out.new ≡ block_on out.old rows columns (λ (i j : ℕ). get_or from.now (first + i * down + j * across) 0) }
 {
-    let mut i = 0;
-    while i < rows {
+    for i in 0..rows {
         spread_row(out, i * columns, from, first + i * down, across, columns);
-        i += 1;
     }
 }
 
@@ -50,6 +47,5 @@ pub fn fill_block(out: &mut [u32; PLACES], value: u32, rows: usize, columns: usi
     requires { (rows ≤ side_places) × (columns ≤ side_places) }
     ensures { out.new ≡ block_on out.old rows columns (λ (i j : ℕ). value) }
 {
-    let one = [value; 1];
-    spread(out, &one, 0, 0, 0, rows, columns)
+    out[..rows * columns].fill(value);
 }

@@ -3,7 +3,7 @@
 
 pub mod blocks;
 
-ghost use Rattle.std.specs.Prelude.{◌≡◌, ℕ, ◌+◌, ◌-◌, ◌*◌, ◌<◌, ◌≤◌, get_or};
+ghost use Rattle.std.specs.Prelude.{◌≡◌, ℕ, ◌+◌, ◌*◌, ◌<◌, ◌≤◌, get_or};
 ghost use Rattle.sheet.specs.Sizes.{register_count, matrix_places};
 ghost use Rattle.registers.specs.Types.{no_type, the_type, is_empty, with_type};
 ghost use Rattle.registers.specs.Registers.{place_of, element_of, with_element_of, filled_elements, empty_registers};
@@ -39,6 +39,7 @@ pub fn no_type() -> MatrixType
 }
 
 // The types of empty registers.
+#[tactic(auto, unfolding(crate::specs::Registers::empty_registers))]
 pub fn empty_types() -> [MatrixType; REGISTERS]
     ensures { result ≡ empty_registers.types }
 {
@@ -46,6 +47,7 @@ pub fn empty_types() -> [MatrixType; REGISTERS]
 }
 
 // The elements of empty registers: one array of zeros.
+#[tactic(auto, unfolding(crate::specs::Registers::empty_registers))]
 pub fn empty_elements(elements: &mut [u32; ELEMENTS])
     ensures { elements.new ≡ empty_registers.elements }
 {
@@ -62,8 +64,7 @@ pub fn the_type(types: [MatrixType; REGISTERS], register: u8) -> MatrixType
     requires { register < register_count }
     ensures { result ≡ the_type types register }
 {
-    let at = register as usize;
-    types[at]
+    types[usize::from(register)]
 }
 
 pub fn with_type(
@@ -74,9 +75,8 @@ pub fn with_type(
     requires { register < register_count }
     ensures { result ≡ with_type types register t }
 {
-    let at = register as usize;
     let mut out = types;
-    out[at] = t;
+    out[usize::from(register)] = t;
     out
 }
 
@@ -85,7 +85,7 @@ pub fn element_count(t: MatrixType) -> usize
     requires { SizedType t }
     ensures { (result ≡ t.rows * t.columns) × (result ≤ matrix_places) }
 {
-    (t.rows as usize) * (t.columns as usize)
+    usize::from(t.rows) * usize::from(t.columns)
 }
 
 // Where an element of a register stands.
@@ -93,7 +93,7 @@ pub fn place_of(register: u8, element: usize) -> usize
     requires { (register < register_count) × (element < matrix_places) }
     ensures { result ≡ place_of register element }
 {
-    PLACES * (register as usize) + element
+    PLACES * usize::from(register) + element
 }
 
 pub fn element_of(elements: &[u32; ELEMENTS], register: u8, element: usize) -> u32
@@ -123,12 +123,8 @@ pub fn put_block(
     ensures { elements.new ≡ written_to elements.old register (λ (e : ℕ). get_or block.now e 0) count old }
 {
     let base = place_of(register, 0);
-    let mut e = 0;
-    while e < count {
-        elements[base + e] = block[e];
-        e += 1;
-    }
-    clear_elements(elements, register, count, old);
+    elements[base..base + count].copy_from_slice(&block[..count]);
+    fill_elements(elements, register, count, old.saturating_sub(count), 0);
 }
 
 // The same with the elements of another register, or of the same.
@@ -144,22 +140,8 @@ pub fn copy_elements(
 {
     let to = place_of(register, 0);
     let from = place_of(source, 0);
-    let mut e = 0;
-    while e < count {
-        elements[to + e] = elements[from + e];
-        e += 1;
-    }
-    clear_elements(elements, register, count, old);
-}
-
-// Elements of a register from the first on, if it is before the end, made 0.
-fn clear_elements(elements: &mut [u32; ELEMENTS], register: u8, first: usize, end: usize)
-    requires { (register < register_count) × (first ≤ matrix_places) × (end ≤ matrix_places) }
-    ensures { elements.new ≡ filled_elements elements.old register first (end - first) 0 }
-{
-    if first < end {
-        fill_elements(elements, register, first, end - first, 0);
-    }
+    elements.copy_within(from..from + count, to);
+    fill_elements(elements, register, count, old.saturating_sub(count), 0);
 }
 
 // Elements of a register, from the first on, given a value.
@@ -173,9 +155,6 @@ pub fn fill_elements(
     requires { (register < register_count) × (first + count ≤ matrix_places) }
     ensures { elements.new ≡ filled_elements elements.old register first count value }
 {
-    let mut i = 0;
-    while i < count {
-        put_element_of(elements, register, first + i, value);
-        i += 1;
-    }
+    let start = place_of(register, 0) + first;
+    elements[start..start + count].fill(value);
 }

@@ -17,20 +17,18 @@ use registers::MatrixType;
 use sheet::VectorStep;
 use sheet::sizes::PLACES;
 
-// Sums wrap at 32 bits.
-const WRAP: u64 = 4294967296;
-
 // By the type of the input register and the memory's length: 7, 8 or 14.
+#[tactic(auto, using(numbers::specs::Laws::Choice::calls), unfolding(crate::specs::Refusals::vector_refusal))]
 pub fn vector_refusal(t: MatrixType, memory: usize, v: VectorStep) -> Stop
     ensures { result ≡ vector_refusal t memory v }
 {
     if registers::is_empty(t) {
-        return stop_at(EMPTY_REGISTER, 0);
+        stop_at(EMPTY_REGISTER, 0)
+    } else if stops::input_agrees(t, v) {
+        stops::memory_refusal(v, memory)
+    } else {
+        stop_at(SHAPES_DISAGREE, 0)
     }
-    if stops::input_agrees(t, v) {
-        return stops::memory_refusal(v, memory);
-    }
-    stop_at(SHAPES_DISAGREE, 0)
 }
 
 pub fn vector_type(v: VectorStep) -> MatrixType

@@ -9,16 +9,10 @@ ghost use Rattle.vectors.specs.Results.{bias_at, result_at};
 ghost use Rattle.vectors.specs.Within.{LineInside, Inside};
 ghost use Rattle.vectors.specs.Residues.{line_to, listed};
 
-use super::{WRAP, places};
+use super::places;
 use places::BIAS_SIZE;
 use sheet::VectorStep;
 use sheet::sizes::{PLACES, SIDE};
-
-fn wide(x: u32) -> u64
-    ensures { (result ≡ x) × (result < 2 ^ 32) }
-{
-    x as u64
-}
 
 // Elements of a kind, `across` bytes apart from `first` on, times the components: the sum modulo 2^32.
 fn dot(
@@ -28,29 +22,29 @@ fn dot(
     kind: u8,
     components: &[u32; SIDE],
     columns: usize,
-) -> u64
+) -> u32
     requires { (columns ≤ side_places) × LineInside first across (bytes_of kind) columns (length memory.now) }
-    ensures { (result ≡ remainder (line_to memory.now first across kind (listed components.now) columns) (2 ^ 32)) × (result < 2 ^ 32) }
+    ensures { result ≡ remainder (line_to memory.now first across kind (listed components.now) columns) (2 ^ 32) }
 {
     let size = kinds::bytes(kind);
-    let mut sum: u64 = 0;
-    let mut c = 0;
-    while c < columns {
+    let mut sum: u32 = 0;
+    for c in 0..columns {
         let x = memory::element_at(memory, first + c * across, size);
-        sum = (sum + wide(kinds::residue(kind, x)) * wide(components[c])) % WRAP;
-        c += 1;
+        sum = sum.wrapping_add(kinds::residue(kind, x).wrapping_mul(components[c]));
     }
     sum
 }
 
+#[tactic(auto, using(numbers::specs::Laws::Choice::calls), unfolding(crate::specs::Results::bias_at))]
 fn bias_at(memory: &[u8], v: VectorStep, row: u16) -> u32
     requires { v.biased ≡ true → bias_byte v row + bias_size ≤ length memory.now }
     ensures { result ≡ bias_at memory.now v row }
 {
     if v.biased {
-        return memory::element_at(memory, places::bias_byte(v, row), BIAS_SIZE);
+        memory::element_at(memory, places::bias_byte(v, row), BIAS_SIZE)
+    } else {
+        0
     }
-    0
 }
 
 // Row `row` of the matrix times the components, plus the bias.
@@ -60,26 +54,17 @@ fn result_at(memory: &[u8], v: VectorStep, components: &[u32; SIDE], row: u16) -
 {
     let first = places::row_byte(v, row);
     let across = places::column_step(v);
-    let sum = dot(
-        memory,
-        first,
-        across,
-        v.matrix,
-        components,
-        v.columns as usize,
-    );
-    let bias = wide(bias_at(memory, v, row));
-    ((sum + bias) % WRAP) as u32
+    let columns = usize::from(v.columns);
+    let sum = dot(memory, first, across, v.matrix, components, columns);
+    sum.wrapping_add(bias_at(memory, v, row))
 }
 
+#[tactic(auto, unfolding(numbers::specs::Lists::line))]
 pub fn result_block(out: &mut [u32; PLACES], memory: &[u8], v: VectorStep, components: &[u32; SIDE])
     requires { (v.rows ≤ side_places) × (v.columns ≤ side_places) × Inside v (length memory.now) }
     ensures { out.new ≡ block_on out.old v.rows 1 (λ (i j : ℕ). result_at memory.now v (listed components.now) i) }
 {
-    let rows = v.rows as usize;
-    let mut i = 0;
-    while i < rows {
-        out[i] = result_at(memory, v, components, i as u16);
-        i += 1;
+    for i in 0..v.rows {
+        out[usize::from(i)] = result_at(memory, v, components, u16::from(i));
     }
 }

@@ -1,6 +1,6 @@
 // When a vector step is refused.
-ghost use Rattle.std.specs.Prelude.{◌≡◌, ◌-◌};
-ghost use Rattle.vectors.specs.Refusals.{input_agrees, first_outside, memory_refusal};
+ghost use Rattle.std.specs.Prelude.{◌≡◌};
+ghost use Rattle.vectors.specs.Refusals.{input_agrees, memory_refusal};
 ghost use Rattle.vectors.specs.Within.{last_end, last_inside};
 
 use super::places;
@@ -10,6 +10,7 @@ use registers::MatrixType;
 use sheet::VectorStep;
 
 // The input is K by 1, or of a packed interpretation u32 words, four components each.
+#[tactic(auto, unfolding(crate::specs::Refusals::input_agrees, numbers::specs::Choice::both, numbers::specs::Choice::pick))]
 pub fn input_agrees(t: MatrixType, v: VectorStep) -> bool
     ensures { result ≡ input_agrees t v }
 {
@@ -17,69 +18,39 @@ pub fn input_agrees(t: MatrixType, v: VectorStep) -> bool
         return false;
     }
     if interpretations::is_packed(v.interpretation) {
-        if t.kind != kinds::U32 {
-            return false;
-        }
-        return t.rows as u16 == (v.columns as u16 + 3) / 4;
+        t.kind == kinds::U32 && u16::from(t.rows) == u16::from(v.columns).div_ceil(4)
+    } else {
+        t.rows == v.columns
     }
-    t.rows == v.columns
-}
-
-fn one_less(x: u8) -> u16
-    ensures { result ≡ x - 1 }
-{
-    if 0 < x {
-        return x as u16 - 1;
-    }
-    0
 }
 
 // The byte past those of the last matrix element.
+#[tactic(auto, using(kinds::specs::Laws::Widths::bytes_high), unfolding(crate::specs::Within::last_end))]
 fn last_end(v: VectorStep) -> usize
     ensures { result ≡ last_end v }
 {
-    let last = places::matrix_byte(v, one_less(v.rows), one_less(v.columns));
-    last + kinds::bytes(v.matrix)
+    let row = u16::from(v.rows.saturating_sub(1));
+    let column = u16::from(v.columns.saturating_sub(1));
+    places::matrix_byte(v, row, column) + kinds::bytes(v.matrix)
 }
 
 // The last element of the matrix and the last of the bias lie in memory: then all do, and none is looked for.
+#[tactic(auto, unfolding(crate::specs::Within::last_inside, numbers::specs::Choice::both, numbers::specs::Choice::pick))]
 fn last_inside(v: VectorStep, memory: usize) -> bool
     ensures { result ≡ last_inside v memory }
 {
-    if memory < last_end(v) {
-        return false;
-    }
-    if v.biased {
-        return places::bias_byte(v, v.rows as u16) <= memory;
-    }
-    true
+    last_end(v) <= memory && (!v.biased || places::bias_byte(v, u16::from(v.rows)) <= memory)
 }
 
-// The first element outside memory, or the number of elements.
-fn first_outside(v: VectorStep, memory: usize) -> u16
-    ensures { result ≡ first_outside v memory }
-{
-    let count = places::elements_of(v);
-    let mut e = 0;
-    while e < count {
-        if memory < places::end_of(v, e) {
-            return e;
-        }
-        e += 1;
-    }
-    e
-}
-
-// Refusal 14.
+// Refusal 14, at the first element outside memory.
 pub fn memory_refusal(v: VectorStep, memory: usize) -> Stop
     ensures { result ≡ memory_refusal v memory }
 {
     if last_inside(v, memory) {
         return stop_at(0, 0);
     }
-    let e = first_outside(v, memory);
-    if e < places::elements_of(v) {
-        return stop_at(OUTSIDE_MEMORY, e as usize);
+    match (0..places::elements_of(v)).find(|e| memory < places::end_of(v, *e)) {
+        Some(e) => stop_at(OUTSIDE_MEMORY, usize::from(e)),
+        None => stop_at(0, 0),
     }
-    stop_at(0, 0)
 }

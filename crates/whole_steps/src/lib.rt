@@ -30,19 +30,20 @@ fn whole_block(
 {
     match step {
         WholeStep::Fill {
-            register: _,
             rows,
             columns,
-            kind: _,
             value,
-        } => registers::blocks::fill_block(out, value, rows as usize, columns as usize),
+            ..
+        } => {
+            registers::blocks::fill_block(out, value, usize::from(rows), usize::from(columns));
+        }
         WholeStep::Reduce {
-            result: _,
             source,
             rows,
             columns,
             mode,
             combine,
+            ..
         } => {
             let t = registers::the_type(types, source);
             reduces::reduce_block(
@@ -52,15 +53,15 @@ fn whole_block(
                 t,
                 mode,
                 combine,
-                rows as usize,
-                columns as usize,
+                usize::from(rows),
+                usize::from(columns),
             );
         }
-        WholeStep::Transpose { result: _, source } => {
+        WholeStep::Transpose { source, .. } => {
             let t = registers::the_type(types, source);
             transposes::transpose_block(out, elements, source, t);
         }
-        WholeStep::MultiplyAdd { result: _, a, b, c } => {
+        WholeStep::MultiplyAdd { a, b, c, .. } => {
             let ta = registers::the_type(types, a);
             let tb = registers::the_type(types, b);
             let tc = registers::the_type(types, c);

@@ -23,29 +23,22 @@ pub fn whole_refusal(
     ensures { result ≡ whole_refusal edition types memory step }
 {
     match step {
-        WholeStep::Fill {
-            register: _,
-            rows: _,
-            columns: _,
-            kind: _,
-            value: _,
-        } => stop_at(0, 0),
+        WholeStep::Fill { .. } => stop_at(0, 0),
         WholeStep::Reduce {
-            result: _,
             source,
             rows,
             columns,
             mode,
-            combine: _,
+            ..
         } => {
             let t = registers::the_type(types, source);
             stop_at(reduce_refusal(t, rows, columns, mode), 0)
         }
-        WholeStep::Transpose { result: _, source } => {
+        WholeStep::Transpose { source, .. } => {
             let t = registers::the_type(types, source);
             stop_at(transposes::transpose_refusal(t), 0)
         }
-        WholeStep::MultiplyAdd { result: _, a, b, c } => {
+        WholeStep::MultiplyAdd { a, b, c, .. } => {
             let ta = registers::the_type(types, a);
             let tb = registers::the_type(types, b);
             let tc = registers::the_type(types, c);

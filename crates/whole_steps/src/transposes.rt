@@ -9,22 +9,24 @@ use refusals::EMPTY_REGISTER;
 use registers::{MatrixType, blocks};
 use sheet::sizes::PLACES;
 
+#[tactic(auto, using(numbers::specs::Laws::Choice::calls), unfolding(crate::specs::Transposing::transpose_refusal))]
 pub fn transpose_refusal(t: MatrixType) -> u8
     ensures { result ≡ transpose_refusal t }
 {
     if registers::is_empty(t) {
-        return EMPTY_REGISTER;
+        EMPTY_REGISTER
+    } else {
+        0
     }
-    0
 }
 
 pub fn transposed_type(t: MatrixType) -> MatrixType
     ensures { result ≡ transposed_type t }
 {
     MatrixType {
-        kind: t.kind,
         rows: t.columns,
         columns: t.rows,
+        ..t
     }
 }
 
@@ -32,15 +34,8 @@ pub fn transpose_block(out: &mut [u32; PLACES], elements: &[u32], source: u8, t:
     requires { (source < register_count) × SizedType t }
     ensures { out.new ≡ block_on out.old t.columns t.rows (transposed elements.now source t) }
 {
-    let rows = t.rows as usize;
-    let columns = t.columns as usize;
-    blocks::spread(
-        out,
-        elements,
-        registers::place_of(source, 0),
-        1,
-        columns,
-        columns,
-        rows,
-    );
+    let rows = usize::from(t.rows);
+    let columns = usize::from(t.columns);
+    let first = registers::place_of(source, 0);
+    blocks::spread(out, elements, first, 1, columns, columns, rows);
 }

@@ -14,28 +14,10 @@ pub fn whole_result(step: WholeStep) -> u8
     ensures { result ≡ whole_result step }
 {
     match step {
-        WholeStep::Fill {
-            register,
-            rows: _,
-            columns: _,
-            kind: _,
-            value: _,
-        } => register,
-        WholeStep::Reduce {
-            result,
-            source: _,
-            rows: _,
-            columns: _,
-            mode: _,
-            combine: _,
-        } => result,
-        WholeStep::Transpose { result, source: _ } => result,
-        WholeStep::MultiplyAdd {
-            result,
-            a: _,
-            b: _,
-            c: _,
-        } => result,
+        WholeStep::Fill { register, .. } => register,
+        WholeStep::Reduce { result, .. } => result,
+        WholeStep::Transpose { result, .. } => result,
+        WholeStep::MultiplyAdd { result, .. } => result,
         WholeStep::Vector(v) => v.result,
     }
 }
@@ -46,37 +28,29 @@ pub fn whole_type(types: [MatrixType; REGISTERS], step: WholeStep) -> MatrixType
 {
     match step {
         WholeStep::Fill {
-            register: _,
             rows,
             columns,
             kind,
-            value: _,
+            ..
         } => MatrixType {
             kind,
             rows,
             columns,
         },
         WholeStep::Reduce {
-            result: _,
             source,
             rows,
             columns,
-            mode: _,
-            combine: _,
+            ..
         } => {
             let t = registers::the_type(types, source);
             reduced_type(t, rows, columns)
         }
-        WholeStep::Transpose { result: _, source } => {
+        WholeStep::Transpose { source, .. } => {
             let t = registers::the_type(types, source);
             transposes::transposed_type(t)
         }
-        WholeStep::MultiplyAdd {
-            result: _,
-            a: _,
-            b: _,
-            c,
-        } => registers::the_type(types, c),
+        WholeStep::MultiplyAdd { c, .. } => registers::the_type(types, c),
         WholeStep::Vector(v) => vector_type(v),
     }
 }

@@ -1,31 +1,16 @@
-use mathlib.Core.Path.{◌≡◌, sym, ap, ◌∙◌}
-use mathlib.Core.List.{List}
-use Prim.Native.Nat.{ℕ, ◌-◌}
-use native.Mathlib.Omega.{arith}
-use borrow.Author.Rules.{rules}
-use Rattle.numbers.specs.Laws.Lines.{line_next}
-use Rattle.numbers.specs.Laws.Lists.{line_none}
-use Rattle.registers.specs.Registers.{filled_elements}
-use Rattle.registers.proofs.Laws.{unwritten}
+use Rattle.std.proofs.Common.{◌≡◌, ℕ, ◌+◌, ◌-◌, get_or, ap, ◌∙◌, arith}
+use Rattle.registers.specs.Registers.{filled_elements, place_of, element_of}
+use Rattle.registers.proofs.Laws.{line_is}
 use Rattle.registers.proofs.copy_elements.Goals as goal
-
-pub loop-e-init : goal.loop-e-init
-loop-e-init c = (search rules, sym (line_none _ _ _))
-
-pub loop-e-preserved : goal.loop-e-preserved
-loop-e-preserved c =
-    let a = c.args in
-    let i = c.loop-e in (
-      search rules,
-      line_next _ _ _ _ i.invariant.1
-          (unwritten a.elements.now a.register a.source i.e _ _ (search rules)
-          c.place_of-to.ensures c.place_of-from.ensures i.invariant.1),
-    )
 
 pub returns : goal.returns
 returns c =
     let a = c.args in
-    let i = c.loop-e in
-    let e : i.e ≡ a.count = omega (arith, c.loop-e-test.false) in
-    c.clear_elements.ensures
-    ∙ ap (λ (l : List ℕ). filled_elements l a.register a.count (a.old - a.count) 0) (rw (e, c.place_of-to.ensures) at i.invariant.1)
+    let w = c.copy_within.ensures.by_index in
+    let copied =
+    line_is a.elements.now c.copy_within.new.self (place_of a.register 0) (element_of a.elements.now a.source) a.count (omega arith) c.copy_within.ensures.len
+    (λ i l.
+    let at : c.place_of-from.result + (place_of a.register 0 + i - c.place_of-to.result) ≡ place_of a.source i = omega arith in
+    w.0 _ 0 (omega arith) (omega arith) ∙ ap (λ (k : ℕ). get_or a.elements.now k 0) at)
+    (λ k l. w.1 k 0 (omega arith)) (λ k l. w.2 k 0 (omega arith)) in
+    c.fill_elements.ensures ∙ (λ i. filled_elements (copied i) a.register a.count (c.saturating_sub.ensures i) 0)

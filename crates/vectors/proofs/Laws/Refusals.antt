@@ -1,11 +1,12 @@
 -- What is known of a step that is not refused, and of the element that 14 names.
 use Rattle.std.proofs.Math.Path.{◌≡◌, ap}
-use Rattle.std.proofs.Common.{◌∙◌, zero-add, arith}
-use Rattle.std.specs.Prelude.{true, ℕ, ◌<◌, ◌≤◌, ltb}
-use borrow.Author.Tests.{le-ltb, ltb-true, ltb-false}
+use Rattle.std.proofs.Common.{sym, ◌∙◌, true≢false, zero-add, arith}
+use Rattle.std.specs.Prelude.{Bool, true, false, ℕ, ◌<◌, ◌≤◌, ltb}
+use borrow.Author.Tests.{lt-ltb, le-ltb, ltb-true, ltb-false}
 use Rattle.numbers.specs.Choice.{pick}
-use Rattle.numbers.specs.Laws.Choice.{by_test}
-use Rattle.numbers.specs.Laws.First.{first_none, first_before}
+use Rattle.numbers.specs.Laws.Choice.{by_test, by_order}
+use Rattle.numbers.specs.First.{first_from}
+use Rattle.numbers.specs.Laws.First.{first_none, first_before, first_passes}
 use Rattle.refusals.specs.Refusals.{empty_register, shapes_disagree, outside_memory, stop_at}
 use Rattle.refusals.specs.declared.Stop.{Stop}
 use Rattle.sheet.specs.declared.VectorStep.{VectorStep}
@@ -17,13 +18,34 @@ use Rattle.vectors.specs.Refusals.{input_agrees, outside, first_outside, memory_
 use Rattle.vectors.specs.Within.{Inside, last_inside}
 use Rattle.vectors.proofs.Laws.Reach.{all_inside, matrix_end, bias_end, matrix_among, bias_among}
 
--- no element is outside where the last ones are inside
-pub memory_clear : (v : VectorStep) (memory : ℕ) → last_inside v memory ≡ true → memory_refusal v memory ≡ stop_at 0 0
+-- the first number below n that passes a test
+first_at : (test : ℕ → Bool) (n e : ℕ) → e < n → test e ≡ true → ((k : ℕ) → k < e → test k ≡ false) → first_from test 0 n ≡ e
+first_at test n e l here before =
+    by_order (first_from test 0 n) e
+    (λ m. absurd (true≢false (sym (first_passes test 0 n (omega arith)) ∙ before _ m)))
+    (λ m.
+    by_order e (first_from test 0 n)
+    (λ o. absurd (true≢false (sym here ∙ first_before test 0 n e (omega arith) o)))
+    (λ o. omega arith))
+
+-- the first element outside is one that is, with none before it
+pub memory_stop : (v : VectorStep) (memory e : ℕ) → e < elements_of v → outside v memory e ≡ true → ((k : ℕ) → k < e → outside v memory k ≡ false)
+    → memory_refusal v memory ≡ stop_at outside_memory e
 unfolding memory_refusal pick
-memory_clear v memory h =
-    let e : first_outside v memory ≡ elements_of v =
-    first_none (outside v memory) 0 (elements_of v) (λ i l u. all_inside v memory h i (omega arith)) ∙ zero-add (elements_of v) in
+memory_stop v memory e l here before =
+    let f : first_outside v memory ≡ e = first_at (outside v memory) (elements_of v) e l here before in
+    rw (f, lt-ltb e (elements_of v) l)
+
+-- and where there is none, the step is not refused
+pub memory_passes : (v : VectorStep) (memory : ℕ) → ((k : ℕ) → k < elements_of v → outside v memory k ≡ false) → memory_refusal v memory ≡ stop_at 0 0
+unfolding memory_refusal pick
+memory_passes v memory none =
+    let e : first_outside v memory ≡ elements_of v = first_none (outside v memory) 0 (elements_of v) (λ i l u. none i (omega arith)) ∙ zero-add (elements_of v) in
     rw (le-ltb (first_outside v memory) (elements_of v) (omega arith))
+
+-- as where the last ones are inside
+pub memory_clear : (v : VectorStep) (memory : ℕ) → last_inside v memory ≡ true → memory_refusal v memory ≡ stop_at 0 0
+memory_clear v memory h = memory_passes v memory (all_inside v memory h)
 
 -- 14 names the first element outside
 module _ (t : MatrixType) (memory : ℕ) (v : VectorStep) (e : ℕ) (h : vector_refusal t memory v ≡ stop_at outside_memory e) where

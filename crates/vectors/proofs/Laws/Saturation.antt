@@ -1,12 +1,12 @@
 -- Laws of saturation, once over the width: what it gives is in range, a value in range stays, one outside becomes the nearest, and what it is modulo 2^32.
-use Rattle.std.specs.Prelude.{◌≡◌, Bool, true, false, ℕ, ◌+◌, ◌-◌, ◌*◌, ◌/◌, ◌%◌, ◌^◌, ◌<◌, ◌≤◌, leb, ℤ, pos, negsuc}
+use Rattle.std.specs.Prelude.{◌≡◌, Bool, true, false, ℕ, ◌+◌, ◌-◌, ◌*◌, ◌/◌, ◌%◌, ◌^◌, ◌<◌, ◌≤◌, min, max, leb, ℤ, pos, negsuc}
 use Rattle.std.proofs.Common.{sym, ◌∙◌, true≢false, zero-le, pow_pos, pow_mono}
 use native.Mathlib.Omega.{arith}
 use Rattle.std.proofs.Math.IntN.{sub_ℕ}
 use Rattle.std.specs.Int.Signed.{le_z}
-use borrow.Author.Tests.{le-leb, le-ltb, leb-true, leb-false}
+use borrow.Author.Tests.{lt-leb, le-leb, le-ltb, leb-true, leb-false}
 use Rattle.numbers.specs.Choice.{pick, both}
-use Rattle.numbers.specs.Laws.Choice.{pick_case, by_test}
+use Rattle.numbers.specs.Laws.Choice.{pick_case, by_test, by_order}
 use Rattle.numbers.specs.Remainders.{remainder}
 use Rattle.kinds.specs.Widths.{width}
 use Rattle.kinds.specs.Values.{signed, negative, taken, value}
@@ -140,6 +140,15 @@ module _ (a p low high : ℕ) (l : p ≤ 2 ^ 32) (m : low ≤ 2 ^ 32) where
   unfolding clamped
   between_ends =
       pick_remainder _ _ _ _ _ _ low_test (pick_remainder _ _ _ _ _ _ high_test raised_mod high_mod) low_mod
+
+-- the nearest number of a range
+pub nearest : (low high x : ℕ) → low ≤ high → max low (min x high) ≡ clamped low high x
+unfolding clamped pick
+nearest low high x l =
+    by_order x low (λ m. rw (lt-leb low x m) (omega arith))
+    (λ m.
+    by_order high x (λ o. rw (le-leb low x m, lt-leb x high o) (omega arith))
+    (λ o. rw (le-leb low x m, le-leb x high o) (omega arith)))
 
 -- saturation of an element's value, by raised numbers
 pub clamped_saturated : (from kind x : ℕ) → clamped (low_raised kind) (high_raised kind) (raised_of from x) % 2 ^ 32 ≡ remainder (saturated kind (value from x)) (2 ^ 32)

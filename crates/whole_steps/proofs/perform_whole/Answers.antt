@@ -1,9 +1,8 @@
 use mathlib.Core.Path.{ap, ◌∙◌}
 use Prim.Native.Nat.{ℕ, ◌*◌}
-use lib.ListN.{length, get_or}
-use Rattle.registers.specs.Types.{the_type, with_type}
+use lib.ListN.{get_or}
+use Rattle.registers.specs.Types.{the_type}
 use Rattle.registers.specs.Past.{written_to}
-use Rattle.registers.specs.Laws.Grids.{on_length}
 use Rattle.registers.specs.Laws.Past.{block_written}
 use Rattle.registers.specs.Laws.Sized.{sized_places}
 use Rattle.registers.specs.declared.MatrixType.{MatrixType}
@@ -11,14 +10,11 @@ use Rattle.whole_steps.specs.Whole.{whole_result, whole_type, whole_element}
 use Rattle.whole_steps.proofs.Laws.Within.{sized_type}
 use Rattle.whole_steps.proofs.perform_whole.Goals as goal
 
-pub element_count-old-requires : goal.element_count-old-requires
-element_count-old-requires c = rw c.the_type.ensures (c.requires.whole_ok.1.each _)
-
 pub element_count-count-requires : goal.element_count-count-requires
 element_count-count-requires c = let s = c in rw c.whole_type-t.ensures (sized_type s.args.types s.args.step s.requires.whole_ok.1 s.requires.whole_ok.0.parts)
 
-pub returns : goal.returns
-returns c =
+pub returns-clause-elements_after : goal.returns-clause-elements_after
+returns-clause-elements_after c =
     let s = c in
     let a = s.args in
     let ts = a.types in
@@ -27,14 +23,10 @@ returns c =
     let t = whole_type ts a.step in
     let area : MatrixType → ℕ = λ u. u.rows * u.columns in
     let r = c.whole_result-register.ensures in
-    let u = c.whole_type-t.ensures in
     let b = c.whole_block.ensures in
-    let n = c.element_count-count.ensures.0 ∙ ap area u in
-    let old = c.element_count-old.ensures.0 ∙ ap area (c.the_type.ensures ∙ ap (the_type ts) r) in record {
-      value = c.with_type.ensures ∙ (λ i. with_type ts (r i) (u i));
-      block_len = ap length b ∙ on_length _ _ _ _ ∙ s.requires.past.2;
-      elements_after = c.put_block.ensures
-          ∙ (λ i. written_to es (r i) (λ (e : ℕ). get_or (b i) e 0) (n i) (old i))
-          ∙ block_written ts es s.requires.whole_ok.1 s.requires.past.1 s.requires.past.0 (whole_result a.step) s.requires.whole_ok.0.result a.block.now t.rows t.columns
-          (whole_element ts es memory a.step) s.requires.past.2 (sized_places t (sized_type ts a.step s.requires.whole_ok.1 s.requires.whole_ok.0.parts));
-    }
+    let n = c.element_count-count.ensures.0 ∙ ap area c.whole_type-t.ensures in
+    let old = c.element_count-old.ensures.0 ∙ ap area (c.the_type.ensures ∙ ap (the_type ts) r) in
+    c.put_block.ensures
+    ∙ (λ i. written_to es (r i) (λ (e : ℕ). get_or (b i) e 0) (n i) (old i))
+    ∙ block_written ts es s.requires.whole_ok.1 s.requires.past.1 s.requires.past.0 (whole_result a.step) s.requires.whole_ok.0.result a.block.now t.rows t.columns
+    (whole_element ts es memory a.step) s.requires.past.2 (sized_places t (sized_type ts a.step s.requires.whole_ok.1 s.requires.whole_ok.0.parts))

@@ -1,11 +1,7 @@
-use mathlib.Core.Path.{◌≡◌}
-use Prim.Native.Nat.{ℕ, ◌≤◌, ◌-◌, ◌+◌, ◌*◌}
+use Rattle.std.proofs.Common.{◌≡◌, ℕ, ◌+◌, ◌*◌}
 use Rattle.numbers.specs.Lists.{line}
 use Rattle.reduces.specs.Parts.{fold_at, no_folds}
 use Rattle.reduces.proofs.parts.fold_parts.Given as goal
 
 abbrev pub invariant-loop-k : goal.invariant-loop-k
-invariant-loop-k l = (l.k ≤ l.count) × (l.out ≡ line no_folds 0 (λ (p : ℕ). fold_at l.elements l.kind l.combine l.step l.later (l.first + p * l.apart)) l.k)
-
-abbrev pub decreases-loop-k : goal.decreases-loop-k
-decreases-loop-k l = l.count - l.k
+invariant-loop-k l = l.out ≡ line no_folds 0 (λ (p : ℕ). fold_at l.elements l.kind l.combine l.step l.later (l.first + p * l.apart)) l.k

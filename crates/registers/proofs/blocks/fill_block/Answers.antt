@@ -1,13 +1,13 @@
-use mathlib.Core.List.{[], ◌∷◌}
-use mathlib.Core.Path.{◌≡◌, ap, ◌∙◌}
-use Prim.Native.Nat.{ℕ, ◌+◌, ◌*◌}
-use native.Mathlib.Omega.{arith}
-use lib.ListN.{get_or}
-use Rattle.registers.specs.Laws.Grids.{block_same}
+use Rattle.std.proofs.Common.{◌*◌, refl, arith, rules}
+use Rattle.std.proofs.lemmas.List.{places}
+use Rattle.registers.specs.Laws.Sized.{sides}
+use Rattle.registers.specs.Grids.{block_on}
+use Rattle.registers.proofs.Laws.{filled_is}
 use Rattle.registers.proofs.blocks.fill_block.Goals as goal
 
 pub returns : goal.returns
+unfolding block_on
 returns c =
-    let v = c.args.value in
-    c.spread.ensures
-    ∙ block_same _ _ _ _ _ (λ i j p q. let z : 0 + i * 0 + j * 0 ≡ 0 = omega arith in ap (λ (k : ℕ). get_or (v ∷ []) k 0) z)
+    let a = c.args in
+    let few = sides a.rows a.columns (omega arith) (omega arith) in
+    filled_is a.out.now c.fill.new.self 0 a.value (a.rows * a.columns) refl refl (omega arith) (search (rules, places))

@@ -1,13 +1,8 @@
-use mathlib.Core.Path.{◌≡◌}
-use Prim.Native.Nat.{◌-◌, ◌≤◌}
-use lib.ListN.{replicate}
+use Rattle.std.proofs.Common.{◌≡◌, replicate}
 use Rattle.numbers.specs.Lists.{line}
 use Rattle.sheet.specs.Sizes.{side_places}
 use Rattle.vectors.specs.Residues.{residue_at}
 use Rattle.vectors.proofs.components.components_of.Given as goal
 
 abbrev pub invariant-loop-c : goal.invariant-loop-c
-invariant-loop-c l = (l.c ≤ l.v.columns) × (l.out ≡ line (replicate side_places 0) 0 (residue_at l.elements l.kind l.v) l.c)
-
-abbrev pub decreases-loop-c : goal.decreases-loop-c
-decreases-loop-c l = l.v.columns - l.c
+invariant-loop-c l = l.out ≡ line (replicate side_places 0) 0 (residue_at l.elements l.kind l.v) l.c
