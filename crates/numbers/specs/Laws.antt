@@ -1,6 +1,7 @@
 -- What is proved of the definitions.
 pub mod Choice
 pub mod All
+pub mod Ranges
 pub mod Lists
 pub mod Lines
 pub mod Joins
