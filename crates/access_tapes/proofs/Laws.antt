@@ -4,7 +4,8 @@ use mathlib.Core.Path.{◌≡◌, sym, ap, ◌∙◌}
 use mathlib.Core.Bool.{Bool}
 use mathlib.Core.List.{List}
 use native.Mathlib.Omega.{arith}
-use lib.ListN.{length}
+use lib.ListN.{length, take, get_or}
+use Rattle.std.proofs.lemmas.List.{length-take, get_or-take}
 use Rattle.outcomes.specs.declared.Outcome.{Outcome}
 use Rattle.outcomes.specs.declared.Outcome.TheVariants.{Skipped}
 use Rattle.addressing.specs.Rules.{elements_of, low_bits}
@@ -27,6 +28,10 @@ use Rattle.access_tapes.specs.Accesses.{access_outcomes}
 -- an entry is of a byte of memory, and the bits that fill an element are 32
 pub entry_fits : (fill : ℕ) → fill < 2 ^ 32 → (x : ℕ) → Fitting (entry_outcome fill x)
 entry_fits fill h x = entry_cases Fitting fill tt (λ b l. omega (arith, l)) h tt x
+
+-- the entry that a loop over the first n of them meets stands for its element's outcome
+pub met : (entries : List ℕ) (n k fill : ℕ) {o : Outcome} → k < length (take n entries) → o ≡ entry_outcome fill (get_or (take n entries) k 0) → o ≡ entries_outcome entries fill k
+met entries n k fill h e = let l : k < n = omega (arith, length-take {A = ℕ}) in rw get_or-take at e
 
 -- no more runs than elements
 pub runs_few : (f : ℕ → Outcome) (n : ℕ) → length (runs f n) ≤ n

@@ -24,14 +24,11 @@ fn count_runs(entries: &[u32; PLACES], n: usize) -> usize
 {
     let mut held = Run::Idle;
     let mut records = 0;
-    let mut k = 0;
-    while k < n {
-        let o = accesses::outcome_of(entries[k], 0);
+    for (k, &entry) in entries[..n].iter().enumerate() {
+        let o = accesses::outcome_of(entry, 0);
         let t = runs::next_run(held, k, o);
-        let done = t.done;
-        records += runs::records_of(done);
+        records += runs::records_of(t.done);
         held = t.held;
-        k += 1;
     }
     records + runs::records_of(held)
 }
@@ -59,14 +56,11 @@ fn write_runs(
 {
     let mut held = Run::Idle;
     let mut at = start;
-    let mut k = 0;
-    while k < n {
-        let o = accesses::outcome_of(entries[k], fill);
+    for (k, &entry) in entries[..n].iter().enumerate() {
+        let o = accesses::outcome_of(entry, fill);
         let t = runs::next_run(held, k, o);
-        let done = t.done;
-        at = runs::write_run(tape, at, load, register, done);
+        at = runs::write_run(tape, at, load, register, t.done);
         held = t.held;
-        k += 1;
     }
     runs::write_run(tape, at, load, register, held)
 }

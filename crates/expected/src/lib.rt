@@ -29,9 +29,7 @@ fn byte_of(o: Outcome) -> u32
     ensures { result ≡ byte_of o }
 {
     match o {
-        Outcome::Skipped => 0,
-        Outcome::Filled(_) => 0,
-        Outcome::Discarded => 0,
+        Outcome::Skipped | Outcome::Filled(_) | Outcome::Discarded => 0,
         Outcome::Placed(byte) => byte as u32,
     }
 }
@@ -49,6 +47,7 @@ fn event_of(step: usize, element: usize, o: Outcome) -> Event
 }
 
 // The event of an element by its entry of a survey. The bits of a filled element do not show in its event, so any will do.
+#[tactic(auto, using(crate::specs::Laws::Events::entry_near))]
 pub fn listed_event(entries: &[u32; PLACES], step: usize, element: usize) -> Event
     requires { (step < step_places) × (element < matrix_places) }
     ensures { result ≡ listed_event step entries.now element }
@@ -57,6 +56,7 @@ pub fn listed_event(entries: &[u32; PLACES], step: usize, element: usize) -> Eve
 }
 
 // How many events the elements of an access have.
+#[tactic(auto, using(crate::specs::Laws::Events::events_count))]
 pub fn count_events(access: Access) -> usize
     requires { elements_of access ≤ matrix_places }
     ensures { (k : ℕ) → result ≡ length (access_events k access) }

@@ -25,36 +25,28 @@ fn elements_ok(t: MatrixType, first: usize, count: usize) -> bool
     requires { SizedType t × (first < 2 ^ 31) × (count < 2 ^ 31) }
     ensures { result ≡ elements_ok t first count }
 {
-    first + count <= (t.rows as usize) * (t.columns as usize)
+    first + count <= usize::from(t.rows) * usize::from(t.columns)
 }
 
+#[tactic(auto, using(numbers::specs::Laws::Choice::both_and, crate::specs::Laws::Bytes::inside_natural, crate::specs::Laws::Elements::stride_small))]
 fn byte_inside(size: usize, len: usize, byte: usize, up: usize, down: usize, i: usize) -> bool
     requires { (size ≤ 4) × (i < matrix_places) × Bytes byte up down }
     ensures { result ≡ byte_inside size len byte up down i }
 {
     let above = byte + i * up;
     let below = i * down;
-    if above < below {
-        return false;
-    }
-    above - below + size <= len
+    below <= above && above - below + size <= len
 }
 
 fn bytes_inside(size: usize, len: usize, count: usize, byte: usize, up: usize, down: usize) -> bool
     requires { (size ≤ 4) × (count ≤ matrix_places) × Bytes byte up down }
     ensures { result ≡ bytes_inside size len count byte up down }
 {
-    let mut i = 0;
-    while i < count {
-        if !byte_inside(size, len, byte, up, down, i) {
-            return false;
-        }
-        i += 1;
-    }
-    true
+    (0..count).all(|i| byte_inside(size, len, byte, up, down, i))
 }
 
 // A take or a put of a register of type t.
+#[tactic(auto, using(numbers::specs::Laws::Choice::both_and, crate::specs::Laws::Elements::elements_fit, kinds::specs::Laws::Widths::bytes_high), unfolding(crate::specs::Records::bytes_record_ok))]
 fn bytes_record_ok(
     t: MatrixType,
     len: usize,
@@ -67,44 +59,27 @@ fn bytes_record_ok(
     requires { SizedType t × (first < 2 ^ 31) × (count < 2 ^ 31) × Bytes byte up down }
     ensures { result ≡ bytes_record_ok t len first count byte up down }
 {
-    if registers::is_empty(t) {
-        return false;
-    }
-    if !elements_ok(t, first, count) {
-        return false;
-    }
-    bytes_inside(kinds::bytes(t.kind), len, count, byte, up, down)
+    !registers::is_empty(t)
+        && elements_ok(t, first, count)
+        && bytes_inside(kinds::bytes(t.kind), len, count, byte, up, down)
 }
 
+#[tactic(auto, using(numbers::specs::Laws::Choice::both_and), unfolding(crate::specs::Records::fill_record_ok))]
 fn fill_record_ok(t: MatrixType, first: usize, count: usize, value: u32) -> bool
     requires { SizedType t × (first < 2 ^ 31) × (count < 2 ^ 31) }
     ensures { result ≡ fill_record_ok t first count value }
 {
-    if registers::is_empty(t) {
-        return false;
-    }
-    if !elements_ok(t, first, count) {
-        return false;
-    }
-    kinds::fits(t.kind, value)
+    !registers::is_empty(t) && elements_ok(t, first, count) && kinds::fits(t.kind, value)
 }
 
 // A whole step that would not be refused.
+#[tactic(auto, using(whole_steps::proofs::Laws::Within::whole_ok_lem))]
 fn whole_clear(edition: u8, types: [MatrixType; REGISTERS], len: usize, step: Step) -> bool
     requires { Placed edition step }
     ensures { result ≡ whole_clear edition types len step }
 {
     match step {
-        Step::Nothing => false,
-        Step::Load {
-            register: _,
-            object: _,
-            window: _,
-        } => false,
-        Step::Store {
-            register: _,
-            window: _,
-        } => false,
+        Step::Nothing | Step::Load { .. } | Step::Store { .. } => false,
         Step::Whole(whole) => {
             let stop = whole_steps::stops::whole_refusal(edition, types, len, whole);
             stop.number == 0
@@ -113,6 +88,7 @@ fn whole_clear(edition: u8, types: [MatrixType; REGISTERS], len: usize, step: St
 }
 
 // Op 4.
+#[tactic(auto, using(numbers::specs::Laws::Choice::both_and), unfolding(crate::specs::Records::whole_record_ok))]
 fn whole_record_ok(
     edition: u8,
     steps: usize,
@@ -124,10 +100,7 @@ fn whole_record_ok(
     requires { Placed edition named }
     ensures { result ≡ whole_record_ok edition steps types len named step }
 {
-    if steps <= step {
-        return false;
-    }
-    whole_clear(edition, types, len, named)
+    step < steps && whole_clear(edition, types, len, named)
 }
 
 // The sheet is not passed for each record: its edition, its number of steps and the step that the record names stand for it.
@@ -143,10 +116,7 @@ fn record_ok(
     ensures { result ≡ record_ok_with edition steps types len named r }
 {
     match r {
-        Record::Copy {
-            register: _,
-            object,
-        } => !registers::is_empty(registers::the_type(types, object)),
+        Record::Copy { object, .. } => !registers::is_empty(registers::the_type(types, object)),
         Record::Take {
             register,
             first,
@@ -154,11 +124,8 @@ fn record_ok(
             byte,
             up,
             down,
-        } => {
-            let t = registers::the_type(types, register);
-            bytes_record_ok(t, len, first, count, byte, up, down)
         }
-        Record::Put {
+        | Record::Put {
             register,
             first,
             count,
@@ -192,29 +159,8 @@ fn record_types(types: [MatrixType; REGISTERS], named: Step, r: Record) -> [Matr
             let t = registers::the_type(types, object);
             registers::with_type(types, register, t)
         }
-        Record::Take {
-            register: _,
-            first: _,
-            count: _,
-            byte: _,
-            up: _,
-            down: _,
-        } => types,
-        Record::Put {
-            register: _,
-            first: _,
-            count: _,
-            byte: _,
-            up: _,
-            down: _,
-        } => types,
-        Record::Fill {
-            register: _,
-            first: _,
-            count: _,
-            value: _,
-        } => types,
-        Record::Whole { step: _ } => checks::step_types(types, named),
+        Record::Take { .. } | Record::Put { .. } | Record::Fill { .. } => types,
+        Record::Whole { .. } => checks::step_types(types, named),
     }
 }
 
@@ -246,14 +192,16 @@ fn decoded_types(types: [MatrixType; REGISTERS], named: Step, d: Decoded) -> [Ma
 }
 
 // Step number k of the sheet, from its bytes; nothing, where it has no such step.
+#[tactic(auto, using(crate::specs::Laws::Named::step_taken, crate::specs::Laws::Named::step_none))]
 fn step_of(s: &[u8], parts: &[usize; PARTS], given: Given, k: usize) -> Step
     requires { Outlined s.now parts.now given }
     ensures { result ≡ step_of (sheet_of s.now) k }
 {
     if k < given.steps {
-        return sheet_parts::step_in(s, parts, given, k);
+        sheet_parts::step_in(s, parts, given, k)
+    } else {
+        Step::Nothing
     }
-    Step::Nothing
 }
 
 // Only op 4 names a step.
@@ -262,32 +210,9 @@ fn record_step(s: &[u8], parts: &[usize; PARTS], given: Given, r: Record) -> Ste
     ensures { result ≡ record_step (sheet_of s.now) r }
 {
     match r {
-        Record::Copy {
-            register: _,
-            object: _,
-        } => Step::Nothing,
-        Record::Take {
-            register: _,
-            first: _,
-            count: _,
-            byte: _,
-            up: _,
-            down: _,
-        } => Step::Nothing,
-        Record::Put {
-            register: _,
-            first: _,
-            count: _,
-            byte: _,
-            up: _,
-            down: _,
-        } => Step::Nothing,
-        Record::Fill {
-            register: _,
-            first: _,
-            count: _,
-            value: _,
-        } => Step::Nothing,
+        Record::Copy { .. } | Record::Take { .. } | Record::Put { .. } | Record::Fill { .. } => {
+            Step::Nothing
+        }
         Record::Whole { step } => step_of(s, parts, given, step),
     }
 }
@@ -316,8 +241,7 @@ fn range(
     ensures { result ≡ range_refusal records (sheet_of s.now) len (tape_record tape.now) }
 {
     let mut types = registers::empty_types();
-    let mut k: usize = 0;
-    while k < records {
+    for k in 0..records {
         let d = records::read_record(tape, k * records::NUMBERS);
         let named = step_named(s, parts, given, d);
         if !decoded_ok(given.edition, given.steps, types, len, named, d) {
@@ -325,7 +249,6 @@ fn range(
         }
         let after = decoded_types(types, named, d);
         types = after;
-        k += 1;
     }
     refusals::not_refused()
 }

@@ -10,7 +10,6 @@ use borrow.Author.Tests.{lt-ltb, le-ltb}
 use Rattle.std.proofs.Math.ListN.{get_or-append, get_or-eq_default}
 use Rattle.std.proofs.lemmas.List.Edits.{sets, sets-eq}
 use Rattle.numbers.specs.Choice.{pick, both}
-use Rattle.numbers.specs.Lists.{each}
 use Rattle.numbers.specs.Little.{u16_at, u16_bytes}
 use Rattle.numbers.specs.Laws.Choice.{stop, by_order}
 use Rattle.numbers.specs.Laws.Joins.{each_part, each_at}

@@ -25,30 +25,18 @@ const WORD: usize = 32;
 const WORD_BYTES: usize = WORD / 8;
 
 // 1 for an entry of an element with a byte.
+#[tactic(auto, unfolding(accesses::specs::Entries::entry_outcome, numbers::specs::Choice::pick))]
 fn entry_one(entry: u32) -> u32
     ensures { (result ≡ entry_one entry) × (result ≤ 1) }
 {
-    if entry == 0 {
-        return 0;
-    }
-    if entry < FILLED {
-        return 1;
-    }
-    0
+    u32::from(0 < entry && entry < FILLED)
 }
 
 // How many of a word's elements from `first` on are among `count`.
 fn word_elements(count: usize, first: usize) -> usize
     ensures { (result ≤ 32) × (result ≤ count - first) × (result < 32 → count ≤ first + result) }
 {
-    if count <= first {
-        return 0;
-    }
-    let left = count - first;
-    if left < WORD {
-        return left;
-    }
-    WORD
+    count.saturating_sub(first).min(WORD)
 }
 
 // The bits of 32 elements of `count`, the first lowest.
@@ -56,10 +44,8 @@ fn mask_word(entries: &[u32; PLACES], count: usize, first: usize) -> u32
     requires { count ≤ matrix_places }
     ensures { result ≡ packed (entry_bit entries.now count) first 32 }
 {
-    let mut left = word_elements(count, first);
     let mut word = 0;
-    while 0 < left {
-        left -= 1;
+    for left in (0..word_elements(count, first)).rev() {
         word = word * 2 + entry_one(entries[first + left]);
     }
     word
@@ -71,14 +57,11 @@ fn put_bits(masks: &mut [u8], at: usize, entries: &[u32; PLACES], count: usize) 
     ensures value { result ≡ sum_of (entry_bit entries.now count) matrix_places }
     ensures masks_after { masks.new ≡ sets masks.old at (each bit_bytes (bit_byte (entry_bit entries.now count))) }
 {
-    let words = PLACES / WORD;
     let mut ones = 0;
-    let mut i = 0;
-    while i < words {
+    for i in 0..PLACES / WORD {
         let word = mask_word(entries, count, i * WORD);
         numbers::put_u32(masks, at + i * WORD_BYTES, word);
-        ones += u32::count_ones(word);
-        i += 1;
+        ones += word.count_ones();
     }
     ones
 }
@@ -88,7 +71,7 @@ pub fn put_mask(masks: &mut [u8], step: usize, entries: &[u32; PLACES], count: u
     requires { (step < step_places) × (mask_area ≤ length masks.old) × (count ≤ matrix_places) }
     ensures { masks.new ≡ sets masks.old (mask_place step) (mask_of (entry_bit entries.now count)) }
 {
-    if count < 1 {
+    if count == 0 {
         return clear_masks(masks, step, step + 1);
     }
     let at = step * MASK_BYTES;
@@ -101,35 +84,22 @@ pub fn clear_masks(masks: &mut [u8], first: usize, end: usize)
     requires { (first ≤ end) × (end ≤ step_places) × (mask_area ≤ length masks.old) }
     ensures { masks.new ≡ sets masks.old (mask_place first) (empty_masks (end - first)) }
 {
-    let bytes = (end - first) * MASK_BYTES;
-    let at = first * MASK_BYTES;
-    let mut j = 0;
-    while j < bytes {
-        masks[at + j] = 0;
-        j += 1;
-    }
+    masks[first * MASK_BYTES..end * MASK_BYTES].fill(0);
 }
 
 // A byte of a mask area, 0 past its end.
 fn mask_byte(masks: &[u8], place: usize) -> usize
     ensures { result ≡ get_or masks.now place 0 }
 {
-    if place < masks.len() {
-        return numbers::wide(masks[place]) as usize;
-    }
-    0
+    masks.get(place).map_or(0, |b| usize::from(*b))
 }
 
 // Did a step touch an element, by its mask?
+#[tactic(auto, using(numbers::specs::Laws::Choice::both_and), unfolding(crate::specs::Masks::touched))]
 pub fn touched(masks: &[u8], step: usize, element: usize) -> bool
     ensures { result ≡ touched masks.now step element }
 {
-    if STEPS <= step {
-        return false;
-    }
-    if PLACES <= element {
-        return false;
-    }
-    let byte = mask_byte(masks, step * MASK_BYTES + element / 8);
-    (byte >> (element % 8)) % 2 == 1
+    step < STEPS
+        && element < PLACES
+        && (mask_byte(masks, step * MASK_BYTES + element / 8) >> (element % 8)) % 2 == 1
 }

@@ -18,6 +18,7 @@ ghost use Rattle.moves.specs.Elements.{taking, putting, filling, on_elements};
 use registers::MatrixType;
 use sheet::sizes::{ELEMENTS, REGISTERS};
 
+#[tactic(auto, using(judging::specs::Laws::Elements::stride_small, judging::specs::Laws::Bytes::byte_natural))]
 fn byte_at(byte: usize, up: usize, down: usize, i: usize) -> usize
     requires { Bytes byte up down × (i < matrix_places) × (i * down ≤ byte + i * up) }
     ensures { result ≡ byte_at byte up down i }
@@ -25,6 +26,7 @@ fn byte_at(byte: usize, up: usize, down: usize, i: usize) -> usize
     byte + i * up - i * down
 }
 
+#[tactic(auto, using(judging::specs::Laws::Elements::inside_lies, crate::specs::Laws::Elements::order_start))]
 fn take_elements(
     elements: &mut [u32; ELEMENTS],
     memory: &[u8],
@@ -40,15 +42,14 @@ fn take_elements(
     requires down_value { bytes_inside size (length memory.now) count byte up down ≡ true }
     ensures { (c : Counts) → state elements.new memory.now (more_placed c count) ≡ in_order (taking size register first byte up down) count (state elements.old memory.now c) }
 {
-    let mut i = 0;
-    while i < count {
+    for i in 0..count {
         let at = byte_at(byte, up, down, i);
         let x = memory::element_at(memory, at, size);
         registers::put_element_of(elements, register, first + i, x);
-        i += 1;
     }
 }
 
+#[tactic(auto, using(judging::specs::Laws::Elements::inside_lies, crate::specs::Laws::Elements::order_start))]
 fn put_elements(
     elements: &[u32; ELEMENTS],
     memory: &mut [u8],
@@ -64,16 +65,15 @@ fn put_elements(
     requires down_value { bytes_inside size (length memory.old) count byte up down ≡ true }
     ensures { (c : Counts) → state elements.now memory.new (more_placed c count) ≡ in_order (putting size register first byte up down) count (state elements.now memory.old c) }
 {
-    let mut i = 0;
-    while i < count {
+    for i in 0..count {
         let at = byte_at(byte, up, down, i);
         let x = registers::element_of(elements, register, first + i);
         memory::put_element(memory, at, size, x);
-        i += 1;
     }
 }
 
 // A take, which changes elements alone.
+#[tactic(auto, using(judging::specs::Laws::Elements::elements_fit, judging::specs::Laws::Elements::bytes_elements, judging::specs::Laws::Elements::bytes_inside_lem, kinds::specs::Laws::Widths::bytes_size))]
 pub fn take(
     types: [MatrixType; REGISTERS],
     elements: &mut [u32; ELEMENTS],
@@ -104,6 +104,7 @@ pub fn take(
 }
 
 // A put, which changes memory alone.
+#[tactic(auto, using(judging::specs::Laws::Elements::elements_fit, judging::specs::Laws::Elements::bytes_elements, judging::specs::Laws::Elements::bytes_inside_lem, kinds::specs::Laws::Widths::bytes_size))]
 pub fn put(
     types: [MatrixType; REGISTERS],
     elements: &[u32; ELEMENTS],
@@ -134,6 +135,7 @@ pub fn put(
 }
 
 // A fill, which changes elements alone.
+#[tactic(auto, using(judging::specs::Laws::Elements::elements_fit, judging::specs::Laws::Elements::fill_elements, crate::specs::Laws::Elements::fill_order))]
 pub fn fill(
     types: [MatrixType; REGISTERS],
     elements: &mut [u32; ELEMENTS],

@@ -46,7 +46,7 @@ fn put_bytes(
     requires op_bound { (op < 3) × Elements register first count × Bytes byte up down }
     ensures { tape.new ≡ sets tape.old at (bytes_numbers op register first count byte up down) }
 {
-    put_four(tape, at, op, register as usize, first, count);
+    put_four(tape, at, op, usize::from(register), first, count);
     signed::put_natural(tape, at + 4, byte);
     signed::put_difference(tape, at + 5, up, down);
 }
@@ -56,7 +56,7 @@ fn put_fill(tape: &mut [i32], at: usize, register: u8, first: usize, count: usiz
     requires elements { Elements register first count }
     ensures { tape.new ≡ sets tape.old at (record_numbers (Record.Fill register first count value)) }
 {
-    put_four(tape, at, 3, register as usize, first, count);
+    put_four(tape, at, 3, usize::from(register), first, count);
     signed::put_bits(tape, at + 4, value);
     signed::put_natural(tape, at + 5, 0);
 }
@@ -68,7 +68,7 @@ pub fn put_record(tape: &mut [i32], at: usize, r: Record)
 {
     match r {
         Record::Copy { register, object } => {
-            put_plain(tape, at, 0, register as usize, object as usize);
+            put_plain(tape, at, 0, usize::from(register), usize::from(object));
         }
         Record::Take {
             register,

@@ -61,89 +61,61 @@ const REGISTER: usize = REGISTERS - 1;
 const STEP: usize = 65_535;
 
 // The limit first: past it the numbers are not counted.
+#[tactic(auto, using(numbers::specs::Laws::Choice::both_and, sheet::specs::Laws::Editions::limits_records), unfolding(crate::specs::Room::records_fit))]
 pub fn records_fit(edition: u8, room: usize, records: usize) -> bool
     ensures { result ≡ records_fit edition room records }
 {
-    let most = editions::limits(edition);
-    if most.records < records {
-        return false;
-    }
-    records * NUMBERS <= room
+    records <= editions::limits(edition).records && records * NUMBERS <= room
 }
 
+#[tactic(auto, using(numbers::specs::Laws::Choice::both_and), unfolding(crate::specs::Records::copy_in_range))]
 fn copy_in_range(tape: &[i32], at: usize) -> bool
     requires { at + record_length ≤ length tape.now }
     ensures { result ≡ fields copy_in_range tape.now at }
 {
-    if !signed::spans(tape, at + 1, 0, REGISTER) {
-        return false;
-    }
-    if !signed::spans(tape, at + 2, 0, REGISTER) {
-        return false;
-    }
-    if !signed::is(tape, at + 3, 0) {
-        return false;
-    }
-    if !signed::is(tape, at + 4, 0) {
-        return false;
-    }
-    signed::is(tape, at + 5, 0)
+    signed::spans(tape, at + 1, 0, REGISTER)
+        && signed::spans(tape, at + 2, 0, REGISTER)
+        && signed::is(tape, at + 3, 0)
+        && signed::is(tape, at + 4, 0)
+        && signed::is(tape, at + 5, 0)
 }
 
+#[tactic(auto, using(numbers::specs::Laws::Choice::both_and), unfolding(crate::specs::Records::bytes_in_range))]
 fn bytes_in_range(tape: &[i32], at: usize) -> bool
     requires { at + record_length ≤ length tape.now }
     ensures { result ≡ fields bytes_in_range tape.now at }
 {
-    if !signed::spans(tape, at + 1, 0, REGISTER) {
-        return false;
-    }
-    if !signed::at_least(tape, at + 2, 0) {
-        return false;
-    }
-    if !signed::at_least(tape, at + 3, 1) {
-        return false;
-    }
-    if !signed::at_least(tape, at + 4, 0) {
-        return false;
-    }
-    signed::spans(tape, at + 5, STEP, STEP)
+    signed::spans(tape, at + 1, 0, REGISTER)
+        && signed::at_least(tape, at + 2, 0)
+        && signed::at_least(tape, at + 3, 1)
+        && signed::at_least(tape, at + 4, 0)
+        && signed::spans(tape, at + 5, STEP, STEP)
 }
 
+#[tactic(auto, using(numbers::specs::Laws::Choice::both_and), unfolding(crate::specs::Records::fill_in_range))]
 fn fill_in_range(tape: &[i32], at: usize) -> bool
     requires { at + record_length ≤ length tape.now }
     ensures { result ≡ fields fill_in_range tape.now at }
 {
-    if !signed::spans(tape, at + 1, 0, REGISTER) {
-        return false;
-    }
-    if !signed::at_least(tape, at + 2, 0) {
-        return false;
-    }
-    if !signed::at_least(tape, at + 3, 1) {
-        return false;
-    }
-    signed::is(tape, at + 5, 0)
+    signed::spans(tape, at + 1, 0, REGISTER)
+        && signed::at_least(tape, at + 2, 0)
+        && signed::at_least(tape, at + 3, 1)
+        && signed::is(tape, at + 5, 0)
 }
 
+#[tactic(auto, using(numbers::specs::Laws::Choice::both_and), unfolding(crate::specs::Records::whole_in_range))]
 fn whole_in_range(tape: &[i32], at: usize) -> bool
     requires { at + record_length ≤ length tape.now }
     ensures { result ≡ fields whole_in_range tape.now at }
 {
-    if !signed::at_least(tape, at + 1, 0) {
-        return false;
-    }
-    if !signed::is(tape, at + 2, 0) {
-        return false;
-    }
-    if !signed::is(tape, at + 3, 0) {
-        return false;
-    }
-    if !signed::is(tape, at + 4, 0) {
-        return false;
-    }
-    signed::is(tape, at + 5, 0)
+    signed::at_least(tape, at + 1, 0)
+        && signed::is(tape, at + 2, 0)
+        && signed::is(tape, at + 3, 0)
+        && signed::is(tape, at + 4, 0)
+        && signed::is(tape, at + 5, 0)
 }
 
+#[tactic(auto, using(signed::specs::Laws::Numbers::spans_rise))]
 fn register_at(tape: &[i32], at: usize) -> u8
     requires { (at < length tape.now) × (register_in_range (number tape.now at) ≡ true) }
     ensures { (result ≡ rise (number tape.now at)) × (result < register_count) }
@@ -151,6 +123,7 @@ fn register_at(tape: &[i32], at: usize) -> u8
     signed::rise(tape, at) as u8
 }
 
+#[tactic(auto, using(crate::proofs::Laws::copy_register, crate::proofs::Laws::copy_object), unfolding(crate::specs::Records::copy_of, numbers::specs::Choice::pick))]
 fn copy_record(tape: &[i32], at: usize) -> Decoded
     requires { at + record_length ≤ length tape.now }
     ensures { (result ≡ fields copy_of tape.now at) × GoodInRange result }
@@ -158,12 +131,14 @@ fn copy_record(tape: &[i32], at: usize) -> Decoded
     if !copy_in_range(tape, at) {
         return Decoded::Bad;
     }
-    let register = register_at(tape, at + 1);
-    let object = register_at(tape, at + 2);
-    Decoded::Good(Record::Copy { register, object })
+    Decoded::Good(Record::Copy {
+        register: register_at(tape, at + 1),
+        object: register_at(tape, at + 2),
+    })
 }
 
 // A take, or a put.
+#[tactic(auto, unfolding(crate::specs::Records::moved))]
 pub fn moved(
     take: bool,
     register: u8,
@@ -176,25 +151,27 @@ pub fn moved(
     ensures { result ≡ moved take register first count byte up down }
 {
     if take {
-        return Record::Take {
+        Record::Take {
             register,
             first,
             count,
             byte,
             up,
             down,
-        };
-    }
-    Record::Put {
-        register,
-        first,
-        count,
-        byte,
-        up,
-        down,
+        }
+    } else {
+        Record::Put {
+            register,
+            first,
+            count,
+            byte,
+            up,
+            down,
+        }
     }
 }
 
+#[tactic(auto, using(crate::proofs::Laws::bytes_register), unfolding(crate::specs::Records::moved_of, numbers::specs::Choice::pick))]
 fn bytes_record(tape: &[i32], at: usize, take: bool) -> Decoded
     requires { at + record_length ≤ length tape.now }
     ensures { (result ≡ fields (moved_of take) tape.now at) × GoodInRange result }
@@ -211,6 +188,7 @@ fn bytes_record(tape: &[i32], at: usize, take: bool) -> Decoded
     Decoded::Good(moved(take, register, first, count, byte, up, down))
 }
 
+#[tactic(auto, using(crate::proofs::Laws::fill_register), unfolding(crate::specs::Records::fill_of, numbers::specs::Choice::pick))]
 fn fill_record(tape: &[i32], at: usize) -> Decoded
     requires { at + record_length ≤ length tape.now }
     ensures { (result ≡ fields fill_of tape.now at) × GoodInRange result }
@@ -218,18 +196,15 @@ fn fill_record(tape: &[i32], at: usize) -> Decoded
     if !fill_in_range(tape, at) {
         return Decoded::Bad;
     }
-    let register = register_at(tape, at + 1);
-    let first = signed::rise(tape, at + 2);
-    let count = signed::rise(tape, at + 3);
-    let value = signed::bits(tape, at + 4);
     Decoded::Good(Record::Fill {
-        register,
-        first,
-        count,
-        value,
+        register: register_at(tape, at + 1),
+        first: signed::rise(tape, at + 2),
+        count: signed::rise(tape, at + 3),
+        value: signed::bits(tape, at + 4),
     })
 }
 
+#[tactic(auto, unfolding(crate::specs::Records::whole_of, numbers::specs::Choice::pick))]
 fn whole_record(tape: &[i32], at: usize) -> Decoded
     requires { at + record_length ≤ length tape.now }
     ensures { (result ≡ fields whole_of tape.now at) × GoodInRange result }
@@ -237,29 +212,23 @@ fn whole_record(tape: &[i32], at: usize) -> Decoded
     if !whole_in_range(tape, at) {
         return Decoded::Bad;
     }
-    let step = signed::rise(tape, at + 1);
-    Decoded::Good(Record::Whole { step })
+    Decoded::Good(Record::Whole {
+        step: signed::rise(tape, at + 1),
+    })
 }
 
 // The record whose numbers begin at a place of a tape.
+#[tactic(auto, unfolding(crate::specs::Records::record_of, signed::specs::Numbers::is, numbers::specs::Choice::pick))]
 pub fn read_record(tape: &[i32], at: usize) -> Decoded
     requires { at + record_length ≤ length tape.now }
     ensures { (result ≡ record_at tape.now at) × GoodInRange result }
 {
-    if signed::is(tape, at, 0) {
-        return copy_record(tape, at);
+    match tape[at] {
+        0 => copy_record(tape, at),
+        1 => bytes_record(tape, at, true),
+        2 => bytes_record(tape, at, false),
+        3 => fill_record(tape, at),
+        4 => whole_record(tape, at),
+        _ => Decoded::Bad,
     }
-    if signed::is(tape, at, 1) {
-        return bytes_record(tape, at, true);
-    }
-    if signed::is(tape, at, 2) {
-        return bytes_record(tape, at, false);
-    }
-    if signed::is(tape, at, 3) {
-        return fill_record(tape, at);
-    }
-    if signed::is(tape, at, 4) {
-        return whole_record(tape, at);
-    }
-    Decoded::Bad
 }

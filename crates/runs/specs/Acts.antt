@@ -5,7 +5,6 @@ use Rattle.outcomes.specs.declared.Outcome.{Outcome}
 use Rattle.outcomes.specs.declared.Outcome.TheVariants.{Skipped, Filled, Discarded, Placed}
 use Rattle.runs.specs.declared.Run.{Run}
 use Rattle.runs.specs.declared.Run.TheVariants.{Idle, Bytes, Fills}
-use Rattle.runs.specs.Runs.{runs}
 
 -- one element meets its byte, or is given bits
 pub data Act : Type 0 where

@@ -1,12 +1,12 @@
 // The longest even runs of a load or a store: its elements' outcomes are joined one after the other.
 #![tactic(auto)]
 
-ghost use Rattle.std.specs.Prelude.{◌≡◌, ◌+◌, ◌*◌, ◌-◌, ◌<◌, ◌≤◌, length};
+ghost use Rattle.std.specs.Prelude.{◌≡◌, ◌+◌, ◌*◌, ◌<◌, ◌≤◌, length};
 ghost use Rattle.std.proofs.lemmas.List.Edits.{sets};
 ghost use Rattle.sheet.specs.Sizes.{matrix_places, memory_limit};
 ghost use Rattle.records.specs.Records.{record_length, tape_numbers};
 ghost use Rattle.records.specs.Ranges.{AllInRange};
-ghost use Rattle.runs.specs.Runs.{progress, lone, meet_byte, meet_fill, next, emit, run_records};
+ghost use Rattle.runs.specs.Runs.{lone, meet_byte, meet_fill, next, emit, run_records};
 ghost use Rattle.runs.specs.Ranges.{Fitting, Steady, SmallRun};
 
 use outcomes::Outcome;
@@ -60,14 +60,8 @@ fn sole(k: usize, v: u32) -> Run
     }
 }
 
-// a - b, or 0.
-fn beyond(a: usize, b: usize) -> usize
-    ensures { result ≡ a - b }
-{
-    if b <= a { a - b } else { 0 }
-}
-
 // A run of bytes, and the next element's byte.
+#[tactic(auto, unfolding(crate::specs::Runs::meet_byte, numbers::specs::Choice::pick))]
 fn meet_byte(
     first: usize,
     count: usize,
@@ -82,19 +76,18 @@ fn meet_byte(
     ensures { result ≡ meet_byte first count byte up down k b }
 {
     if count == 1 {
-        return Progress {
+        Progress {
             done: Run::Idle,
             held: Run::Bytes {
                 first,
                 count: 2,
                 byte,
-                up: beyond(b, byte),
-                down: beyond(byte, b),
+                up: b.saturating_sub(byte),
+                down: byte.saturating_sub(b),
             },
-        };
-    }
-    if b + count * down == byte + count * up {
-        return Progress {
+        }
+    } else if b + count * down == byte + count * up {
+        Progress {
             done: Run::Idle,
             held: Run::Bytes {
                 first,
@@ -103,122 +96,84 @@ fn meet_byte(
                 up,
                 down,
             },
-        };
-    }
-    Progress {
-        done: Run::Bytes {
-            first,
-            count,
-            byte,
-            up,
-            down,
-        },
-        held: lone(k, b),
+        }
+    } else {
+        Progress {
+            done: Run::Bytes {
+                first,
+                count,
+                byte,
+                up,
+                down,
+            },
+            held: lone(k, b),
+        }
     }
 }
 
 // A run of fills, and the next element's fill.
+#[tactic(auto, unfolding(crate::specs::Runs::meet_fill, numbers::specs::Choice::pick))]
 fn meet_fill(first: usize, count: usize, value: u32, k: usize, v: u32) -> Progress
     requires { (first + count ≡ k) × (k < matrix_places) }
     ensures { result ≡ meet_fill first count value k v }
 {
     if v == value {
-        return Progress {
+        Progress {
             done: Run::Idle,
             held: Run::Fills {
                 first,
                 count: count + 1,
                 value,
             },
-        };
-    }
-    Progress {
-        done: Run::Fills {
-            first,
-            count,
-            value,
-        },
-        held: sole(k, v),
-    }
-}
-
-fn next_byte(r: Run, k: usize, b: usize) -> Progress
-    requires small_run { SmallRun k r }
-    requires k_lt_matrix_places { (k < matrix_places) × (b < memory_limit) }
-    ensures { result ≡ next r k (Outcome.Placed b) }
-{
-    match r {
-        Run::Idle => Progress {
-            done: r,
-            held: lone(k, b),
-        },
-        Run::Fills {
-            first: _,
-            count: _,
-            value: _,
-        } => Progress {
-            done: r,
-            held: lone(k, b),
-        },
-        Run::Bytes {
-            first,
-            count,
-            byte,
-            up,
-            down,
-        } => meet_byte(first, count, byte, up, down, k, b),
-    }
-}
-
-fn next_fill(r: Run, k: usize, v: u32) -> Progress
-    requires small_run { SmallRun k r }
-    requires k_lt_matrix_places { k < matrix_places }
-    ensures { result ≡ next r k (Outcome.Filled v) }
-{
-    match r {
-        Run::Idle => Progress {
-            done: r,
+        }
+    } else {
+        Progress {
+            done: Run::Fills {
+                first,
+                count,
+                value,
+            },
             held: sole(k, v),
-        },
-        Run::Bytes {
-            first: _,
-            count: _,
-            byte: _,
-            up: _,
-            down: _,
-        } => Progress {
-            done: r,
-            held: sole(k, v),
-        },
-        Run::Fills {
-            first,
-            count,
-            value,
-        } => meet_fill(first, count, value, k, v),
+        }
     }
 }
 
-// An element that writes nothing ends the open run.
-fn stopped(r: Run) -> Progress
-    ensures { result ≡ progress r Run.Idle }
-{
-    Progress {
-        done: r,
-        held: Run::Idle,
-    }
-}
-
-// The open run and the outcome of the next element k.
+// The open run and the outcome of the next element k. An element that writes nothing ends the run.
+#[tactic(auto, unfolding(crate::specs::Runs::next))]
 pub fn next_run(r: Run, k: usize, o: Outcome) -> Progress
     requires small_run { SmallRun k r }
     requires k_lt_matrix_places { (k < matrix_places) × Fitting o }
     ensures { result ≡ next r k o }
 {
     match o {
-        Outcome::Skipped => stopped(r),
-        Outcome::Discarded => stopped(r),
-        Outcome::Placed(b) => next_byte(r, k, b),
-        Outcome::Filled(v) => next_fill(r, k, v),
+        Outcome::Skipped | Outcome::Discarded => Progress {
+            done: r,
+            held: Run::Idle,
+        },
+        Outcome::Placed(b) => match r {
+            Run::Bytes {
+                first,
+                count,
+                byte,
+                up,
+                down,
+            } => meet_byte(first, count, byte, up, down, k, b),
+            Run::Idle | Run::Fills { .. } => Progress {
+                done: r,
+                held: lone(k, b),
+            },
+        },
+        Outcome::Filled(v) => match r {
+            Run::Fills {
+                first,
+                count,
+                value,
+            } => meet_fill(first, count, value, k, v),
+            Run::Idle | Run::Bytes { .. } => Progress {
+                done: r,
+                held: sole(k, v),
+            },
+        },
     }
 }
 
@@ -228,18 +183,7 @@ pub fn records_of(r: Run) -> usize
 {
     match r {
         Run::Idle => 0,
-        Run::Bytes {
-            first: _,
-            count: _,
-            byte: _,
-            up: _,
-            down: _,
-        } => 1,
-        Run::Fills {
-            first: _,
-            count: _,
-            value: _,
-        } => 1,
+        Run::Bytes { .. } | Run::Fills { .. } => 1,
     }
 }
 
@@ -249,32 +193,26 @@ pub fn write_run(tape: &mut [i32], at: usize, load: bool, register: u8, r: Run) 
     requires all_in_range { AllInRange (run_records load register r) }
     ensures { (result ≡ at + length (emit r)) × (tape.new ≡ sets tape.old (at * record_length) (tape_numbers (run_records load register r))) }
 {
-    match r {
-        Run::Idle => at,
+    let record = match r {
+        Run::Idle => return at,
         Run::Bytes {
             first,
             count,
             byte,
             up,
             down,
-        } => {
-            let record = records::moved(load, register, first, count, byte, up, down);
-            record_writer::put_record(tape, at * records::NUMBERS, record);
-            at + 1
-        }
+        } => records::moved(load, register, first, count, byte, up, down),
         Run::Fills {
             first,
             count,
             value,
-        } => {
-            let record = Record::Fill {
-                register,
-                first,
-                count,
-                value,
-            };
-            record_writer::put_record(tape, at * records::NUMBERS, record);
-            at + 1
-        }
-    }
+        } => Record::Fill {
+            register,
+            first,
+            count,
+            value,
+        },
+    };
+    record_writer::put_record(tape, at * records::NUMBERS, record);
+    at + 1
 }

@@ -32,15 +32,13 @@ fn count_trace(s: &[u8], parts: &[usize; PARTS], given: Given, memory: usize) ->
 {
     let mut types = registers::empty_types();
     let mut count: usize = 0;
-    let mut k: usize = 0;
-    while k < given.steps {
+    for k in 0..given.steps {
         let turn = turns::turn_at(s, parts, given, types, memory, k);
         let step = turn.step;
         let access = turn.access;
         count += expected::count_events(access);
         let after = checks::step_types(types, step);
         types = after;
-        k += 1;
     }
     count
 }
@@ -50,11 +48,9 @@ fn write_events(out: &mut [u8], at: usize, entries: &[u32; PLACES], count: usize
     requires { (at + count * event_length ≤ length out.old) × (step < step_places) × (count ≤ matrix_places) }
     ensures { out.new ≡ sets out.old at (trace_bytes (listed_events step entries.now count)) }
 {
-    let mut k: usize = 0;
-    while k < count {
+    for k in 0..count {
         let e = expected::listed_event(entries, step, k);
         traces::put_event(out, at + k * EVENT_LEN, e);
-        k += 1;
     }
 }
 
@@ -67,8 +63,7 @@ fn write_trace(out: &mut [u8], s: &[u8], parts: &[usize; PARTS], given: Given, m
     let mut entries = accesses::no_entries();
     let mut types = registers::empty_types();
     let mut at: usize = 0;
-    let mut k: usize = 0;
-    while k < given.steps {
+    for k in 0..given.steps {
         let turn = turns::turn_at(s, parts, given, types, memory, k);
         let step = turn.step;
         let access = turn.access;
@@ -77,7 +72,6 @@ fn write_trace(out: &mut [u8], s: &[u8], parts: &[usize; PARTS], given: Given, m
         at += o.count * EVENT_LEN;
         let after = checks::step_types(types, step);
         types = after;
-        k += 1;
     }
 }
 
@@ -94,17 +88,15 @@ pub fn trace(sheet: &[u8], memory_len: usize, out: &mut [u8]) -> TraceAnswer
 {
     let mut parts = sheet_parts::no_parts();
     let judged = checking::judge(sheet, &mut parts, memory_len);
-    let found = judged.answer;
-    let refused = found.refusal;
+    let refused = judged.answer.refusal;
     if 0 < refused.number {
         return trace_refused(refused);
     }
-    let given = judged.given;
-    let bytes = count_trace(sheet, &parts, given, memory_len) * EVENT_LEN;
+    let bytes = count_trace(sheet, &parts, judged.given, memory_len) * EVENT_LEN;
     if out.len() < bytes {
         return trace_refused(refusals::refusal_at(ROOM_TOO_SHORT, 0, 0));
     }
-    write_trace(out, sheet, &parts, given, memory_len);
+    write_trace(out, sheet, &parts, judged.given, memory_len);
     TraceAnswer {
         refusal: refusals::not_refused(),
         bytes,

@@ -31,12 +31,11 @@ pub fn load_element(
     ensures { (c : Counts) → state elements.new memory.now (more_placed c result) ≡ loaded size register element o (state elements.old memory.now (more_placed c placed)) }
 {
     match o {
-        Outcome::Skipped => placed,
+        Outcome::Skipped | Outcome::Discarded => placed,
         Outcome::Filled(bits) => {
             registers::put_element_of(elements, register, element, bits);
             placed
         }
-        Outcome::Discarded => placed,
         Outcome::Placed(byte) => {
             let x = memory::element_at(memory, byte, size);
             registers::put_element_of(elements, register, element, x);
@@ -60,9 +59,7 @@ pub fn store_element(
     ensures { (c : Counts) → state elements.now memory.new (more_placed c result) ≡ stored size register element o (state elements.now memory.old (more_placed c placed)) }
 {
     match o {
-        Outcome::Skipped => placed,
-        Outcome::Filled(_) => placed,
-        Outcome::Discarded => placed,
+        Outcome::Skipped | Outcome::Filled(_) | Outcome::Discarded => placed,
         Outcome::Placed(byte) => {
             let x = registers::element_of(elements, register, element);
             memory::put_element(memory, byte, size, x);
@@ -85,16 +82,11 @@ pub fn load_elements(
     ensures entries_len { length entries.new ≡ matrix_places }
     ensures result_after { state elements.new memory.now result ≡ loaded_elements p.access register (state elements.old memory.now counted) }
 {
-    let size = p.access.size;
-    let fill = p.fill;
-    let n = p.count;
     accesses::survey(entries, p);
     let mut placed = 0;
-    let mut k = 0;
-    while k < n {
-        let o = accesses::outcome_of(entries[k], fill);
-        placed = load_element(elements, memory, size, register, k, o, placed);
-        k += 1;
+    for (k, &entry) in entries[..p.count].iter().enumerate() {
+        let o = accesses::outcome_of(entry, p.fill);
+        placed = load_element(elements, memory, p.access.size, register, k, o, placed);
     }
     counts::more_placed(counted, placed)
 }
@@ -113,16 +105,11 @@ pub fn store_elements(
     ensures entries_len { length entries.new ≡ matrix_places }
     ensures result_after { state elements.now memory.new result ≡ stored_elements p.access register (state elements.now memory.old counted) }
 {
-    let size = p.access.size;
-    let fill = p.fill;
-    let n = p.count;
     accesses::survey(entries, p);
     let mut placed = 0;
-    let mut k = 0;
-    while k < n {
-        let o = accesses::outcome_of(entries[k], fill);
-        placed = store_element(elements, memory, size, register, k, o, placed);
-        k += 1;
+    for (k, &entry) in entries[..p.count].iter().enumerate() {
+        let o = accesses::outcome_of(entry, p.fill);
+        placed = store_element(elements, memory, p.access.size, register, k, o, placed);
     }
     counts::more_placed(counted, placed)
 }

@@ -9,8 +9,7 @@ use Rattle.access_tapes.proofs.count_access.Goals as goal
 
 pub returns : goal.returns
 returns c =
-    let s = c in
-    let a = s.args.access in
+    let a = c.args.access in
     let e : c.count_runs.result ≡ length (runs (outcome_of a) (elements_of a)) =
-    c.count_runs.ensures (low_bits a) ∙ ap length (told_runs a s.args.entries.now s.requires.1) in
-    (e, omega (arith, e, runs_few (outcome_of a) (elements_of a), s.requires.0))
+    c.count_runs.ensures (low_bits a) ∙ ap length (told_runs a c.args.entries.now c.requires.1) in
+    (e, omega (arith, e, runs_few (outcome_of a) (elements_of a), c.requires.0))

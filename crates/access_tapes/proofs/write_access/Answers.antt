@@ -10,10 +10,9 @@ use Rattle.access_tapes.proofs.write_access.Goals as goal
 
 pub write_runs-requires : goal.write_runs-requires
 write_runs-requires c =
-    let s = c in
-    let a = s.args in
+    let a = c.args in
     let l = c.survey_access-o.ensures.listed in
-    (l.few, s.requires.register_lt_register_count.0, subst (λ (rs : List Record). Room a.tape.now a.at rs) (sym (listed_records l a.access.load a.register)) s.requires.register_lt_register_count.1)
+    (l.few, c.requires.register_lt_register_count.0, subst (λ (rs : List Record). Room a.tape.now a.at rs) (sym (listed_records l a.access.load a.register)) c.requires.register_lt_register_count.1)
 
 pub returns : goal.returns
 returns c =

@@ -12,8 +12,7 @@ use Rattle.judging.proofs.tape_refusal.Goals.{After-records_fit}
 
 fits : (c : After-records_fit) → let a = c.args in c.records_fit.result ≡ records_fit (sheet_of a.s.now).edition (length a.tape.now) a.records
 fits c =
-    let s = c in
-    c.records_fit.ensures ∙ ap (λ (e : ℕ). records_fit e (length s.args.tape.now) s.args.records) (the_edition s.requires)
+    c.records_fit.ensures ∙ ap (λ (e : ℕ). records_fit e (length c.args.tape.now) c.args.records) (the_edition c.requires)
 
 pub returns-then-not-records_fit : goal.returns-then-not-records_fit
 unfolding tape_refusal

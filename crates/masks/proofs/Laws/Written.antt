@@ -1,8 +1,13 @@
 -- Masks as the code writes them: words and a count, one mask after the other, and zeros for the empty ones.
 use Prim.Native.Nat.{ℕ, zero, suc, ◌+◌, ◌-◌, ◌*◌, ◌≤◌, zero-le}
-use Rattle.std.specs.Prelude.{◌≡◌, List, [], ◌∷◌, ◌++◌, length, set}
+use Rattle.std.specs.Prelude.{◌≡◌, List, [], ◌∷◌, ◌++◌, length}
 use Rattle.std.proofs.Math.Path.{refl, ap}
-use Rattle.std.proofs.Common.{sym, ◌∙◌, zero-add}
+use Rattle.std.proofs.Common.{sym, ◌∙◌, zero-add, add-one, replicate, append_assoc}
+use Rattle.std.proofs.lemmas.Grind.{replicate_next}
+use Rattle.std.proofs.lemmas.List.{length-replicate}
+use Rattle.std.proofs.lemmas.List.Edits.{paste_all, sets-eq}
+use Rattle.std.proofs.lemmas.Slice.{put_mid-paste}
+use borrow.Rule.Slice.PartMut.{put_mid}
 use native.Mathlib.Omega.{arith}
 use Rattle.std.specs.Int.Count.{ones}
 use Rattle.std.proofs.Math.ListN.{length-append}
@@ -76,18 +81,18 @@ module _ (bit : ℕ → ℕ) where
 abbrev pub zeros : ℕ → List ℕ
 zeros n = each n (λ (i : ℕ). 0 ∷ [])
 
-length_zeros : (n : ℕ) → length (zeros n) ≡ n
-length_zeros n = length_each 1 n (λ (i : ℕ). 0 ∷ []) (λ k h. refl) ∙ omega arith
-
-pub zeros_none : (masks : List ℕ) (at : ℕ) → masks ≡ sets masks at (zeros 0)
+zeros_are : (n : ℕ) → replicate n 0 ≡ zeros n
 unfolding each
-zeros_none masks at = refl
+zeros_are zero = refl
+zeros_are (suc n) = rw (← zeros_are n) (rw add-one at (replicate_next {X = ℕ} n 0))
 
--- one byte more
-pub zeros_more : (masks : List ℕ) (at n : ℕ) {out : List ℕ} → out ≡ sets masks at (zeros n) → set out (at + n) 0 ≡ sets masks at (zeros (n + 1))
-zeros_more masks at n e =
-    rw (each_more {A = ℕ} n (λ (i : ℕ). 0 ∷ []))
-    (puts_after masks at (zeros n) (0 ∷ []) e (rw (length_zeros n) refl))
+-- a part of the masks that is filled with 0
+pub cleared : (masks part : List ℕ) (at n : ℕ) → at + n ≤ length masks → part ≡ replicate n 0 → put_mid at n masks part ≡ sets masks at (zeros n)
+cleared masks part at n room e =
+    let long : length part ≡ n = rw e (length-replicate n 0) in
+    let set_all = rw long at (sets-eq part masks at (rw long room)) in
+    rw (← zeros_are n, ← e)
+    (put_mid-paste at n masks part part n refl refl (sym long) ∙ paste_all masks at part n (sym long) ∙ sym (set_all ∙ append_assoc _ part _))
 
 two_zeros : 0 ∷ 0 ∷ [] ≡ zeros 2
 unfolding each

@@ -1,6 +1,4 @@
-use mathlib.Core.Path.{◌≡◌, sym, ◌∙◌}
-use Prim.Native.Nat.{◌+◌, ◌-◌, ◌<◌, ◌^◌}
-use native.Mathlib.Omega.{arith}
+use Rattle.std.proofs.Common.{◌≡◌, ◌+◌, ◌-◌, ◌<◌, ◌^◌, sym, ◌∙◌, arith}
 use Rattle.numbers.specs.Laws.Choice.{by_order}
 use Rattle.masks.specs.Entries.{entry_bit}
 use Rattle.masks.proofs.Laws.Packed.{packed_none, packed_zeros, packed_next, packed_room}
@@ -8,27 +6,24 @@ use Rattle.masks.proofs.Laws.Bits.{entry_bits, entry_inside, entry_past}
 use Rattle.masks.proofs.mask_word.Goals as goal
 use Rattle.masks.proofs.mask_word.Goals.{In-loop-left}
 
--- the word has room for one more
-roomy : (c : In-loop-left) → c.loop-left.word < 2 ^ 31
-roomy c =
-    let a = c.args in
-    let l = c.loop-left in
-    rw l.invariant.2 (packed_room (entry_bit a.entries.now a.count) (entry_bits a.entries.now a.count) (a.first + l.left) (32 - l.left) (omega arith))
-
 -- past the word's elements there is no bit, and past its end no place
 pub loop-left-init : goal.loop-left-init
 loop-left-init c =
     let a = c.args in
     let w = c.word_elements-left in
-    let bit = entry_bit a.entries.now a.count in (
-      w.ensures.0,
-      w.ensures.1,
-      by_order w.result 32
-          (λ h. sym (packed_zeros bit (a.first + w.result) (32 - w.result) (λ e l. entry_past a.entries.now a.count e (omega (arith, w.ensures.2 h)))))
-          (λ h.
-          let none : 32 - w.result ≡ 0 = omega arith in
-          rw none (sym (packed_none bit (a.first + w.result)))),
-    )
+    let bit = entry_bit a.entries.now a.count in
+    by_order w.result 32
+    (λ h. sym (packed_zeros bit (a.first + w.result) (32 - w.result) (λ e l. entry_past a.entries.now a.count e (omega (arith, w.ensures.2 h)))))
+    (λ h.
+    let none : 32 - w.result ≡ 0 = omega arith in
+    rw none (sym (packed_none bit (a.first + w.result))))
+
+-- the word has room for one more
+roomy : (c : In-loop-left) → c.loop-left.word < 2 ^ 31
+roomy c =
+    let a = c.args in
+    let l = c.loop-left in
+    rw l.invariant (packed_room (entry_bit a.entries.now a.count) (entry_bits a.entries.now a.count) (a.first + l.left) (32 - l.left) (omega arith))
 
 pub overflow_mul-word : goal.overflow_mul-word
 overflow_mul-word c = omega (arith, roomy c)
@@ -40,16 +35,5 @@ pub loop-left-preserved : goal.loop-left-preserved
 loop-left-preserved c =
     let a = c.args in
     let l = c.loop-left in
-    let inside = entry_inside a.entries.now a.count (a.first + (l.left - 1)) (omega arith) in (
-      omega arith,
-      omega arith,
-      packed_next _ _ l.left (omega arith) l.invariant.0 l.invariant.2 (c.entry_one.ensures.0 ∙ sym inside),
-    )
-
-pub returns : goal.returns
-returns c =
-    let a = c.args in
-    let l = c.loop-left in
-    let e : a.first + l.left ≡ a.first = omega arith in
-    let f : 32 - l.left ≡ 32 = omega arith in
-    rw (e, f) at l.invariant.2
+    let inside = entry_inside a.entries.now a.count (a.first + (l.left - 1)) (omega arith) in
+    packed_next _ _ l.left (omega arith) (omega arith) l.invariant (c.entry_one.ensures.0 ∙ sym inside)

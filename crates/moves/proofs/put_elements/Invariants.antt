@@ -1,6 +1,4 @@
-use lib.ListN.{length}
 use mathlib.Core.Path.{◌≡◌}
-use Prim.Native.Nat.{◌-◌, ◌≤◌}
 use Rattle.numbers.specs.Orders.{in_order}
 use Rattle.counts.specs.Counts.{more_placed}
 use Rattle.counts.specs.declared.Counts.{Counts}
@@ -9,7 +7,4 @@ use Rattle.moves.specs.Elements.{putting}
 use Rattle.moves.proofs.put_elements.Given as goal
 
 abbrev pub invariant-loop-i : goal.invariant-loop-i
-invariant-loop-i l = (l.i ≤ l.count) × (length l.memory ≡ length l.initial.memory) × ((c : Counts) → state l.elements l.memory (more_placed c l.i) ≡ in_order (putting l.size l.register l.first l.byte l.up l.down) l.i (state l.elements l.initial.memory c))
-
-abbrev pub decreases-loop-i : goal.decreases-loop-i
-decreases-loop-i l = l.count - l.i
+invariant-loop-i l = (c : Counts) → state l.elements l.memory (more_placed c l.i) ≡ in_order (putting l.size l.register l.first l.byte l.up l.down) l.i (state l.elements l.initial.memory c)

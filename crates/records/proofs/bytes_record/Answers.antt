@@ -1,26 +1,16 @@
-use mathlib.Core.Path.{refl}
-use Rattle.numbers.specs.Laws.Choice.{taken, left, went}
+use Rattle.numbers.specs.Laws.Choice.{taken, went}
 use Rattle.records.specs.Records.{moved_of}
 use Rattle.records.specs.Laws.Records.{moved_within}
-use Rattle.records.proofs.Laws.{bytes_register, bytes_count, bytes_step, elements_read, bytes_read}
-use native.Mathlib.Omega.{arith}
+use Rattle.records.proofs.Laws.{bytes_count, bytes_step, elements_read, bytes_read}
 use Rattle.records.proofs.bytes_record.Goals as goal
-
-pub returns-then-not-bytes_in_range : goal.returns-then-not-bytes_in_range
-unfolding moved_of
-returns-then-not-bytes_in_range c = (left _ (went c.bytes_in_range.ensures c.if-not-bytes_in_range.true) refl, tt)
-
-pub register_at-register-requires : goal.register_at-register-requires
-register_at-register-requires c = (omega arith, bytes_register _ _ _ _ _ (went c.bytes_in_range.ensures c.if-not-bytes_in_range.false))
 
 pub returns : goal.returns
 unfolding moved_of
 returns c =
-    let s = c in
-    let ok = went s.bytes_in_range.ensures s.if-not-bytes_in_range.false in (
+    let ok = went c.bytes_in_range.ensures c.if-not-bytes_in_range.false in (
       taken _ ok (cc),
       rw c.moved.ensures
-          (moved_within s.args.take
+          (moved_within c.args.take
           (elements_read _ (bytes_count _ _ _ _ _ ok) c.register_at-register.ensures.1
           c.rise-first.ensures.1
           c.rise-count.ensures.0

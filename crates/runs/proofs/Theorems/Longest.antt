@@ -13,7 +13,7 @@ use Rattle.records.specs.Laws.ByteSteps.{at_step_lem, step_at_lem}
 use Rattle.runs.specs.declared.Run.{Run}
 use Rattle.runs.specs.declared.Run.TheVariants.{Idle, Bytes, Fills}
 use Rattle.runs.specs.declared.Progress.{Progress}
-use Rattle.runs.specs.Runs.{lone, meet_byte, meet_fill, next, emit, held, ending, ended, runs}
+use Rattle.runs.specs.Runs.{meet_byte, meet_fill, next, emit, held, ending, ended, runs}
 use Rattle.runs.specs.Even.{Stretch, bytes, fills, first_of, count_of, EvenBytes, EvenFills, Even, Longest}
 use Rattle.runs.proofs.Laws.Alike.{same_byte, same_value, alike_byte, alike_step, alike_value, one_sort}
 

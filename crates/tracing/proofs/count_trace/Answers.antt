@@ -1,4 +1,4 @@
-use Prim.Native.Nat.{ℕ, ◌+◌, ◌-◌, ◌<◌}
+use Prim.Native.Nat.{ℕ, ◌+◌, ◌<◌}
 use mathlib.Core.Path.{ap, subst, ◌∙◌}
 use lib.ListN.{length, length-append}
 use Rattle.sheet_ranges.specs.Steps.{the_step}
@@ -18,73 +18,45 @@ use Rattle.tracing.proofs.count_trace.Goals as goal
 pub loop-k-init : goal.loop-k-init
 unfolding expected
 loop-k-init c =
-    let s = c in
-    let sh = sheet_of s.args.s.now in
+    let sh = sheet_of c.args.s.now in
     let e = c.empty_types-types.ensures in (
+      rw e (rest_start sh c.args.memory c.requires.2),
       omega arith,
-      rw e (rest_start sh s.args.memory s.requires.2),
-      omega arith,
-      rw e (omega (arith, ap length (pass_start (events_at sh s.args.memory) sh s.args.memory))),
+      rw e (omega (arith, ap length (pass_start (events_at sh c.args.memory) sh c.args.memory))),
     )
-
-pub turn_at-turn-requires : goal.turn_at-turn-requires
-turn_at-turn-requires c = (c.requires.0, c.loop-k-test.true)
-
-pub count_events-count-requires : goal.count_events-count-requires
-count_events-count-requires c =
-    let s = c in
-    turned_few (met_turned s.requires.0 c.loop-k-test.true c.turn_at-turn.ensures s.requires.1 c.loop-k.invariant.1.sized)
 
 pub overflow_add-count : goal.overflow_add-count
 overflow_add-count c =
-    let s = c in
     let l = c.loop-k in
     let t = c.loop-k-test.true in
-    let few = turned_few (met_turned s.requires.0 t c.turn_at-turn.ensures s.requires.1 l.invariant.1.sized) in
-    omega (arith, l.invariant.2, c.count_events-count.ensures 0, events_count 0 c.turn_at-turn.result.access, few, t, all_steps s.requires.0, within_places (outlined_within s.requires.0))
-
-pub step_types-after-requires : goal.step_types-after-requires
-step_types-after-requires c =
-    let s = c in
-    let sh = sheet_of s.args.s.now in
-    (s.args.given.edition, sh.tensors.layouts, sh.tensors.views, (met_turned s.requires.0 c.loop-k-test.true c.turn_at-turn.ensures s.requires.1 c.loop-k.invariant.1.sized).ok)
-
-pub overflow_add-k : goal.overflow_add-k
-overflow_add-k c =
-    let o = c.requires.0 in
-    omega (arith, c.loop-k-test.true, all_steps o, within_places (outlined_within o))
-
-pub loop-k-smaller : goal.loop-k-smaller
-loop-k-smaller c = omega (arith, c.loop-k-test.true)
+    let few = turned_few (met_turned c.requires.0 t c.turn_at-turn.ensures c.requires.1 l.invariant.0.sized) in
+    omega (arith, l.invariant.1, c.count_events-count.ensures 0, events_count 0 c.turn_at-turn.result.access, few, t, all_steps c.requires.0, within_places (outlined_within c.requires.0))
 
 pub loop-k-preserved : goal.loop-k-preserved
 loop-k-preserved c =
-    let s = c in
-    let len = s.args.memory in
-    let sh = sheet_of s.args.s.now in
-    let w = outlined_within s.requires.0 in
+    let len = c.args.memory in
+    let sh = sheet_of c.args.s.now in
+    let w = outlined_within c.requires.0 in
     let l = c.loop-k in
     let t = c.loop-k-test.true in
     let m = c.turn_at-turn.ensures in
-    let h : l.k < sh.steps = subst (λ (n : ℕ). l.k < n) (all_steps s.requires.0) t in
+    let h : l.k < sh.steps = subst (λ (n : ℕ). l.k < n) (all_steps c.requires.0) t in
     let n = c.count_events-count.ensures l.k in
-    let few = turned_few (met_turned s.requires.0 t m s.requires.1 l.invariant.1.sized) in
+    let few = turned_few (met_turned c.requires.0 t m c.requires.1 l.invariant.0.sized) in
     let so = c.step_types-after.ensures ∙ ap (step_types l.types) m.step in
-    let gives = ap length (met_gives s.requires.0 t m outcome_event) in
-    let go = ap length (pass_go sh w len s.requires.1 l.k l.types h l.invariant.1 so (events_at sh len)) in
+    let gives = ap length (met_gives c.requires.0 t m outcome_event) in
+    let go = ap length (pass_go sh w len c.requires.1 l.k l.types h l.invariant.0 so (events_at sh len)) in
     let both = length-append (step_events sh.tensors l.types len l.k (the_step sh.step l.k)) (pass_rest (events_at sh len) sh len (l.k + 1) c.step_types-after.result) in (
-      omega (arith, t),
-      rest_next sh w len s.requires.1 l.k l.types h l.invariant.1 so,
-      omega (arith, l.invariant.2, n, events_count l.k c.turn_at-turn.result.access, few),
-      omega (arith, l.invariant.3, n, gives, go, both),
+      rest_next sh w len c.requires.1 l.k l.types h l.invariant.0 so,
+      omega (arith, l.invariant.1, n, events_count l.k c.turn_at-turn.result.access, few),
+      omega (arith, l.invariant.2, n, gives, go, both),
     )
 
 pub returns : goal.returns
 returns c =
-    let s = c in
-    let len = s.args.memory in
-    let sh = sheet_of s.args.s.now in
+    let len = c.args.memory in
+    let sh = sheet_of c.args.s.now in
     let l = c.loop-k in
-    let all = all_steps s.requires.0 in
+    let all = all_steps c.requires.0 in
     let none = ap length (pass_end (events_at sh len) sh len l.k l.types (omega (arith, c.loop-k-test.false, all))) in
-    (omega (arith, l.invariant.3, none), omega (arith, l.invariant.0, l.invariant.2, all, within_places (outlined_within s.requires.0)))
+    (omega (arith, l.invariant.2, none), omega (arith, l.invariant.1, all, within_places (outlined_within c.requires.0)))

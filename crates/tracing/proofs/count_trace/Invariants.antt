@@ -1,4 +1,4 @@
-use Prim.Native.Nat.{◌+◌, ◌-◌, ◌*◌, ◌≤◌}
+use Prim.Native.Nat.{◌+◌, ◌*◌, ◌≤◌}
 use mathlib.Core.Path.{◌≡◌}
 use lib.ListN.{length}
 use Rattle.sheet.specs.Sizes.{matrix_places}
@@ -10,8 +10,5 @@ use Rattle.tracing.proofs.count_trace.Given as goal
 
 abbrev pub invariant-loop-k : goal.invariant-loop-k
 invariant-loop-k l =
-    (l.k ≤ l.given.steps) × Rest (sheet_of l.s) l.memory l.k l.types × (l.count ≤ l.k * matrix_places)
+    Rest (sheet_of l.s) l.memory l.k l.types × (l.count ≤ l.k * matrix_places)
     × (l.count + length (pass_rest (events_at (sheet_of l.s) l.memory) (sheet_of l.s) l.memory l.k l.types) ≡ length (expected (sheet_of l.s) l.memory))
-
-abbrev pub decreases-loop-k : goal.decreases-loop-k
-decreases-loop-k l = l.given.steps - l.k

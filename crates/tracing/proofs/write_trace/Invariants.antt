@@ -1,4 +1,4 @@
-use Prim.Native.Nat.{◌+◌, ◌-◌, ◌*◌, ◌≤◌}
+use Prim.Native.Nat.{◌+◌, ◌*◌, ◌≤◌}
 use mathlib.Core.Path.{◌≡◌}
 use lib.ListN.{length}
 use lib.Seq.{sets}
@@ -13,10 +13,7 @@ use Rattle.tracing.proofs.write_trace.Given as goal
 
 abbrev pub invariant-loop-k : goal.invariant-loop-k
 invariant-loop-k l =
-    (l.k ≤ l.given.steps) × Rest (sheet_of l.s) l.memory l.k l.types × (length l.out ≡ length l.initial.out)
+    Rest (sheet_of l.s) l.memory l.k l.types
     × (l.at + length (pass_rest (events_at (sheet_of l.s) l.memory) (sheet_of l.s) l.memory l.k l.types) * event_length ≤ length l.initial.out)
     × (sets l.out l.at (trace_bytes (pass_rest (events_at (sheet_of l.s) l.memory) (sheet_of l.s) l.memory l.k l.types)) ≡ sets l.initial.out 0 (trace_bytes (expected (sheet_of l.s) l.memory)))
     × (length l.entries ≡ matrix_places)
-
-abbrev pub decreases-loop-k : goal.decreases-loop-k
-decreases-loop-k l = l.given.steps - l.k

@@ -1,13 +1,20 @@
 -- What one element's act keeps, and one more element.
-use Rattle.std.specs.Prelude.{ℕ, zero, suc, ◌+◌, ◌<◌, ◌≤◌, ◌≡◌, refl, List, length}
-use Rattle.std.proofs.Common.{sym, ap₂, ◌∙◌, inl, inr, le_refl, add-one, arith}
-use Rattle.numbers.specs.Laws.Choice.{by_place}
-use Rattle.kinds.specs.Laws.Widths.{ElementSize}
+use Rattle.std.specs.Prelude.{ℕ, ◌+◌, ◌<◌, ◌≤◌, ◌≡◌, refl, List, length, take, get_or}
+use Rattle.std.proofs.Common.{sym, ap₂, ◌∙◌, le_refl, add-one, arith}
+use Rattle.std.proofs.lemmas.List.{length-take, get_or-take}
 use Rattle.outcomes.specs.declared.Outcome.{Outcome}
 use Rattle.outcomes.specs.declared.Outcome.TheVariants.{Skipped, Filled, Discarded, Placed}
 use Rattle.addressing.specs.declared.Access.{Access}
-use Rattle.addressing.specs.Valid.{SizedAccess}
+use Rattle.addressing.specs.declared.Plan.{Plan}
+use Rattle.addressing.specs.Rules.{elements_of}
+use Rattle.addressing.specs.Valid.{Planned}
 use Rattle.addressing.specs.Sound.{Sound}
+use Rattle.addressing.specs.Laws.Plans.{plan_count}
+use Rattle.accesses.specs.declared.Tally.{Tally}
+use Rattle.accesses.specs.Refusals.{element_outcome, access_refusal}
+use Rattle.accesses.specs.Entries.{entry_outcome, Surveyed}
+use Rattle.accesses.proofs.Laws.Accepted.{element_sound}
+use Rattle.accesses.proofs.Laws.Surveys.{surveyed_outcome}
 use Rattle.memory.specs.Elements.{element_at, with_element}
 use Rattle.memory.proofs.Laws.Elements.{length_with}
 use Rattle.registers.specs.Registers.{element_of, with_element_of}
@@ -15,7 +22,7 @@ use Rattle.counts.specs.Counts.{more_placed}
 use Rattle.counts.specs.Laws.Counts.{placed_none, placed_more}
 use Rattle.counts.specs.declared.Counts.{Counts}
 use Rattle.transfers.specs.Acts.{State, state, took, put, loaded, stored, Inside}
-use Rattle.transfers.specs.Transfers.{transferred}
+use Rattle.transfers.specs.Transfers.{transferred, outcome_of}
 
 module _ (size register element : ℕ) where
   -- a load's element changes no memory, a store's no register
@@ -77,18 +84,17 @@ sound_inside a (Filled bits) s = tt
 sound_inside a Discarded s = tt
 sound_inside a (Placed byte) s = s.0
 
--- the elements of an access have 1, 2 or 4 bytes
-pub access_size : (a : Access) → SizedAccess a → ElementSize a.size
-access_size a s =
-    by_place a.size 1 inl
-    (λ n. by_place a.size 2 (λ e. inr (inl e)) (λ m. let k : a.size ≡ 4 = omega (arith, s.some, s.most, s.odd) in inr (inr k)))
+-- the entries that a loop over them meets stand for the elements' outcomes, and lie in memory
+module _ (p : Plan) (ok : Planned p) (clear : (access_refusal p.access).number ≡ 0) {r : Tally} {entries : List ℕ} (v : Surveyed (element_outcome p.access) (elements_of p.access) r entries) (k : ℕ) (h : k < length (take p.count entries)) where
+  pub met_place : k < p.count
+  met_place = omega (arith, rw length-take at h)
+
+  pub met_outcome : entry_outcome p.fill (get_or (take p.count entries) k 0) ≡ outcome_of p.access k
+  met_outcome = let l = met_place in rw get_or-take (surveyed_outcome p ok v clear k (rw (← plan_count p ok) l))
+
+  pub met_inside : {o : Outcome} → o ≡ entry_outcome p.fill (get_or (take p.count entries) k 0) → Inside p.access.size p.access.memory o
+  met_inside e = rw (e, met_outcome) (sound_inside p.access (outcome_of p.access k) (element_sound p.access k))
 
 -- one turn of the loop over elements
 pub transferred_turn : (act : ℕ → Outcome → State → State) (f : ℕ → Outcome) (k : ℕ) (s : State) {t u : State} (o : Outcome) → o ≡ f k → t ≡ transferred act f k s → u ≡ act k o t → u ≡ transferred act f (k + 1) s
 transferred_turn act f k s o q inv e = e ∙ ap₂ (act k) q inv ∙ sym (transferred_more act f k s)
-
--- elements with the same outcomes act alike
-pub transferred_same : (act : ℕ → Outcome → State → State) {f g : ℕ → Outcome} (n : ℕ) (s : State) → ((k : ℕ) → k < n → f k ≡ g k) → transferred act f n s ≡ transferred act g n s
-unfolding transferred
-transferred_same act zero s h = refl
-transferred_same act (suc n) s h = ap₂ (act n) (h n (omega arith)) (transferred_same act n s (λ k l. h k (omega arith)))

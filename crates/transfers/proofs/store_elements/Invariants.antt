@@ -1,14 +1,10 @@
-use Rattle.transfers.specs.Transfers.{transferred}
-use Rattle.transfers.specs.Acts.{state, stored}
-use Rattle.accesses.specs.Entries.{entry_outcome}
+use Rattle.std.proofs.Common.{◌≡◌, ◌≤◌}
 use Rattle.counts.specs.Counts.{more_placed}
-use lib.ListN.{length, get_or}
-use mathlib.Core.Path.{◌≡◌}
-use Prim.Native.Nat.{ℕ, ◌-◌, ◌≤◌}
+use Rattle.transfers.specs.Acts.{state, stored}
+use Rattle.transfers.specs.Transfers.{transferred, outcome_of}
 use Rattle.transfers.proofs.store_elements.Given as goal
 
 abbrev pub invariant-loop-k : goal.invariant-loop-k
-invariant-loop-k l = (l.k ≤ l.n) × (l.placed ≤ l.k) × (length l.memory ≡ length l.initial.memory) × (state l.elements l.memory (more_placed l.counted l.placed) ≡ transferred (stored l.size l.register) (λ (j : ℕ). entry_outcome l.fill (get_or l.entries j 0)) l.k (state l.elements l.initial.memory l.counted))
-
-abbrev pub decreases-loop-k : goal.decreases-loop-k
-decreases-loop-k l = l.n - l.k
+invariant-loop-k l =
+    (l.placed ≤ l.k)
+    × (state l.elements l.memory (more_placed l.counted l.placed) ≡ transferred (stored l.p.access.size l.register) (outcome_of l.p.access) l.k (state l.elements l.initial.memory l.counted))
