@@ -2,10 +2,10 @@
 use Prim.Native.Nat.{ℕ, zero, suc, ◌+◌, ◌-◌, ◌*◌, ◌/◌, ◌%◌, ◌^◌, ◌<◌, ◌≤◌}
 use mathlib.Core.Path.{◌≡◌, refl, sym, ap, ◌∙◌}
 use mathlib.Core.Bool.{Bool, true, false, true≢false}
-use native.Mathlib.Nat.{mul-le-mul, not-suc-le-zero, div-add-mod', zero-mul, suc-mul}
+use native.Mathlib.Nat.{not-suc-le-zero, div-add-mod', zero-mul, suc-mul}
 use native.Mathlib.Omega.{arith}
 use lib.Dec.{ltb, leb}
-use lib.IntN.{ℤ, pos, negsuc, ◌+ℤ◌}
+use lib.IntN.{pos, negsuc, ◌+ℤ◌}
 use lib.ListN.{get_or}
 use mathlib.Core.List.{List}
 use borrow.Author.Tests.{lt-ltb, le-ltb, le-leb, lt-leb, ltb-false}
@@ -27,7 +27,7 @@ use Rattle.sheet.specs.declared.View.{View}
 use Rattle.addressing.specs.declared.Access.{Access}
 use Rattle.clamps.specs.declared.Clamped.{Clamped}
 use Rattle.clamps.specs.declared.Clamped.TheVariants.{Refused, Discarded, Filled, At}
-use Rattle.sheet.specs.Sizes.{rank_places, matrix_places, size_limit}
+use Rattle.sheet.specs.Sizes.{rank_places, size_limit}
 use Rattle.view_indices.specs.Plans.{sizes_of, strides_of}
 use Rattle.view_indices.specs.Laws.Indices.{five_at}
 use Rattle.dimensions.specs.declared.Tail.{Tail}
@@ -36,10 +36,9 @@ use Rattle.dimensions.specs.Laws.Tails.{lead_most}
 use Rattle.addressing.specs.Plans.{planned}
 use Rattle.view_indices.specs.Indices.{view_sizes, view_strides, span_of}
 use Rattle.spans.specs.Spans.{span_coordinates}
-use Rattle.clamps.specs.Clamps.{twos, coordinate_of, clamped, sided}
-use Rattle.clamps.specs.declared.Sided.{Sided}
+use Rattle.clamps.specs.Clamps.{twos, coordinate_of, clamped}
 use Rattle.clamps.proofs.Laws.Offsets.{lower, upper}
-use Rattle.addressing.specs.Rules.{outside_clip, outside_view, elements_of, clip_width, low_bits, scaled, part, plus, tensor_index, refused, settled, reached}
+use Rattle.addressing.specs.Rules.{outside_clip, outside_view, elements_of, clip_width, low_bits, part, plus, tensor_index, refused, settled, reached}
 
 -- Rule 1: inside the clip the offset can be subtracted
 pub clip_low : (c : Clip) (x : ℕ) → outside_clip c x ≡ false → c.offset ≤ x
@@ -62,10 +61,6 @@ module _ (v : View) (row col : ℕ) (e : outside_view v row col ≡ false) where
       pick_case (λ (b : Bool). b ≡ false → outside_clip v.columns col ≡ false) (outside_clip v.rows row) true (outside_clip v.columns col)
       (λ t q. absurd (true≢false q)) (λ t q. q) e
 
--- the product of a row and a width
-pub sides : (a b : ℕ) → a < matrix_places → b ≤ matrix_places → a * b ≤ matrix_places * matrix_places
-sides a b g h = mul-le-mul {n₁ = a} {m₁ = b} {n₂ = matrix_places} {m₂ = matrix_places} (omega arith) h
-
 -- an element's row, its column and the columns are no more than the elements
 pub column_few : (k n : ℕ) → k % n ≤ k
 column_few k n = omega (arith, div-add-mod' k n)
@@ -73,17 +68,6 @@ column_few k n = omega (arith, div-add-mod' k n)
 pub columns_few : (rows n k : ℕ) → k < rows * n → n ≤ rows * n
 columns_few zero n k h = absurd (not-suc-le-zero (rw zero-mul at h))
 columns_few (suc rows) n k h = rw (suc-mul rows n) (omega arith)
-
--- Rules 4 and 5 for one dimension
-pub part_is : (load : Bool) (mode : ClampMode) (d : Dimension) (s : ℕ) {x : Clamped}
-    → clamped load mode (coordinate_of d s) d.size ≡ x → scaled d x ≡ part load mode d s
-unfolding part
-part_is load mode d s e = rw e
-
--- the same by what its calls give: the offset and the dimension as wider numbers, the sum, and the sum clamped
-pub part_told : (load : Bool) (mode : ClampMode) (d : Dimension) (s : ℕ) {offset n : ℕ} {c : ℤ} {r : Sided} {x : Clamped}
-    → offset ≡ d.offset → c ≡ pos s +ℤ twos offset → n ≡ d.size → r ≡ sided load mode c n → r.clamped ≡ x → scaled d x ≡ part load mode d s
-part_told load mode d s {x = x} e f g h i = part_is load mode d s {x = x} (rw (← e, ← f, ← g) (sym (ap (λ (y : Sided). y.clamped) h) ∙ i))
 
 -- the fixed dimensions and those after them are all
 pub tail_whole : (l : Layout) (t : Tail) → t ≡ tail_of l → lead l + t.rank ≡ l.rank

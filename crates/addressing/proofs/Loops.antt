@@ -1,16 +1,15 @@
 -- Rules 2 and 3 to 5 as loops from the last dimension to the first, which keep no coordinates.
-use Prim.Native.Nat.{ℕ, zero, suc, ◌+◌, ◌-◌, ◌*◌, ◌/◌, ◌%◌, ◌<◌, ◌≤◌}
+use Prim.Native.Nat.{ℕ, ◌+◌, ◌-◌, ◌*◌, ◌/◌, ◌%◌, ◌<◌, ◌≤◌}
 use mathlib.Core.Path.{◌≡◌, refl, sym, ap, ◌∙◌}
 use mathlib.Core.Bool.{Bool, true}
 use mathlib.Core.List.{List}
-use native.Mathlib.Nat.{add-zero}
+use native.Mathlib.Nat.{add-zero, mod-lt}
 use native.Mathlib.Omega.{arith}
-use Rattle.tensor_ranges.specs.Laws.Facts.{layout_most, layout_span}
+use Rattle.tensor_ranges.specs.Laws.Facts.{InSize, layout_most, layout_span, layout_block, layout_size}
 use Rattle.tensor_ranges.specs.Layouts.{the_dimension, layout_ok}
-use Rattle.sheet.specs.declared.ClampMode.{ClampMode}
 use Rattle.sheet.specs.declared.Dimension.{Dimension}
 use Rattle.sheet.specs.declared.Layout.{Layout}
-use Rattle.sheet.specs.Sizes.{rank_places}
+use Rattle.sheet.specs.Sizes.{rank_places, size_limit}
 use Rattle.clamps.specs.declared.Clamped.{Clamped}
 use Rattle.clamps.specs.declared.Clamped.TheVariants.{Refused, Discarded, Filled, At}
 use Rattle.view_indices.specs.Indices.{span_of}
@@ -45,23 +44,6 @@ module _ (l : Layout) (ok : layout_ok l ≡ true) {ns : List ℕ} {d : ℕ} {x :
   same_dimension =
       let q : lead l + (d - 1) ≡ lead l + d - 1 = omega arith in
       e ∙ rw (n, tail_dimension l ok (d - 1) (omega arith), q) refl
-
-  pub same_span : {span : ℕ} → span ≡ x.span → span ≡ span_of l (lead l + d - 1)
-  same_span f = f ∙ ap (λ (y : Dimension). y.span) same_dimension
-
-  some : 0 < span_of l (lead l + d - 1)
-  some = (layout_span l ok (lead l + d - 1) (omega arith)).some
-
-  module _ (left : ℕ) {span : ℕ} {s : Split} (f : span ≡ x.span) (g : s ≡ split_by span left) where
-    pub same_rest : s.rest ≡ left % span_of l (lead l + d - 1)
-    same_rest = rw (g, same_span f) (split_rest left some)
-
-    pub same_quotient : s.quotient ≡ left / span_of l (lead l + d - 1)
-    same_quotient = rw (g, same_span f) (split_quotient left some)
-
-    pub same_part : (load : Bool) {r : Clamped} → r ≡ part load l.mode x s.rest
-        → r ≡ part load l.mode (the_dimension l.dimensions (lead l + d - 1)) (left % span_of l (lead l + d - 1))
-    same_part load q = q ∙ rw (same_rest, same_dimension)
 
 -- The loop over the first n dimensions: those from d on are done and have a sum; `left` is what is left of the index.
 pub record Summing (load : Bool) (l : Layout) (n index d left sum : ℕ) : Type 0 where
@@ -127,30 +109,72 @@ module _ (load : Bool) (l : Layout) (ok : layout_ok l ≡ true) (n index : ℕ) 
         walk = summing_start load l (lead l + n) index;
       })
 
-  module _ (d left sum : ℕ) (w : Tailing load l n index d left sum) (h : 0 < d) where
-    abbrev here : Clamped
-    here = part load l.mode (the_dimension l.dimensions (lead l + d - 1)) (left % span_of l (lead l + d - 1))
+  -- a turn at the last of d dimensions, as a dimension and what its span makes of the index
+  pub record Turn (d left sum : ℕ) (x : Dimension) (s : Split) : Type 0 where
+    pub inv : Tailing load l n index d left sum
+    pub some : 0 < d
+    pub dimension : x ≡ the_dimension l.dimensions (lead l + d - 1)
+    pub rest : s.rest ≡ left % span_of l (lead l + d - 1)
+    pub quotient : s.quotient ≡ left / span_of l (lead l + d - 1)
 
-    pub tailing_fits : (y : ℕ) → y ≤ part_limit → sum + y ≤ rank_places * part_limit
-    tailing_fits y m = omega (arith, w.adds, w.start, w.walk.small, w.walk.few, w.most, layout_most l ok, lead_most l)
+  pub turn : {ns : List ℕ} {d left sum span : ℕ} {x : Dimension} {s : Split} → ns ≡ tail_numbers l → Tailing load l n index d left sum → 0 < d
+      → x ≡ dimension_in ns (dimension_numbers * (d - 1)) → span ≡ x.span → s ≡ split_by span left → Turn d left sum x s
+  turn {d = d} {left = left} {x = x} e w h f g t =
+      let z = same_dimension l ok e h w.few f in
+      let some = (layout_span l ok (lead l + d - 1) (omega (arith, w.few, lead_most l))).some in
+      let q = g ∙ ap (λ (y : Dimension). y.span) z in
+      record {
+        inv = w;
+        some = h;
+        dimension = z;
+        rest = rw (t, q) (split_rest left some);
+        quotient = rw (t, q) (split_quotient left some);
+      }
 
-    pub tailing_more : (y : ℕ) → y ≤ part_limit → here ≡ At y → Tailing load l n index (d - 1) (left / span_of l (lead l + d - 1)) (sum + y)
-    tailing_more y m e =
-        let q : lead l + d - 1 ≡ lead l + (d - 1) = omega arith in
-        record {
+  module _ {d left sum : ℕ} {x : Dimension} {s : Split} (t : Turn d left sum x s) where
+    abbrev place : ℕ
+    place = lead l + d - 1
+
+    in_rank : place < l.rank
+    in_rank = omega (arith, t.some, t.inv.few, lead_most l)
+
+    pub turn_size : InSize x.size
+    turn_size = rw t.dimension (layout_size l ok place in_rank)
+
+    pub turn_block : InSize x.block
+    turn_block = rw t.dimension (layout_block l ok place in_rank)
+
+    pub turn_rest : s.rest < size_limit
+    turn_rest = let z = layout_span l ok place in_rank in rw t.rest (omega (arith, mod-lt left z.some, z.most))
+
+    here : {r : Clamped} → r ≡ part load l.mode x s.rest → part load l.mode (the_dimension l.dimensions place) (left % span_of l place) ≡ r
+    here e = sym (e ∙ rw (t.rest, t.dimension))
+
+    pub turn_fits : (y : ℕ) → y ≤ part_limit → sum + y ≤ rank_places * part_limit
+    turn_fits y m = let w = t.inv in omega (arith, t.some, w.adds, w.start, w.walk.small, w.walk.few, w.most, layout_most l ok, lead_most l)
+
+    pub turn_more : (y : ℕ) → y ≤ part_limit → At y ≡ part load l.mode x s.rest → Tailing load l n index (d - 1) s.quotient (sum + y)
+    turn_more y m e =
+        let w = t.inv in
+        let h = t.some in
+        let q : place ≡ lead l + (d - 1) = omega arith in
+        rw t.quotient
+        (record {
           few = omega (arith, w.few);
           most = w.most;
           start = w.start;
           done = w.done + y;
           adds = omega (arith, w.adds);
-          walk = rw (← q) (summing_more load l (lead l + n) index (lead l + d) left w.done w.walk (omega arith) y m e);
-        }
+          walk = rw (← q) (summing_more load l (lead l + n) index (lead l + d) left w.done w.walk (omega arith) y m (here e));
+        })
 
-    pub tailing_stop : (y : Clamped) → ((a : ℕ) → plus (At a) y ≡ y) → plus y (At w.done) ≡ y → ((z : Clamped) → AtOr z y → z ≡ y) → here ≡ y
+    pub turn_stop : (y : Clamped) → ((a : ℕ) → plus (At a) y ≡ y) → plus y (At t.inv.done) ≡ y → ((z : Clamped) → AtOr z y → z ≡ y) → y ≡ part load l.mode x s.rest
         → y ≡ up_to load l (lead l + n) index
-    tailing_stop y after before alike e =
+    turn_stop y after before alike e =
+        let w = t.inv in
+        let h = t.some in
         summing_stop load l (lead l + n) index (lead l + d) left w.done w.walk (omega arith) y after before
-        (alike (stop_of load l.mode) (next_stop load l (lead l + n) index (lead l + d) left w.done w.walk (omega arith) y e)) e
+        (alike (stop_of load l.mode) (next_stop load l (lead l + n) index (lead l + d) left w.done w.walk (omega arith) y (here e))) (here e)
 
   pub tailing_end : (d left sum : ℕ) → Tailing load l n index d left sum → d ≤ 0
       → (At sum ≡ up_to load l (lead l + n) index) × (sum ≤ (lead l + n) * part_limit)

@@ -1,7 +1,7 @@
 // Where one element of a load or a store goes (document 01, "Where an element goes").
 #![tactic(auto)]
 
-ghost use Rattle.std.specs.Prelude.{◌≡◌, ◌*◌, ◌/◌, ◌^◌, ◌%◌, ◌≤◌, ◌<◌, min};
+ghost use Rattle.std.specs.Prelude.{◌≡◌, ◌*◌, ◌/◌, ◌^◌, ◌%◌, ◌≤◌, ◌<◌};
 ghost use Rattle.sheet.specs.Sizes.{rank_places};
 ghost use Rattle.dimensions.specs.Dimensions.{lead, tail_of, tail_numbers, part_limit};
 ghost use Rattle.addressing.specs.Plans.{planned};
@@ -65,12 +65,6 @@ pub struct Located {
     pub outcome: Outcome,
 }
 
-fn smaller(a: u32, b: u32) -> u32
-    ensures { result ≡ min a b }
-{
-    if a <= b { a } else { b }
-}
-
 // The low bits of the clamp value, for an element of `size` bytes.
 fn low_bits(value: u32, size: usize) -> u32
     requires { (0 < size) × (size ≤ 4) × (size ≡ 3 → ⊥) }
@@ -90,21 +84,15 @@ pub fn plan_of(a: Access) -> Plan
     requires { ValidAccess a }
     ensures { (result ≡ planned a) × Planned result }
 {
-    let l = a.layout;
-    let v = a.view;
-    let clip = v.columns;
-    let count = (a.rows * a.columns) as usize;
-    let sizes = view_indices::sizes_of(a.viewed, l, v);
-    let strides = view_indices::strides_of(a.viewed, l, v);
-    let mut numbers = dimensions::layout_numbers(l);
-    let tail = dimensions::tail_of(&mut numbers, l);
+    let mut numbers = dimensions::layout_numbers(a.layout);
+    let tail = dimensions::tail_of(&mut numbers, a.layout);
     Plan {
         access: a,
-        count,
-        width: smaller(a.columns, wide(clip.span)),
-        fill: low_bits(l.clamp, a.size),
-        sizes,
-        strides,
+        count: (a.rows * a.columns) as usize,
+        width: a.columns.min(wide(a.view.columns.span)),
+        fill: low_bits(a.layout.clamp, a.size),
+        sizes: view_indices::sizes_of(a.viewed, a.layout, a.view),
+        strides: view_indices::strides_of(a.viewed, a.layout, a.view),
         tail,
         numbers,
     }
@@ -129,13 +117,13 @@ pub fn answer(o: Outcome) -> Located
 }
 
 // Rule 5: the byte of a tensor index, which is below 2 to the 31st, so that nothing wraps.
+#[tactic(auto, unfolding(numbers::specs::Choice::pick, crate::specs::Rules::addressed))]
 pub fn address(a: Access, t: u32) -> Located
     requires { ValidAccess a × (t ≤ rank_places * part_limit) }
     ensures { result ≡ addressed a t }
 {
-    let size = a.size;
-    let byte = a.base as usize + t as usize * size;
-    if byte + size <= a.memory {
+    let byte = a.base as usize + t as usize * a.size;
+    if byte + a.size <= a.memory {
         answer(Outcome::Placed(byte))
     } else {
         refuse(OUTSIDE_MEMORY)
@@ -150,7 +138,7 @@ fn reach(a: Access, numbers: &[u16; LAYOUT_NUMBERS], tail: Tail, fill: u32, inde
     if INDEX_LIMIT <= index {
         return refuse(INDEX_TOO_LARGE);
     }
-    let rank = tail.rank as usize;
+    let rank = usize::from(tail.rank);
     match tensors::tensor_index(a.load, a.layout, numbers, tail, rank, index as u32) {
         Clamped::Refused => refuse(OUTSIDE_UNDEFINED),
         Clamped::Discarded => answer(Outcome::Discarded),
@@ -172,7 +160,7 @@ pub fn index_of(
     ensures { result ≡ indexed p.access (k / p.access.columns) (k % p.access.columns) }
 {
     if !p.access.viewed {
-        return Indexed::Index(k as u64);
+        return Indexed::Index(u64::from(k));
     }
     let v = p.access.view;
     let row = k / p.access.columns;
@@ -185,6 +173,7 @@ pub fn index_of(
 }
 
 // Rules 1 to 5: element number k. The arrays are the plan's and its view's, lent so that they are not copied for each element.
+#[tactic(auto, using(crate::specs::Laws::Plans::plan_fill, crate::proofs::Laws::plan_numbers, crate::proofs::Laws::plan_tail), unfolding(crate::specs::Rules::located))]
 pub fn locate(
     p: Plan,
     permutation: &[u8; RANK],

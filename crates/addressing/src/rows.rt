@@ -21,27 +21,24 @@ pub fn row_start(p: Plan, numbers: &[u16; LAYOUT_NUMBERS], row: u32) -> Clamped
     requires { Planned p × (numbers.now ≡ p.numbers) × (0 < p.tail.rank) }
     ensures { (result ≡ up_to p.access.load p.access.layout (p.access.layout.rank - 1) row) × AtMost ((rank_places - 1) * part_limit) result }
 {
-    let tail = p.tail;
-    let rank = tail.rank as usize - 1;
-    crate::tensors::row_index(p.access.load, p.access.layout, numbers, tail, rank, row)
+    let rank = usize::from(p.tail.rank) - 1;
+    crate::tensors::row_index(p.access.load, p.access.layout, numbers, p.tail, rank, row)
 }
 
 pub fn last_dimension(p: Plan, numbers: &[u16; LAYOUT_NUMBERS]) -> Dimension
     requires { Planned p × (numbers.now ≡ p.numbers) × (0 < p.tail.rank) }
     ensures { (result ≡ last_of p.access.layout) × InSize result.span × InSize result.size }
 {
-    let tail = p.tail;
-    dimension_at(numbers, tail.rank as usize - 1)
+    dimension_at(numbers, usize::from(p.tail.rank) - 1)
 }
 
 // Rules 4 and 5 for the element at span coordinate s of a row, to which the dimensions before the last add t.
+#[tactic(auto, using(crate::proofs::Laws::last_size, crate::proofs::Laws::last_block, crate::proofs::Laws::cell_is))]
 pub fn cell(a: Access, x: Dimension, fill: u32, t: u32, s: u32) -> Located
     requires { ValidAccess a × (x ≡ last_of a.layout) × (fill ≡ low_bits a) × (s < size_limit) × (t ≤ (rank_places - 1) * part_limit) }
     ensures { result ≡ cell_of a (At t) s }
 {
-    let l = a.layout;
-    let mode = l.mode;
-    match crate::tensors::part(a.load, mode, x, s) {
+    match crate::tensors::part(a.load, a.layout.mode, x, s) {
         Clamped::Refused => crate::refuse(OUTSIDE_UNDEFINED),
         Clamped::Discarded => crate::answer(Outcome::Discarded),
         Clamped::Filled => crate::answer(Outcome::Filled(fill)),
@@ -57,12 +54,6 @@ pub struct Inner {
     pub first: u32,
 }
 
-fn less(a: u32, b: u32) -> u32
-    ensures { result ≡ a - b }
-{
-    if a <= b { 0 } else { a - b }
-}
-
 pub fn inner_of(x: Dimension) -> Inner
     requires { InSize x.size }
     ensures { Inside x result }
@@ -72,7 +63,7 @@ pub fn inner_of(x: Dimension) -> Inner
     if raw < 32768 {
         return Inner {
             from: 0,
-            to: less(size, raw),
+            to: size.saturating_sub(raw),
             first: raw,
         };
     }

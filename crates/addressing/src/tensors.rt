@@ -15,14 +15,13 @@ use spans::split_by;
 use view_indices::wide;
 
 // Rules 4 and 5 for a dimension at span coordinate s: at most 4,096 times 65,536, 2 to the 28th.
+#[tactic(auto, using(dimensions::specs::Laws::Tails::part_most, clamps::proofs::Laws::Clamps::clamped_lt), unfolding(crate::specs::Rules::part))]
 pub fn part(load: bool, mode: ClampMode, d: Dimension, s: u32) -> Clamped
     requires { InSize d.size × InSize d.block × (s < size_limit) }
     ensures { (result ≡ part load mode d s) × AtMost part_limit result }
 {
     let c = clamps::shifted(s, wide(d.offset));
-    let r = clamps::clamp(load, mode, c, wide(d.size));
-    let clamped = r.clamped;
-    match clamped {
+    match clamps::clamp(load, mode, c, wide(d.size)).clamped {
         Clamped::Refused => Clamped::Refused,
         Clamped::Discarded => Clamped::Discarded,
         Clamped::Filled => Clamped::Filled,
@@ -45,9 +44,7 @@ pub fn tensor_index(
 {
     let mut sum = tail.start;
     let mut left = index;
-    let mut d = rank;
-    while 0 < d {
-        d -= 1;
+    for d in (0..rank).rev() {
         let x = dimension_at(numbers, d);
         let s = split_by(left, wide(x.span));
         left = s.quotient;
@@ -56,8 +53,7 @@ pub fn tensor_index(
             sum += block_of(c, wide(x.block)) * wide(x.stride);
             continue;
         }
-        let mode = l.mode;
-        match part(load, mode, x, s.rest) {
+        match part(load, l.mode, x, s.rest) {
             Clamped::Refused => return Clamped::Refused,
             Clamped::Discarded => return Clamped::Discarded,
             Clamped::Filled => return Clamped::Filled,
@@ -82,14 +78,11 @@ pub fn row_index(
 {
     let mut sum = tail.start;
     let mut left = index;
-    let mut d = rank;
-    while 0 < d {
-        d -= 1;
+    for d in (0..rank).rev() {
         let x = dimension_at(numbers, d);
         let s = split_by(left, wide(x.span));
         left = s.quotient;
-        let mode = l.mode;
-        match part(load, mode, x, s.rest) {
+        match part(load, l.mode, x, s.rest) {
             Clamped::Refused => return Clamped::Refused,
             Clamped::Discarded => return Clamped::Discarded,
             Clamped::Filled => return Clamped::Filled,

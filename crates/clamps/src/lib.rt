@@ -38,6 +38,7 @@ pub struct Sided {
 }
 
 // A span coordinate plus a signed offset.
+#[tactic(auto, using(crate::proofs::Laws::Offsets::lower, crate::proofs::Laws::Offsets::upper))]
 pub fn shifted(s: u32, raw: u32) -> Coordinate
     requires { (s < size_limit) × (raw < 65536) }
     ensures { integer result ≡ pos s +ℤ twos raw }
@@ -73,6 +74,7 @@ fn to_edge(c: Coordinate, n: u32) -> u32
     }
 }
 
+#[tactic(auto, unfolding(numbers::specs::Choice::pick, crate::specs::Clamps::mirrored, crate::specs::Clamps::turned_back))]
 fn mirror(c: Coordinate, n: u32) -> u32
     requires { (0 < n) × (n ≤ size_limit) }
     ensures { result ≡ mirrored (integer c) n }
@@ -111,6 +113,7 @@ fn on_store(mode: ClampMode) -> Clamped
 }
 
 // What rule 4 gives outside the n places.
+#[tactic(auto, unfolding(numbers::specs::Choice::pick, crate::specs::Clamps::outside))]
 pub fn outside(load: bool, mode: ClampMode, c: Coordinate, n: u32) -> Clamped
     requires { (0 < n) × (n ≤ size_limit) }
     ensures { result ≡ outside load mode (integer c) n }
@@ -123,6 +126,7 @@ pub fn outside(load: bool, mode: ClampMode, c: Coordinate, n: u32) -> Clamped
 }
 
 // A coordinate over the n places of its dimension.
+#[tactic(auto, unfolding(numbers::specs::Choice::pick, crate::specs::Clamps::clamped, crate::specs::Clamps::side_of))]
 pub fn clamp(load: bool, mode: ClampMode, c: Coordinate, n: u32) -> Sided
     requires { (0 < n) × (n ≤ size_limit) }
     ensures { result ≡ sided load mode (integer c) n }
@@ -149,24 +153,20 @@ pub fn clamp(load: bool, mode: ClampMode, c: Coordinate, n: u32) -> Sided
 }
 
 // The first dimension outside by the span coordinates of an element: asked for one element at a time, and no part of a job, which needs no dimension's name.
+#[tactic(auto, using(tensor_ranges::specs::Laws::Facts::layout_most))]
 pub fn first_outside(load: bool, l: Layout, coordinates: [u32; RANK]) -> Outside
     requires { (layout_ok l ≡ true) × ((d : ℕ) → d < l.rank → get_or coordinates d 0 < size_limit) }
     ensures { result ≡ first_outside l coordinates }
 {
-    let rank = l.rank as usize;
-    let mode = l.mode;
-    let mut d: usize = 0;
-    while d < rank {
-        let x = l.dimensions[d];
-        let c = shifted(coordinates[d], wide(x.offset));
-        let r = clamp(load, mode, c, wide(x.size));
-        let side = r.side;
-        match side {
+    for d in 0..l.rank {
+        let place = usize::from(d);
+        let x = l.dimensions[place];
+        let c = shifted(coordinates[place], wide(x.offset));
+        match clamp(load, l.mode, c, wide(x.size)).side {
             Side::Inside => {}
-            Side::Below => return Outside::Below(d as u8),
-            Side::Above => return Outside::Above(d as u8),
+            Side::Below => return Outside::Below(d),
+            Side::Above => return Outside::Above(d),
         }
-        d += 1;
     }
     Outside::Nowhere
 }

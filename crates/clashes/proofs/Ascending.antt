@@ -1,5 +1,5 @@
 -- Laws of bytes that ascend.
-use Prim.Native.Nat.{ℕ, ◌+◌, ◌<◌, ◌≤◌, zero-le}
+use Prim.Native.Nat.{ℕ, ◌+◌, ◌<◌, ◌≤◌}
 use mathlib.Core.Path.{◌≡◌, refl, ◌∙◌}
 use mathlib.Core.Bool.{true, false}
 use mathlib.Core.List.{List}
@@ -13,9 +13,8 @@ use Rattle.clashes.specs.Clashes.{apart}
 use Rattle.clashes.specs.Entries.{has_byte, hits, same_entry}
 use Rattle.clashes.proofs.Laws.{seen, seen_meets, apart_start, apart_more}
 
--- The bytes of the first k of m elements ascend: each was new, and none is past that of the entry `last`.
-pub record Ascending (entries : List ℕ) (m k last : ℕ) : Type 0 where
-  pub inside : k ≤ m
+-- The bytes of the first k elements ascend: each was new, and none is past that of the entry `last`.
+pub record Ascending (entries : List ℕ) (k last : ℕ) : Type 0 where
   pub unseen : (x : ℕ) → (has_byte x ≡ true → last < x) → seen entries x k ≡ false
   pub far : apart (same_entry entries) k ≡ true
 
@@ -26,19 +25,18 @@ misses y x h =
     by_test (has_byte x) (λ t. rw (t, ne_eqb y x (λ e. let l : y < x = h t (rw e t) in omega arith)))
     (λ t. rw t)
 
-module _ (entries : List ℕ) (m : ℕ) where
-  pub ascending_start : Ascending entries m 0 0
+module _ (entries : List ℕ) where
+  pub ascending_start : Ascending entries 0 0
   unfolding seen
-  ascending_start = record { inside = zero-le; unseen = λ x h. refl; far = apart_start _ }
+  ascending_start = record { unseen = λ x h. refl; far = apart_start _ }
 
   -- a turn at k, after which the last entry with a byte is `next`
-  pub ascending_more : {k last : ℕ} (next : ℕ) → Ascending entries m k last → k < m → last ≤ next
+  pub ascending_more : {k last : ℕ} (next : ℕ) → Ascending entries k last → last ≤ next
       → (has_byte (get_or entries k 0) ≡ true → (last < get_or entries k 0) × (get_or entries k 0 ≤ next))
-      → Ascending entries m (k + 1) next
+      → Ascending entries (k + 1) next
   unfolding seen pick
-  ascending_more {k} next v h g b =
+  ascending_more {k} next v g b =
       record {
-        inside = omega arith;
         unseen = λ x f. rw (add-one, misses (get_or entries k 0) x (λ t u. omega (arith, (b u).1, f t))) (v.unseen x (λ t. omega (arith, f t)));
         far = apart_more _ k v.far (seen_meets entries k k ∙ v.unseen (get_or entries k 0) (λ t. (b t).0));
       }

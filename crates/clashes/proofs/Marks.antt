@@ -1,5 +1,5 @@
 -- Laws of the marks: what one more mark changes, and what they tell.
-use Prim.Native.Nat.{ℕ, zero, suc, ◌+◌, ◌-◌, ◌*◌, ◌/◌, ◌%◌, ◌^◌, ◌<◌, ◌≤◌, zero-le}
+use Prim.Native.Nat.{ℕ, zero, suc, ◌+◌, ◌-◌, ◌*◌, ◌/◌, ◌%◌, ◌^◌, ◌<◌}
 use mathlib.Core.Path.{◌≡◌, refl, sym, ap, ◌∙◌}
 use mathlib.Core.Bool.{Bool, true, false, true≢false, not}
 use mathlib.Core.List.{List}
@@ -110,9 +110,8 @@ none_long : length no_marks ≡ mark_words
 unfolding no_marks
 none_long = length-replicate {A = ℕ} mark_words 0
 
--- The bytes of the first k of m elements are marked, and each was new.
-pub record Marking (entries : List ℕ) (m k : ℕ) (ws : List ℕ) : Type 0 where
-  pub inside : k ≤ m
+-- The bytes of the first k elements are marked, and each was new.
+pub record Marking (entries : List ℕ) (k : ℕ) (ws : List ℕ) : Type 0 where
   pub long : length ws ≡ mark_words
   pub each : (x : ℕ) → unmarked ws x ≡ not (seen entries x k)
   pub far : apart (same_entry entries) k ≡ true
@@ -124,33 +123,31 @@ start_unmarked x =
     let e : bit_at (get_or no_marks (word_of x) 0) (bit_of x) ≡ 0 = rw (none_marked (word_of x)) (ap (λ (n : ℕ). n % 2) (zero-div (2 ^ bit_of x))) in
     by_test (has_byte x) (λ h. rw h (eq-eqb _ 0 e)) (λ h. rw h)
 
-module _ (entries : List ℕ) (m : ℕ) where
-  pub marking_start : (ws : List ℕ) → ws ≡ no_marks → Marking entries m 0 ws
+module _ (entries : List ℕ) where
+  pub marking_start : (ws : List ℕ) → ws ≡ no_marks → Marking entries 0 ws
   unfolding seen
   marking_start ws e =
       rw e
       record {
-        inside = zero-le;
         long = none_long;
         each = start_unmarked;
         far = apart_start _;
       }
 
   -- a turn at k
-  module _ (k : ℕ) (ws : List ℕ) (v : Marking entries m k ws) where
+  module _ (k : ℕ) (ws : List ℕ) (v : Marking entries k ws) where
     new_met : unmarked ws (get_or entries k 0) ≡ not (meets (same_entry entries) k k)
     new_met = rw (seen_meets entries k k) (v.each (get_or entries k 0))
 
-    pub marking_more : k < m → unmarked ws (get_or entries k 0) ≡ true → Marking entries m (k + 1) (with_mark ws (get_or entries k 0))
+    pub marking_more : unmarked ws (get_or entries k 0) ≡ true → Marking entries (k + 1) (with_mark ws (get_or entries k 0))
     unfolding seen
-    marking_more h e =
+    marking_more e =
         record {
-          inside = omega arith;
           long = mark_long ws (get_or entries k 0) ∙ v.long;
           each = λ x. rw add-one (mark_more ws v.long (get_or entries k 0) x ∙ rw (v.each x) (sym (not_pick (hits (get_or entries k 0) x) (seen entries x k))));
           far = apart_more _ k v.far (not-true _ (sym new_met ∙ e));
         }
 
-    pub marking_stop : k < m → unmarked ws (get_or entries k 0) ≡ false → apart (same_entry entries) m ≡ false
+    pub marking_stop : {m : ℕ} → k < m → unmarked ws (get_or entries k 0) ≡ false → apart (same_entry entries) m ≡ false
     unfolding apart
-    marking_stop h e = all_false m _ k h (sym new_met ∙ e)
+    marking_stop {m} h e = all_false m _ k h (sym new_met ∙ e)

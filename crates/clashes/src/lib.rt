@@ -19,20 +19,19 @@ const WORD: u32 = 32;
 
 const MARKS: usize = 2048;
 
+#[tactic(auto, unfolding(crate::specs::Marks::no_marks))]
 fn no_marks() -> [u32; MARKS]
     ensures { result ≡ no_marks }
 {
-    [0u32; MARKS]
+    [0; MARKS]
 }
 
 // An entry is that of an element with a byte.
+#[tactic(auto, unfolding(numbers::specs::Choice::pick, numbers::specs::Choice::both, crate::specs::Entries::has_byte))]
 fn has_byte(x: u32) -> bool
     ensures { result ≡ has_byte x }
 {
-    if x == 0 {
-        return false;
-    }
-    x < FILLED
+    x != 0 && x < FILLED
 }
 
 // Marks the byte of an entry. The answer: it had no mark.
@@ -55,12 +54,10 @@ fn mark_all(marks: &mut [u32; MARKS], entries: &[u32; PLACES], count: usize) -> 
     requires { (marks.old ≡ no_marks) × (count ≤ matrix_places) }
     ensures { result ≡ apart (same_entry entries.now) count }
 {
-    let mut k = 0;
-    while k < count {
+    for k in 0..count {
         if !mark(marks, entries[k]) {
             return false;
         }
-        k += 1;
     }
     true
 }
@@ -71,8 +68,7 @@ fn bytes_ascend(entries: &[u32; PLACES], count: usize) -> bool
     ensures { result ≡ true → apart (same_entry entries.now) count ≡ true }
 {
     let mut last = 0;
-    let mut k = 0;
-    while k < count {
+    for k in 0..count {
         let x = entries[k];
         if has_byte(x) {
             if x <= last {
@@ -80,7 +76,6 @@ fn bytes_ascend(entries: &[u32; PLACES], count: usize) -> bool
             }
             last = x;
         }
-        k += 1;
     }
     true
 }
@@ -97,13 +92,11 @@ pub fn bytes_apart(entries: &[u32; PLACES], count: usize) -> bool
     mark_all(&mut marks, entries, count)
 }
 
+#[tactic(auto, unfolding(numbers::specs::Choice::pick, numbers::specs::Choice::both, crate::specs::Entries::hits))]
 fn same_byte(y: u32, x: u32) -> bool
     ensures { result ≡ hits y x }
 {
-    if !has_byte(x) {
-        return false;
-    }
-    y == x
+    has_byte(x) && y == x
 }
 
 // The first of `count` elements that has an earlier one's byte, or the count.
@@ -111,17 +104,14 @@ pub fn first_clash(entries: &[u32; PLACES], count: usize) -> usize
     requires { count ≤ matrix_places }
     ensures { result ≡ clash_from (same_entry entries.now) 0 count }
 {
-    let mut i = 0;
-    'search: while i < count {
-        let x = entries[i];
-        let mut j = 0;
-        while j < i {
-            if same_byte(entries[j], x) {
+    let mut clash = count;
+    'search: for i in 0..count {
+        for j in 0..i {
+            if same_byte(entries[j], entries[i]) {
+                clash = i;
                 break 'search;
             }
-            j += 1;
         }
-        i += 1;
     }
-    i
+    clash
 }

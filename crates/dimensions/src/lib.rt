@@ -1,8 +1,7 @@
 // A layout's dimensions as numbers, which can be lent, without the leading ones that are fixed.
 #![tactic(auto)]
 
-ghost use Rattle.std.specs.Prelude.{◌≡◌, true, ◌+◌, ◌*◌, ◌/◌, ◌≤◌, ◌<◌, get_or};
-ghost use Rattle.numbers.specs.Lists.{line};
+ghost use Rattle.std.specs.Prelude.{◌≡◌, true, ◌+◌, ◌*◌, ◌/◌, ◌≤◌, ◌<◌};
 ghost use Rattle.tensor_ranges.specs.Layouts.{layout_ok};
 ghost use Rattle.tensor_ranges.specs.Laws.Facts.{InSize};
 ghost use Rattle.sheet.specs.Sizes.{rank_places, size_limit};
@@ -43,12 +42,10 @@ fn put_dimension(numbers: &mut [u16; LAYOUT_NUMBERS], l: Layout, d: usize)
 pub fn layout_numbers(l: Layout) -> [u16; LAYOUT_NUMBERS]
     ensures { result ≡ layout_numbers l }
 {
-    let mut numbers = [0u16; LAYOUT_NUMBERS];
-    put_dimension(&mut numbers, l, 0);
-    put_dimension(&mut numbers, l, 1);
-    put_dimension(&mut numbers, l, 2);
-    put_dimension(&mut numbers, l, 3);
-    put_dimension(&mut numbers, l, 4);
+    let mut numbers = [0; LAYOUT_NUMBERS];
+    for d in 0..RANK {
+        put_dimension(&mut numbers, l, d);
+    }
     numbers
 }
 
@@ -75,15 +72,14 @@ pub fn block_of(x: u32, size: u32) -> u32
 }
 
 // Every element has the same coordinate in such a dimension.
+#[tactic(auto, unfolding(numbers::specs::Choice::pick, numbers::specs::Choice::both, crate::specs::Dimensions::fixed))]
 fn is_fixed(x: Dimension) -> bool
     ensures { result ≡ fixed x }
 {
-    if x.span == 1 {
-        return x.offset < x.size;
-    }
-    false
+    x.span == 1 && x.offset < x.size
 }
 
+#[tactic(auto, using(crate::specs::Laws::Tails::part_most))]
 fn fixed_part(x: Dimension) -> u32
     requires { InSize x.block × (x.offset < size_limit) }
     ensures { (result ≡ fixed_part x) × (result ≤ part_limit) }
@@ -103,31 +99,21 @@ fn lead_of(numbers: &[u16; LAYOUT_NUMBERS], l: Layout) -> Lead
     ensures { (result.count ≡ lead l) × (result.start ≡ lead_start l (lead l)) × (result.start ≤ lead l * part_limit) }
 {
     let mut start: u32 = 0;
-    let mut d: u8 = 0;
-    while d < l.rank {
-        let x = dimension_at(numbers, d as usize);
+    for d in 0..l.rank {
+        let x = dimension_at(numbers, usize::from(d));
         if !is_fixed(x) {
             return Lead { count: d, start };
         }
         start += fixed_part(x);
-        d += 1;
     }
-    Lead { count: d, start }
-}
-
-// The numbers from place `from` on, moved to the start.
-fn move_up(numbers: &mut [u16; LAYOUT_NUMBERS], from: usize, count: usize)
-    requires { from + count ≤ rank_places * dimension_numbers }
-    ensures { numbers.new ≡ line numbers.old 0 (λ k. get_or numbers.old (from + k) 0) count }
-{
-    let mut k: usize = 0;
-    while k < count {
-        numbers[k] = numbers[from + k];
-        k += 1;
+    Lead {
+        count: l.rank,
+        start,
     }
 }
 
 // What is left of a layout's numbers without the fixed ones: it is found out once for all elements of an access.
+#[tactic(auto, using(tensor_ranges::specs::Laws::Facts::layout_most, crate::specs::Laws::Tails::lead_most))]
 pub fn tail_of(numbers: &mut [u16; LAYOUT_NUMBERS], l: Layout) -> Tail
     requires { (layout_ok l ≡ true) × (numbers.old ≡ layout_numbers l) }
     ensures value { (result ≡ tail_of l) × (result.start ≤ lead l * part_limit) }
@@ -136,11 +122,9 @@ pub fn tail_of(numbers: &mut [u16; LAYOUT_NUMBERS], l: Layout) -> Tail
     let fixed = lead_of(numbers, l);
     let rank = l.rank - fixed.count;
     if 0 < fixed.count {
-        move_up(
-            numbers,
-            DIMENSION_NUMBERS * fixed.count as usize,
-            DIMENSION_NUMBERS * rank as usize,
-        );
+        let from = DIMENSION_NUMBERS * usize::from(fixed.count);
+        let end = from + DIMENSION_NUMBERS * usize::from(rank);
+        numbers.copy_within(from..end, 0);
     }
     Tail {
         rank,

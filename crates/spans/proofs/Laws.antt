@@ -57,7 +57,6 @@ module _ (span : ℕ → ℕ) where
 
 -- The loop over the dimensions: those from d on are done; `left` is what is left of the index.
 pub record Dividing (span : ℕ → ℕ) (whole : Divided) (coordinates : List ℕ) (divisions left d : ℕ) : Type 0 where
-  pub few : d ≤ rank_places
   pub seldom : divisions + d ≤ rank_places
   pub long : length coordinates ≡ rank_places
   pub goes : divided_from span d left (record { coordinates = coordinates; divisions = divisions }) ≡ whole
@@ -67,7 +66,6 @@ module _ (span : ℕ → ℕ) (whole : Divided) (coordinates : List ℕ) (divisi
       → Dividing span whole (set coordinates (d - 1) (split_by (span (d - 1)) left).rest) (divisions + (split_by (span (d - 1)) left).divisions) (split_by (span (d - 1)) left).quotient (d - 1)
   dividing_more w h =
       record {
-        few = omega (arith, w.few);
         seldom = omega (arith, w.seldom, split_most (span (d - 1)) left);
         long = length-set coordinates (d - 1) (split_by (span (d - 1)) left).rest ∙ w.long;
         goes = divided_last span d left (record { coordinates = coordinates; divisions = divisions }) h ∙ w.goes;
@@ -78,4 +76,4 @@ module _ (span : ℕ → ℕ) (whole : Divided) (coordinates : List ℕ) (divisi
 
 pub dividing_start : (l : Layout) (index : ℕ) → Dividing (span_of l) (divided l index) (replicate rank_places 0) 0 index (min l.rank rank_places)
 unfolding divided
-dividing_start l index = record { few = min-le_right l.rank rank_places; seldom = omega (arith, min-le_right l.rank rank_places); long = refl; goes = refl }
+dividing_start l index = record { seldom = omega (arith, min-le_right l.rank rank_places); long = refl; goes = refl }

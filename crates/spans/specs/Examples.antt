@@ -1,5 +1,5 @@
 -- Worked examples: a layout of spans 1, 1, 4, 1, 8.
-use Rattle.std.specs.Prelude.{ℕ, min, ◌≡◌, refl, [], ◌∷◌}
+use Rattle.std.specs.Prelude.{ℕ, ◌≡◌, refl, [], ◌∷◌}
 use Rattle.numbers.specs.Choice.{pick, both}
 use Rattle.sheet.specs.declared.ClampMode.TheVariants.{Undefined}
 use Rattle.sheet.specs.declared.Dimension.{Dimension}

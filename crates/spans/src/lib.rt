@@ -1,14 +1,12 @@
 // Rule 3: the span coordinates of an index (document 01, "Where an element goes"), and the divisions that they take.
 #![tactic(auto)]
 
-ghost use Rattle.std.specs.Prelude.{◌≡◌, min, ltb};
+ghost use Rattle.std.specs.Prelude.{◌≡◌, ltb};
 ghost use Rattle.numbers.specs.Choice.{pick};
-ghost use Rattle.sheet.specs.Sizes.{rank_places};
 ghost use Rattle.spans.specs.Spans.{split_by, divided};
 
 use sheet::Layout;
 use sheet::sizes::RANK;
-use view_indices::wide;
 
 // An index's remainder and quotient by a span, and how many divisions that took: 0 or 1.
 #[derive(Clone, Copy)]
@@ -25,6 +23,7 @@ pub struct Divided {
     pub divisions: u32,
 }
 
+#[tactic(auto, unfolding(numbers::specs::Choice::pick))]
 fn one_unless_zero(index: u32) -> u32
     ensures { result ≡ pick (ltb 0 index) 1 0 }
 {
@@ -32,6 +31,7 @@ fn one_unless_zero(index: u32) -> u32
 }
 
 // A division is the slowest part of an element: there is none by 1 and none of 0, and where the index is below the span a comparison stands in for it.
+#[tactic(auto, using(crate::proofs::Laws::split_one, crate::proofs::Laws::split_below, crate::proofs::Laws::split_above))]
 pub fn split_by(index: u32, span: u32) -> Split
     ensures { result ≡ split_by span index }
 {
@@ -56,25 +56,15 @@ pub fn split_by(index: u32, span: u32) -> Split
     }
 }
 
-fn dimensions_of(l: Layout) -> usize
-    ensures { result ≡ min l.rank rank_places }
-{
-    let rank = l.rank as usize;
-    if rank <= RANK { rank } else { RANK }
-}
-
 // Rule 3 for those who ask what it takes; an element of a load or a store needs each coordinate only once and keeps none.
 pub fn span_coordinates(l: Layout, index: u32) -> Divided
     ensures { result ≡ divided l index }
 {
-    let mut coordinates = [0u32; RANK];
+    let mut coordinates = [0; RANK];
     let mut divisions: u32 = 0;
     let mut left = index;
-    let mut d = dimensions_of(l);
-    while 0 < d {
-        d -= 1;
-        let x = l.dimensions[d];
-        let s = split_by(left, wide(x.span));
+    for d in (0..usize::from(l.rank).min(RANK)).rev() {
+        let s = split_by(left, u32::from(l.dimensions[d].span));
         coordinates[d] = s.rest;
         divisions += s.divisions;
         left = s.quotient;

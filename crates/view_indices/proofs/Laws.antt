@@ -1,14 +1,11 @@
 -- Laws of rule 2's definitions.
-use Prim.Native.Nat.{ℕ, zero, suc, ◌+◌, ◌-◌, ◌*◌, ◌^◌, ◌<◌, ◌≤◌, zero-le}
+use Prim.Native.Nat.{ℕ, zero, suc, ◌+◌, ◌*◌, ◌^◌, ◌<◌, ◌≤◌, zero-le}
 use mathlib.Core.Path.{◌≡◌, refl, sym, ◌∙◌}
-use mathlib.Core.Bool.{true, false, true≢false}
-use mathlib.Core.Logic.{◌⊎◌, ⊎_elim}
+use mathlib.Core.Bool.{true≢false}
 use native.Mathlib.Nat.{mul-le-mul, pow-suc, pow-le-pow_right, le_trans, not-suc-le-zero}
 use native.Mathlib.Numerals.{add-one}
 use native.Mathlib.Omega.{arith}
 use lib.Dec.{ltb, lit<, lit≤}
-use lib.ListN.{get_or}
-use mathlib.Core.List.{[], ◌∷◌}
 use borrow.Author.Tests.{lt-ltb, le-ltb}
 use Rattle.numbers.specs.Choice.{pick}
 use Rattle.numbers.specs.Laws.Choice.{pick_case}
@@ -26,12 +23,6 @@ module _ (span : ℕ → ℕ) (i : ℕ) where
   unfolding row_major pick
   row_major_more n h = rw (add-one, lt-ltb i n h)
 
-  -- a loop that went over the dimensions after i, up to j
-  pub row_major_end : (n j : ℕ) → n ≤ j → ((j ≤ n) ⊎ (j ≡ i + 1)) → row_major span j i ≡ row_major span n i
-  row_major_end n j h w =
-      ⊎_elim (λ l. let e : j ≡ n = omega arith in rw e)
-      (λ e. row_major_past j (omega arith) ∙ sym (row_major_past n (omega arith))) w
-
   row_major_le : (n : ℕ) → ((k : ℕ) → k < suc n → span k ≤ size_limit) → row_major span (suc n) i ≤ size_limit ^ n
   unfolding row_major
   row_major_le zero h = pick_case (λ (x : ℕ). x ≤ 1) (ltb i 0) _ _ (λ t. absurd (true≢false (sym t ∙ le-ltb i 0 zero-le))) (λ t. lit≤ tt)
@@ -44,12 +35,3 @@ module _ (span : ℕ → ℕ) (i : ℕ) where
   pub row_major_most : (n : ℕ) → 0 < n → n ≤ rank_places → ((k : ℕ) → k < n → span k ≤ size_limit) → row_major span n i ≤ size_limit ^ 4
   row_major_most zero p m h = absurd (not-suc-le-zero p)
   row_major_most (suc n) p m h = le_trans (row_major_le n h) (pow-le-pow_right {n = size_limit} (lit< tt) {i = n} {j = 4} (omega arith))
-
--- each of five numbers is at most m
-pub five_most : (m : ℕ) {a b c d e : ℕ} → a ≤ m → b ≤ m → c ≤ m → d ≤ m → e ≤ m → (i : ℕ) → get_or (a ∷ b ∷ c ∷ d ∷ e ∷ []) i 0 ≤ m
-five_most m p q r s t zero = p
-five_most m p q r s t (suc zero) = q
-five_most m p q r s t (suc (suc zero)) = r
-five_most m p q r s t (suc (suc (suc zero))) = s
-five_most m p q r s t (suc (suc (suc (suc zero)))) = t
-five_most m p q r s t (suc (suc (suc (suc (suc i))))) = zero-le

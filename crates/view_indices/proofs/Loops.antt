@@ -56,7 +56,6 @@ module _ (permutation sizes strides : List ℕ) (rank index : ℕ) where
   size i = get_or sizes i 0
 
   pub record Weighing (k left sum : ℕ) : Type 0 where
-    pub few : k ≤ rank
     pub small : sum ≤ (rank - k) * size_limit ^ 5
     pub cs : List ℕ
     pub long : length cs ≡ rank_places
@@ -67,7 +66,6 @@ module _ (permutation sizes strides : List ℕ) (rank index : ℕ) where
   pub weighing_start : Weighing rank index 0
   weighing_start =
       record {
-        few = omega arith;
         small = omega arith;
         cs = replicate rank_places 0;
         long = refl;
@@ -76,24 +74,21 @@ module _ (permutation sizes strides : List ℕ) (rank index : ℕ) where
         free = λ j h. none_all (λ (x : ℕ). x ≡ 0) rank_places 0 0 refl refl (place j);
       }
 
-  module _ (k left sum : ℕ) (w : Weighing k left sum) (h : 0 < k) where
-    abbrev i : ℕ
-    i = place (k - 1)
-
+  -- a turn at k - 1, whose dimension's place is i
+  module _ {k left sum : ℕ} (w : Weighing k left sum) (h : 0 < k) (l : k ≤ rank) {i : ℕ} (e : i ≡ place (k - 1)) where
     abbrev x : ℕ
     x = left % size i
 
     pub weighing_more : rank ≤ rank_places → i < rank → InSize (size i) → get_or strides i 0 ≤ size_limit ^ 4 → ((j : ℕ) → j < k - 1 → place j ≡ i → ⊥)
         → Weighing (k - 1) (left / size i) (sum + x * get_or strides i 0)
     weighing_more five inside s most apart =
-        let l : i < length w.cs = omega (arith, w.long) in
+        let room : i < length w.cs = omega (arith, w.long) in
         record {
-          few = omega (arith, w.few);
-          small = omega (arith, w.small, w.few, product_most left s most);
+          small = omega (arith, w.small, product_most left s most);
           cs = set w.cs i x;
           long = length-set w.cs i x ∙ w.long;
-          goes = coordinates_more place size k left w.cs h ∙ w.goes;
-          weighs = rw w.weighs (sym (weighted_set w.cs strides i x rank inside l (w.free (k - 1) (omega arith))));
+          goes = rw e (coordinates_more place size k left w.cs h) ∙ w.goes;
+          weighs = rw w.weighs (sym (weighted_set w.cs strides i x rank inside room (rw e (w.free (k - 1) (omega arith)))));
           free = λ j b. get_or-set_other w.cs i (place j) x 0 (apart j b) ∙ w.free j (omega arith);
         }
 

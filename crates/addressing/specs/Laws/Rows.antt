@@ -1,11 +1,11 @@
 -- The element of a row, by the row's part and its own.
 use Rattle.std.specs.Prelude.{ℕ, zero, suc, ◌+◌, ◌-◌, ◌*◌, ◌/◌, ◌%◌, ◌^◌, ◌<◌, ◌≤◌, ◌≡◌, Bool, true, false, List, length, get_or, set, replicate}
 use Rattle.std.proofs.Math.Path.{refl, ap}
-use Rattle.std.proofs.Common.{sym, ap₂, ◌∙◌, not-suc-le-zero, div-add-mod', arith, length-set, get_or-set_same}
+use Rattle.std.proofs.Common.{sym, ◌∙◌, not-suc-le-zero, div-add-mod', arith, length-set, get_or-set_same}
 use Rattle.std.proofs.Math.Arith.{digits_div, digits_mod}
 use Rattle.std.proofs.lemmas.Bool.{lt-leb}
 use Rattle.numbers.specs.Choice.{pick}
-use Rattle.tensor_ranges.specs.Laws.Facts.{layout_some, layout_most, layout_span}
+use Rattle.tensor_ranges.specs.Laws.Facts.{layout_some, layout_most}
 use Rattle.tensor_ranges.specs.Layouts.{the_dimension, layout_ok}
 use Rattle.sheet.specs.Sizes.{rank_places}
 use Rattle.sheet.specs.declared.Layout.{Layout}
@@ -20,7 +20,7 @@ use Rattle.clamps.specs.declared.Clamped.{Clamped}
 use Rattle.clamps.specs.declared.Clamped.TheVariants.{Refused, Discarded, Filled, At}
 use Rattle.addressing.specs.declared.Access.{Access}
 use Rattle.addressing.specs.declared.Indexed.TheVariants.{Index}
-use Rattle.addressing.specs.Rules.{scaled, part, plus, tensor_index, settled, reached, indexed, landed, located}
+use Rattle.addressing.specs.Rules.{scaled, part, plus, tensor_index, reached, indexed, landed, located}
 use Rattle.addressing.specs.Rows.{up_to, last_of, cell_of}
 use Rattle.addressing.specs.Valid.{ValidAccess}
 

@@ -1,4 +1,4 @@
-use Prim.Native.Nat.{◌-◌, ◌≤◌}
+use Prim.Native.Nat.{◌-◌}
 use mathlib.Core.Path.{◌≡◌}
 use mathlib.Core.Bool.{false}
 use Rattle.clashes.specs.Entries.{same_entry}
@@ -6,13 +6,7 @@ use Rattle.clashes.specs.Clashes.{meets, clash_from}
 use Rattle.clashes.proofs.first_clash.Given as goal
 
 abbrev pub invariant-loop-j : goal.invariant-loop-j
-invariant-loop-j l = (l.j ≤ l.i) × (meets (same_entry l.entries) l.i l.j ≡ false)
-
-abbrev pub decreases-loop-j : goal.decreases-loop-j
-decreases-loop-j l = l.i - l.j
+invariant-loop-j l = (l.clash ≡ l.count) × (meets (same_entry l.entries) l.i l.j ≡ false)
 
 abbrev pub invariant-search : goal.invariant-search
-invariant-search l = (l.i ≤ l.count) × (clash_from (same_entry l.entries) l.i (l.count - l.i) ≡ clash_from (same_entry l.entries) 0 l.count)
-
-abbrev pub decreases-search : goal.decreases-search
-decreases-search l = l.count - l.i
+invariant-search l = (l.clash ≡ l.count) × (clash_from (same_entry l.entries) l.i (l.count - l.i) ≡ clash_from (same_entry l.entries) 0 l.count)

@@ -4,24 +4,16 @@ use Rattle.dimensions.specs.Laws.Tails.{lead_most}
 use Rattle.dimensions.proofs.Laws.{tail_known, tail_moved, tail_stays}
 use Rattle.dimensions.proofs.tail_of.Goals as goal
 
-pub overflow_sub-rank : goal.overflow_sub-rank
-overflow_sub-rank c = rw c.lead_of-fixed.ensures.0 (lead_most c.args.l)
+pub returns-then-fixed-gt0-clause-value : goal.returns-then-fixed-gt0-clause-value
+returns-then-fixed-gt0-clause-value c = tail_known c.args.l c.lead_of-fixed.ensures
 
-pub move_up-requires : goal.move_up-requires
-move_up-requires c = let s = c in rw c.lead_of-fixed.ensures.0 (omega (arith, lead_most s.args.l, layout_most s.args.l s.requires.0))
+pub returns-then-fixed-gt0-clause-numbers_after : goal.returns-then-fixed-gt0-clause-numbers_after
+returns-then-fixed-gt0-clause-numbers_after c =
+    let moved = c.copy_within.ensures in
+    tail_moved c.args.l _ _ c.requires.1 c.lead_of-fixed.ensures.0 (omega arith) (omega arith) (omega (arith, lead_most c.args.l, layout_most c.args.l c.requires.0)) moved.len moved.by_index.0 moved.by_index.2
 
-pub returns-then-fixed-gt0 : goal.returns-then-fixed-gt0
-returns-then-fixed-gt0 c = let s = c in
-    let g = c.lead_of-fixed.ensures in
-    record {
-      value = tail_known s.args.l g;
-      numbers_after = tail_moved s.args.l s.requires.1 g.0 c.move_up.ensures;
-    }
+pub returns-else-fixed-gt0-clause-value : goal.returns-else-fixed-gt0-clause-value
+returns-else-fixed-gt0-clause-value c = tail_known c.args.l c.lead_of-fixed.ensures
 
-pub returns-else-fixed-gt0 : goal.returns-else-fixed-gt0
-returns-else-fixed-gt0 c = let s = c in
-    let g = c.lead_of-fixed.ensures in
-    record {
-      value = tail_known s.args.l g;
-      numbers_after = tail_stays s.args.l s.requires.1 g.0 (omega arith);
-    }
+pub returns-else-fixed-gt0-clause-numbers_after : goal.returns-else-fixed-gt0-clause-numbers_after
+returns-else-fixed-gt0-clause-numbers_after c = tail_stays c.args.l c.requires.1 c.lead_of-fixed.ensures.0 (omega arith)

@@ -5,6 +5,3 @@ use Rattle.spans.proofs.span_coordinates.Given as goal
 
 abbrev pub invariant-loop-d : goal.invariant-loop-d
 invariant-loop-d l = Dividing (span_of l.l) (divided l.l l.index) l.coordinates l.divisions l.left l.d
-
-abbrev pub decreases-loop-d : goal.decreases-loop-d
-decreases-loop-d l = l.d

@@ -10,19 +10,19 @@ use native.Mathlib.Omega.{arith}
 use Rattle.addressing.proofs.rows.last_dimension.Goals as goal
 
 pub dimension_at-requires : goal.dimension_at-requires
-dimension_at-requires c = let s = c in
-    let p = s.args.p in
+dimension_at-requires c =
+    let p = c.args.p in
     let l = p.access.layout in
-    omega (arith, tail_whole l p.tail (plan_tail p s.requires.0), layout_most l s.requires.0.valid.sized.layout, s.requires.2)
+    omega (arith, tail_whole l p.tail (plan_tail p c.requires.0), layout_most l c.requires.0.valid.sized.layout, c.requires.2)
 
 pub returns : goal.returns
-returns c = let s = c in
-    let p = s.args.p in
+returns c =
+    let p = c.args.p in
     let l = p.access.layout in
-    let ok = s.requires.0.valid.sized.layout in
-    let whole = tail_whole l p.tail (plan_tail p s.requires.0) in
+    let ok = c.requires.0.valid.sized.layout in
+    let whole = tail_whole l p.tail (plan_tail p c.requires.0) in
     let q : lead l + p.tail.rank - 1 ≡ l.rank - 1 = omega (arith, whole) in
     let e : c.dimension_at.result ≡ last_of l =
-    same_dimension l ok (s.requires.1 ∙ plan_numbers p s.requires.0) s.requires.2 (omega (arith, whole)) c.dimension_at.ensures
+    same_dimension l ok (c.requires.1 ∙ plan_numbers p c.requires.0) c.requires.2 (omega (arith, whole)) (rw c.from.ensures at c.dimension_at.ensures)
     ∙ ap (λ (n : ℕ). the_dimension l.dimensions n) q in
     (e, rw e (last_span l ok), rw e (last_size l ok))

@@ -1,9 +1,5 @@
 use Rattle.addressing.proofs.Loops.{Tailing}
-use Prim.Native.Nat.{◌-◌}
 use Rattle.addressing.proofs.tensors.row_index.Given as goal
 
 abbrev pub invariant-loop-d : goal.invariant-loop-d
 invariant-loop-d l = Tailing l.load l.l l.rank l.index l.d l.left l.sum
-
-abbrev pub decreases-loop-d : goal.decreases-loop-d
-decreases-loop-d l = l.d
