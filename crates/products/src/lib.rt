@@ -3,7 +3,7 @@
 
 pub mod shapes;
 
-ghost use Rattle.std.specs.Prelude.{◌≡◌, ℕ, ◌+◌, ◌*◌, ◌^◌, ◌<◌, ◌≤◌, true, length, get_or};
+ghost use Rattle.std.specs.Prelude.{◌≡◌, ℕ, ◌+◌, ◌*◌, ◌%◌, ◌^◌, ◌<◌, ◌≤◌, true, length, get_or};
 ghost use Rattle.numbers.specs.Lists.{line};
 ghost use Rattle.numbers.specs.Remainders.{remainder};
 ghost use Rattle.kinds.specs.Values.{value};
@@ -41,8 +41,30 @@ fn dot(x: &[u32; SIDE], y: &[u32; PLACES], q: usize, n: usize, count: usize) -> 
     sum
 }
 
-// Register a's matrix times y, plus register c's.
+// A row of a block: the row x times each of n columns of y, plus the elements of a kind from a place on. Written out in the loop over
+// the rows it takes 6% more instructions.
 #[tactic(auto, unfolding(numbers::specs::Lists::line))]
+fn product_row(
+    out: &mut [u32; PLACES],
+    start: usize,
+    x: &[u32; SIDE],
+    y: &[u32; PLACES],
+    elements: &[u32],
+    kind: u8,
+    from: usize,
+    inner: usize,
+    n: usize,
+)
+    requires { (start + n ≤ matrix_places) × (from ≤ 2 * element_places) × (inner ≤ side_places) × (n ≤ side_places) }
+    ensures { out.new ≡ line out.old start (λ (j : ℕ). (dot_of (λ (t : ℕ). get_or x.now t 0) (λ (t : ℕ). get_or y.now (j + t * n) 0) inner + remainder (value kind (get_or elements.now (from + j) 0)) (2 ^ 32)) % 2 ^ 32) n }
+{
+    for j in 0..n {
+        let sum = dot(x, y, j, n, inner);
+        out[start + j] = sum.wrapping_add(kinds::residue(kind, numbers::at(elements, from + j)));
+    }
+}
+
+// Register a's matrix times y, plus register c's.
 fn product(
     out: &mut [u32; PLACES],
     elements: &[u32],
@@ -62,11 +84,17 @@ fn product(
     let mut row = [0u32; SIDE];
     for i in 0..usize::from(tc.rows) {
         residues(&mut row, elements, ta.kind, first + i * inner, inner);
-        for j in 0..columns {
-            let e = i * columns + j;
-            let sum = dot(&row, y, j, columns, inner);
-            out[e] = sum.wrapping_add(kinds::residue(tc.kind, numbers::at(elements, base + e)));
-        }
+        product_row(
+            out,
+            i * columns,
+            &row,
+            y,
+            elements,
+            tc.kind,
+            base + i * columns,
+            inner,
+            columns,
+        );
     }
 }
 

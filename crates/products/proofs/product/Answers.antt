@@ -10,8 +10,7 @@ pub loop-i-preserved : goal.loop-i-preserved
 loop-i-preserved c =
     let i = c.loop-i in
     let a = c.args in
-    let e : c.loop-j.j ≡ c.from-columns.result = omega arith in
-    rows_more _ _ _ _ _ i.invariant (rw e at c.loop-j.invariant)
+    rows_more _ _ _ _ _ i.invariant c.product_row.ensures
     (λ j l. row_plus a.elements.now a.ta.kind a.tc.kind c.place_of-first.result c.place_of-base.result c.from-inner.result c.from-columns.result a.y.now i.i j _ _ c.loop-i-test.array_long (omega arith) c.residues.ensures)
 
 pub returns : goal.returns
