@@ -53,12 +53,15 @@ fn plan_divisions(p: Plan) -> usize
     requires { Planned p }
     ensures { (result ≡ total (access_divisions p.access)) × (result ≤ matrix_places * rank_places) }
 {
-    let permutation = p.access.view.permutation;
-    let sizes = p.sizes;
-    let strides = p.strides;
     let mut sum = 0;
     for k in 0..p.count {
-        sum += element_divisions(p, &permutation, &sizes, &strides, k as u32) as usize;
+        sum += element_divisions(
+            p,
+            &p.access.view.permutation,
+            &p.sizes,
+            &p.strides,
+            k as u32,
+        ) as usize;
     }
     sum
 }

@@ -71,12 +71,15 @@ fn explain_plan(p: Plan, element: usize) -> Asked
     }
     let mut entries = [0u32; PLACES];
     accesses::survey(&mut entries, p);
-    let permutation = p.access.view.permutation;
-    let sizes = p.sizes;
-    let strides = p.strides;
     Asked::Element(Explained {
         outcome: accesses::outcome_of(entries[element], p.fill),
-        outside: outside_of(p, &permutation, &sizes, &strides, element as u32),
+        outside: outside_of(
+            p,
+            &p.access.view.permutation,
+            &p.sizes,
+            &p.strides,
+            element as u32,
+        ),
     })
 }
 
