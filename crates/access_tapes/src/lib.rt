@@ -18,6 +18,7 @@ use runs::Run;
 use sheet::sizes::PLACES;
 
 // How many runs the first `n` elements of a survey make, whatever bits fill an element.
+#[tactic(auto, using(runs::proofs::Laws::Writing::held_none, runs::proofs::Laws::Writing::count_none, runs::proofs::Laws::Writing::count_few, runs::proofs::Laws::Writing::emit_one))]
 fn count_runs(entries: &[u32; PLACES], n: usize) -> usize
     requires { n ≤ matrix_places }
     ensures { (fill : ℕ) → result ≡ length (runs (entries_outcome entries.now fill) n) }
@@ -67,6 +68,7 @@ fn write_runs(
 
 // Writes the records of an access from record `at` of a tape on, and the mask of step `k`, of the same survey: the next record's number.
 // The entries are lent room.
+#[tactic(auto, using(crate::proofs::Laws::listed_records, crate::proofs::Laws::listed_mask))]
 pub fn write_access(
     tape: &mut [i32],
     masks: &mut [u8],

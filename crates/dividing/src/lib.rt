@@ -25,6 +25,7 @@ pub struct DivisionsAnswer {
 }
 
 // Element number k. The arrays are the plan's and its view's, as for `locate`.
+#[tactic(auto, using(crate::specs::Laws::Indices::large_divisions, crate::specs::Laws::Indices::small_divisions, crate::specs::Theorems::skipped_none, crate::specs::Laws::Few::divided_most))]
 fn element_divisions(
     p: Plan,
     permutation: &[u8; RANK],
@@ -42,30 +43,31 @@ fn element_divisions(
             if INDEX_LIMIT <= i {
                 return 0;
             }
-            let d = spans::span_coordinates(p.access.layout, i as u32);
-            d.divisions
+            spans::span_coordinates(p.access.layout, i as u32).divisions
         }
     }
 }
 
+#[tactic(auto, using(addressing::specs::Laws::Plans::plan_count))]
 fn plan_divisions(p: Plan) -> usize
     requires { Planned p }
     ensures { (result ≡ total (access_divisions p.access)) × (result ≤ matrix_places * rank_places) }
 {
-    let v = p.access.view;
-    let permutation = v.permutation;
-    let sizes = p.sizes;
-    let strides = p.strides;
-    let mut sum: usize = 0;
-    let mut k: usize = 0;
-    while k < p.count {
-        sum += element_divisions(p, &permutation, &sizes, &strides, k as u32) as usize;
-        k += 1;
+    let mut sum = 0;
+    for k in 0..p.count {
+        sum += element_divisions(
+            p,
+            &p.access.view.permutation,
+            &p.sizes,
+            &p.strides,
+            k as u32,
+        ) as usize;
     }
     sum
 }
 
 // An access without rows is that of no element.
+#[tactic(auto, using(crate::specs::Laws::Few::bare_none, addressing::specs::Laws::Plans::planned_access, accesses::proofs::Laws::Accepted::accepted_valid))]
 fn access_divisions(access: Access) -> usize
     requires { 0 < access.rows → ClearAccess access }
     ensures { (result ≡ total (access_divisions access)) × (result ≤ matrix_places * rank_places) }
@@ -83,36 +85,33 @@ fn sheet_divisions(s: &[u8], parts: &[usize; PARTS], given: Given, memory: usize
 {
     let mut types = registers::empty_types();
     let mut sum: usize = 0;
-    let mut k: usize = 0;
-    while k < given.steps {
+    for k in 0..given.steps {
         let turn = turns::turn_at(s, parts, given, types, memory, k);
         let step = turn.step;
         let access = turn.access;
         sum += access_divisions(access);
         let after = checks::step_types(types, step);
         types = after;
-        k += 1;
     }
     sum
 }
 
 // Counts for a memory of a length, without a memory.
+#[tactic(auto, using(crate::specs::Theorems::counted_accepted, crate::specs::Theorems::counted_refused))]
 pub fn count_divisions(sheet: &[u8], memory_len: usize) -> DivisionsAnswer
     ensures { result ≡ counted sheet.now memory_len }
 {
     let mut parts = sheet_parts::no_parts();
     let judged = checking::judge(sheet, &mut parts, memory_len);
-    let found = judged.answer;
-    let refused = found.refusal;
+    let refused = judged.answer.refusal;
     if 0 < refused.number {
         return DivisionsAnswer {
             refusal: refused,
             divisions: 0,
         };
     }
-    let given = judged.given;
     DivisionsAnswer {
         refusal: refusals::not_refused(),
-        divisions: sheet_divisions(sheet, &parts, given, memory_len),
+        divisions: sheet_divisions(sheet, &parts, judged.given, memory_len),
     }
 }

@@ -38,6 +38,7 @@ pub struct ExplainAnswer {
 }
 
 // Element number k, which is not refused, so that its index is below 2 to the 32nd. The arrays are the plan's and its view's, as for `locate`.
+#[tactic(auto, using(crate::specs::Laws::Asking::index_small, spans::specs::Theorems::divided_coordinates), unfolding(crate::specs::Elements::outside_of))]
 pub fn outside_of(
     p: Plan,
     permutation: &[u8; RANK],
@@ -54,13 +55,13 @@ pub fn outside_of(
         Indexed::Index(i) => {
             let l = p.access.layout;
             let d = spans::span_coordinates(l, i as u32);
-            let coordinates = d.coordinates;
-            clamps::first_outside(p.access.load, l, coordinates)
+            clamps::first_outside(p.access.load, l, d.coordinates)
         }
     }
 }
 
 // The outcome comes from the survey that the jobs go by.
+#[tactic(auto, using(addressing::specs::Laws::Plans::plan_count, crate::specs::Laws::Asking::access_past))]
 fn explain_plan(p: Plan, element: usize) -> Asked
     requires { Planned p × ((access_refusal p.access).number ≡ 0) }
     ensures { result ≡ asked (of_access explained p.access) element }
@@ -70,17 +71,20 @@ fn explain_plan(p: Plan, element: usize) -> Asked
     }
     let mut entries = [0u32; PLACES];
     accesses::survey(&mut entries, p);
-    let v = p.access.view;
-    let permutation = v.permutation;
-    let sizes = p.sizes;
-    let strides = p.strides;
     Asked::Element(Explained {
         outcome: accesses::outcome_of(entries[element], p.fill),
-        outside: outside_of(p, &permutation, &sizes, &strides, element as u32),
+        outside: outside_of(
+            p,
+            &p.access.view.permutation,
+            &p.sizes,
+            &p.strides,
+            element as u32,
+        ),
     })
 }
 
 // An access without rows is that of no element.
+#[tactic(auto, using(crate::specs::Laws::Asking::access_past, addressing::specs::Laws::Plans::planned_access, accesses::proofs::Laws::Accepted::accepted_valid))]
 fn explain_access(access: Access, element: usize) -> Asked
     requires { 0 < access.rows → ClearAccess access }
     ensures { result ≡ asked (of_access explained access) element }
@@ -103,16 +107,15 @@ fn types_at(
     ensures { (result ≡ types_at (sheet_of s.now) memory n) × Rest (sheet_of s.now) memory n result }
 {
     let mut types = registers::empty_types();
-    let mut k: usize = 0;
-    while k < n {
+    for k in 0..n {
         let step = sheet_parts::step_in(s, parts, given, k);
         let after = checks::step_types(types, step);
         types = after;
-        k += 1;
     }
     types
 }
 
+#[tactic(auto, using(crate::specs::Laws::Asking::sheet_past, checking::specs::Laws::Met::all_steps))]
 fn explain_sheet(
     s: &[u8],
     parts: &[usize; PARTS],
@@ -129,8 +132,7 @@ fn explain_sheet(
     }
     let types = types_at(s, parts, given, memory, step);
     let turn = turns::turn_at(s, parts, given, types, memory, step);
-    let access = turn.access;
-    explain_access(access, element)
+    explain_access(turn.access, element)
 }
 
 fn refuse(refusal: Refusal) -> ExplainAnswer
@@ -146,18 +148,17 @@ fn refuse(refusal: Refusal) -> ExplainAnswer
 }
 
 // Explains an element of a step for a memory of a length, without a memory.
+#[tactic(auto, using(crate::specs::Theorems::explained_accepted, crate::specs::Theorems::explained_refused))]
 pub fn explain(sheet: &[u8], memory_len: usize, step: usize, element: usize) -> ExplainAnswer
     ensures { result ≡ explained_sheet sheet.now memory_len «step» «element» }
 {
     let mut parts = sheet_parts::no_parts();
     let judged = checking::judge(sheet, &mut parts, memory_len);
-    let found = judged.answer;
-    let refused = found.refusal;
+    let refused = judged.answer.refusal;
     if 0 < refused.number {
         return refuse(refused);
     }
-    let given = judged.given;
-    match explain_sheet(sheet, &parts, given, memory_len, step, element) {
+    match explain_sheet(sheet, &parts, judged.given, memory_len, step, element) {
         Asked::Nothing => refuse(refusals::refusal_at(BEYOND_SIZES, step, element)),
         Asked::Element(x) => ExplainAnswer {
             refusal: refusals::not_refused(),

@@ -254,6 +254,7 @@ fn range(
 }
 
 // A record count that does not fit has place 0.
+#[tactic(auto, using(records::specs::Laws::Records::fit_few, records::specs::Laws::Records::fit_room, checking::specs::Laws::Met::the_edition), unfolding(crate::specs::Judging::tape_refusal, numbers::specs::Choice::pick))]
 pub fn tape_refusal(
     s: &[u8],
     parts: &[usize; PARTS],

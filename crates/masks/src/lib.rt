@@ -40,6 +40,7 @@ fn word_elements(count: usize, first: usize) -> usize
 }
 
 // The bits of 32 elements of `count`, the first lowest.
+#[tactic(auto, using(crate::proofs::Laws::Packed::packed_next, crate::proofs::Laws::Packed::packed_room, crate::proofs::Laws::Bits::entry_bits, crate::proofs::Laws::Bits::entry_inside))]
 fn mask_word(entries: &[u32; PLACES], count: usize, first: usize) -> u32
     requires { count ≤ matrix_places }
     ensures { result ≡ packed (entry_bit entries.now count) first 32 }
@@ -52,6 +53,7 @@ fn mask_word(entries: &[u32; PLACES], count: usize, first: usize) -> u32
 }
 
 // Writes the bits from a place on: how many are set, each word's counted by the language.
+#[tactic(auto, using(crate::proofs::Laws::Packed::sum_none, crate::proofs::Laws::Bits::entry_bits, crate::proofs::Laws::Written::bits_none, crate::proofs::Laws::Written::word_counted, crate::proofs::Laws::Written::word_written))]
 fn put_bits(masks: &mut [u8], at: usize, entries: &[u32; PLACES], count: usize) -> u32
     requires { (count ≤ matrix_places) × (at + bit_bytes ≤ length masks.old) }
     ensures value { result ≡ sum_of (entry_bit entries.now count) matrix_places }
@@ -67,6 +69,7 @@ fn put_bits(masks: &mut [u8], at: usize, entries: &[u32; PLACES], count: usize) 
 }
 
 // Writes the mask of a step whose survey has `count` entries: an empty one at once where it has none.
+#[tactic(auto, using(crate::proofs::Laws::Bits::entry_bits, crate::proofs::Laws::Written::sum_most, crate::proofs::Laws::Written::mask_written, crate::proofs::Laws::Written::none_written))]
 pub fn put_mask(masks: &mut [u8], step: usize, entries: &[u32; PLACES], count: usize)
     requires { (step < step_places) × (mask_area ≤ length masks.old) × (count ≤ matrix_places) }
     ensures { masks.new ≡ sets masks.old (mask_place step) (mask_of (entry_bit entries.now count)) }

@@ -44,6 +44,7 @@ fn count_trace(s: &[u8], parts: &[usize; PARTS], given: Given, memory: usize) ->
 }
 
 // Writes the fields of a step's events from byte `at` on.
+#[tactic(auto, unfolding(numbers::specs::Lists::each, traces::specs::Writing::trace_bytes, expected::specs::Listed::listed_events))]
 fn write_events(out: &mut [u8], at: usize, entries: &[u32; PLACES], count: usize, step: usize)
     requires { (at + count * event_length ≤ length out.old) × (step < step_places) × (count ≤ matrix_places) }
     ensures { out.new ≡ sets out.old at (trace_bytes (listed_events step entries.now count)) }
@@ -82,6 +83,7 @@ fn trace_refused(refusal: Refusal) -> TraceAnswer
 }
 
 // Writes what a card should record of a sheet in a memory of a length. Refused: the room is unchanged.
+#[tactic(auto, using(crate::proofs::Laws::refused_answer_lem, crate::proofs::Laws::refused_room, crate::proofs::Laws::short_answer, crate::proofs::Laws::short_room))]
 pub fn trace(sheet: &[u8], memory_len: usize, out: &mut [u8]) -> TraceAnswer
     ensures value { result ≡ traced sheet.now memory_len (length out.old) }
     ensures out_after { out.new ≡ traced_room sheet.now memory_len out.old }

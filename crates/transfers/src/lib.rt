@@ -69,6 +69,7 @@ pub fn store_element(
 }
 
 // The elements of a load that is not refused. The answer counts each element that had a byte. The entries are lent room.
+#[tactic(auto, using(crate::proofs::Laws::Elements::transferred_start, addressing::specs::Laws::Plans::plan_count))]
 pub fn load_elements(
     elements: &mut [u32; ELEMENTS],
     memory: &[u8],
@@ -92,6 +93,7 @@ pub fn load_elements(
 }
 
 // The elements of a store that is not refused. The answer counts each element that had a byte. The entries are lent room.
+#[tactic(auto, using(crate::proofs::Laws::Elements::transferred_start, addressing::specs::Laws::Plans::plan_count))]
 pub fn store_elements(
     elements: &[u32; ELEMENTS],
     memory: &mut [u8],

@@ -1,10 +1,10 @@
-use mathlib.Core.Path.{◌≡◌, sym, ap, ◌∙◌}
+use mathlib.Core.Path.{◌≡◌, ap, ◌∙◌}
 use Prim.Native.Nat.{ℕ, ◌+◌}
 use lib.ListN.{length, get_or}
 use Rattle.runs.specs.declared.Run.{Run}
 use Rattle.runs.specs.Runs.{emit, runs}
 use Rattle.runs.proofs.Laws.Ranges.{held_small}
-use Rattle.runs.proofs.Laws.Writing.{held_none, held_more, ending_is, count_none, count_more, count_few, count_all, emit_one}
+use Rattle.runs.proofs.Laws.Writing.{held_more, ending_is, count_more, count_all}
 use Rattle.accepted.specs.Accepted.{entries_outcome}
 use Rattle.std.proofs.lemmas.List.{length-take}
 use Rattle.access_tapes.proofs.Laws.{entry_fits, met}
@@ -12,9 +12,6 @@ use Rattle.access_tapes.proofs.Fills.{runs_count}
 use native.Mathlib.Omega.{arith}
 use Rattle.access_tapes.proofs.count_runs.Goals as goal
 use Rattle.access_tapes.proofs.count_runs.Goals.{After-outcome_of-o}
-
-pub loop-k-init : goal.loop-k-init
-loop-k-init c = (sym (held_none _), sym (count_none _))
 
 met_here : (c : After-outcome_of-o) → c.outcome_of-o.result ≡ entries_outcome c.args.entries.now 0 c.loop-k.k
 met_here c = met c.args.entries.now c.args.n c.loop-k.k 0 c.loop-k-test.true c.outcome_of-o.ensures
@@ -28,12 +25,6 @@ next_run-t-requires c =
       k_lt_matrix_places = (omega (arith, length-take {A = ℕ}), rw (met_here c) (near (get_or a.entries.now l.k 0)));
     }
 
-pub overflow_add-records : goal.overflow_add-records
-overflow_add-records c =
-    let l = c.loop-k in
-    let a = c.args in
-    omega (arith, l.invariant.1, count_few (entries_outcome a.entries.now 0) l.k, c.records_of-records.ensures, emit_one c.next_run-t.result.done)
-
 pub loop-k-preserved : goal.loop-k-preserved
 loop-k-preserved c =
     let a = c.args in
@@ -45,12 +36,6 @@ loop-k-preserved c =
       held_more f l.k l.invariant.0 o t,
       omega (arith, count_more f l.k, l.invariant.1, c.records_of-records.ensures, ap (λ (r : Run). length (emit r)) d),
     )
-
-pub overflow_add-result : goal.overflow_add-result
-overflow_add-result c =
-    let l = c.loop-k in
-    let a = c.args in
-    omega (arith, l.invariant.1, count_few (entries_outcome a.entries.now 0) l.k, c.records_of.ensures, emit_one l.held)
 
 pub returns : goal.returns
 returns c = λ fill.

@@ -1,11 +1,11 @@
-use Prim.Native.Nat.{ℕ, ◌+◌, ◌-◌, ◌<◌}
+use Prim.Native.Nat.{ℕ, ◌+◌, ◌<◌}
 use mathlib.Core.Path.{ap, subst, ◌∙◌}
 use Rattle.sheet_ranges.specs.Steps.{the_step}
 use Rattle.sheet_ranges.specs.Laws.Within.{within_places}
 use Rattle.sheet_reader.specs.Parts.{sheet_of}
 use Rattle.sheet_parts.specs.Laws.{outlined_within}
 use Rattle.checking.specs.Steps.{step_types}
-use Rattle.checking.specs.Laws.Met.{all_steps, met_turned}
+use Rattle.checking.specs.Laws.Met.{all_steps}
 use Rattle.accepted.specs.Passes.{pass_rest}
 use Rattle.accepted.specs.Laws.Clear.{met_clear, met_gives}
 use Rattle.accepted.specs.Laws.Rests.{rest_start, rest_next, pass_start, pass_go, pass_end}
@@ -17,70 +17,42 @@ use Rattle.dividing.proofs.sheet_divisions.Goals as goal
 pub loop-k-init : goal.loop-k-init
 unfolding divisions
 loop-k-init c =
-    let s = c in
-    let sh = sheet_of s.args.s.now in
+    let sh = sheet_of c.args.s.now in
     let e = c.empty_types-types.ensures in (
+      rw e (rest_start sh c.args.memory c.requires.2),
       omega arith,
-      rw e (rest_start sh s.args.memory s.requires.2),
-      omega arith,
-      rw e (omega (arith, ap total (pass_start (divisions_at sh s.args.memory) sh s.args.memory))),
+      rw e (omega (arith, ap total (pass_start (divisions_at sh c.args.memory) sh c.args.memory))),
     )
-
-pub turn_at-turn-requires : goal.turn_at-turn-requires
-turn_at-turn-requires c = (c.requires.0, c.loop-k-test.true)
 
 pub access_divisions-sum-requires : goal.access_divisions-sum-requires
 access_divisions-sum-requires c =
-    let s = c in
-    met_clear s.requires.0 c.loop-k-test.true c.turn_at-turn.ensures s.requires.1 c.loop-k.invariant.1
-
-pub overflow_add-sum : goal.overflow_add-sum
-overflow_add-sum c =
-    let o = c.requires.0 in
-    omega (arith, c.loop-k.invariant.2, c.access_divisions-sum.ensures.1, c.loop-k-test.true, all_steps o, within_places (outlined_within o))
-
-pub step_types-after-requires : goal.step_types-after-requires
-step_types-after-requires c =
-    let s = c in
-    let sh = sheet_of s.args.s.now in
-    (s.args.given.edition, sh.tensors.layouts, sh.tensors.views, (met_turned s.requires.0 c.loop-k-test.true c.turn_at-turn.ensures s.requires.1 c.loop-k.invariant.1.sized).ok)
-
-pub overflow_add-k : goal.overflow_add-k
-overflow_add-k c =
-    let o = c.requires.0 in
-    omega (arith, c.loop-k-test.true, all_steps o, within_places (outlined_within o))
-
-pub loop-k-smaller : goal.loop-k-smaller
-loop-k-smaller c = omega (arith, c.loop-k-test.true)
+    met_clear c.requires.0 c.loop-k-test.true c.turn_at-turn.ensures c.requires.1 c.loop-k.invariant.0
 
 pub loop-k-preserved : goal.loop-k-preserved
 loop-k-preserved c =
-    let s = c in
-    let len = s.args.memory in
-    let sh = sheet_of s.args.s.now in
-    let w = outlined_within s.requires.0 in
+    let len = c.args.memory in
+    let sh = sheet_of c.args.s.now in
+    let w = outlined_within c.requires.0 in
     let l = c.loop-k in
     let t = c.loop-k-test.true in
     let m = c.turn_at-turn.ensures in
-    let h : l.k < sh.steps = subst (λ (n : ℕ). l.k < n) (all_steps s.requires.0) t in
+    let h : l.k < sh.steps = subst (λ (n : ℕ). l.k < n) (all_steps c.requires.0) t in
     let n = c.access_divisions-sum.ensures in
     let so = c.step_types-after.ensures ∙ ap (step_types l.types) m.step in
-    let gives = ap total (met_gives s.requires.0 t m (λ (n : ℕ). element_divisions)) in
-    let go = ap total (pass_go sh w len s.requires.1 l.k l.types h l.invariant.1 so (divisions_at sh len)) in
+    let gives = ap total (met_gives c.requires.0 t m (λ (n : ℕ). element_divisions)) in
+    let go = ap total (pass_go sh w len c.requires.1 l.k l.types h l.invariant.0 so (divisions_at sh len)) in
     let both = total_append (step_divisions sh.tensors l.types len l.k (the_step sh.step l.k)) (pass_rest (divisions_at sh len) sh len (l.k + 1) c.step_types-after.result) in (
-      omega (arith, t),
-      rest_next sh w len s.requires.1 l.k l.types h l.invariant.1 so,
-      omega (arith, l.invariant.2, n.1),
-      omega (arith, l.invariant.3, n.0, gives, go, both),
+      rest_next sh w len c.requires.1 l.k l.types h l.invariant.0 so,
+      omega (arith, l.invariant.1, n.1),
+      omega (arith, l.invariant.2, n.0, gives, go, both),
     )
 
 pub returns : goal.returns
 unfolding total
 returns c =
-    let s = c in
-    let len = s.args.memory in
-    let sh = sheet_of s.args.s.now in
+    let len = c.args.memory in
+    let sh = sheet_of c.args.s.now in
     let l = c.loop-k in
-    let all = all_steps s.requires.0 in
+    let all = all_steps c.requires.0 in
     let none = ap total (pass_end (divisions_at sh len) sh len l.k l.types (omega (arith, c.loop-k-test.false, all))) in
-    (omega (arith, l.invariant.3, none), omega (arith, l.invariant.0, l.invariant.2, all, within_places (outlined_within s.requires.0)))
+    (omega (arith, l.invariant.2, none), omega (arith, l.invariant.1, all, within_places (outlined_within c.requires.0)))

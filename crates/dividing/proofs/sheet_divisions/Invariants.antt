@@ -1,4 +1,4 @@
-use Prim.Native.Nat.{◌+◌, ◌-◌, ◌*◌, ◌≤◌}
+use Prim.Native.Nat.{◌+◌, ◌*◌, ◌≤◌}
 use mathlib.Core.Path.{◌≡◌}
 use Rattle.sheet.specs.Sizes.{matrix_places, rank_places}
 use Rattle.sheet_reader.specs.Parts.{sheet_of}
@@ -9,8 +9,5 @@ use Rattle.dividing.proofs.sheet_divisions.Given as goal
 
 abbrev pub invariant-loop-k : goal.invariant-loop-k
 invariant-loop-k l =
-    (l.k ≤ l.given.steps) × Rest (sheet_of l.s) l.memory l.k l.types × (l.sum ≤ l.k * (matrix_places * rank_places))
+    Rest (sheet_of l.s) l.memory l.k l.types × (l.sum ≤ l.k * (matrix_places * rank_places))
     × (l.sum + total (pass_rest (divisions_at (sheet_of l.s) l.memory) (sheet_of l.s) l.memory l.k l.types) ≡ total (divisions (sheet_of l.s) l.memory))
-
-abbrev pub decreases-loop-k : goal.decreases-loop-k
-decreases-loop-k l = l.given.steps - l.k

@@ -1,23 +1,10 @@
-use mathlib.Core.Path.{refl, sym}
+use mathlib.Core.Path.{sym}
 use Prim.Native.Nat.{◌<◌}
 use Rattle.addressing.specs.Rules.{elements_of}
 use Rattle.addressing.specs.Laws.Plans.{plan_count}
 use Rattle.accesses.proofs.Laws.Surveys.{surveyed_outcome}
-use Rattle.explaining.specs.Laws.Asking.{access_past, access_asked}
+use Rattle.explaining.specs.Laws.Asking.{access_asked}
 use Rattle.explaining.proofs.explain_plan.Goals as goal
-
-pub returns-then-p-element : goal.returns-then-p-element
-returns-then-p-element c =
-    let s = c in
-    sym (access_past s.args.p.access s.args.element (rw (← plan_count s.args.p s.requires.0) c.if-p-element.true))
-
-pub outside_of-requires : goal.outside_of-requires
-outside_of-requires c =
-    let s = c in
-    record {
-      planned = (s.requires.0, rw (← plan_count s.args.p s.requires.0) c.if-p-element.false, s.requires.1);
-      permutation_value = (refl, refl, refl);
-    }
 
 pub returns : goal.returns
 returns c =

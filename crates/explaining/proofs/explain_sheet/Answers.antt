@@ -1,19 +1,11 @@
 use Prim.Native.Nat.{ℕ}
-use mathlib.Core.Path.{sym}
 use Rattle.sheet_reader.specs.Parts.{sheet_of}
 use Rattle.checking.specs.Laws.Met.{all_steps}
 use Rattle.accepted.specs.Laws.Clear.{met_clear, met_gives}
 use Rattle.accepted.specs.Laws.Elements.{at_step_lem}
 use Rattle.explaining.specs.Elements.{explained}
-use Rattle.explaining.specs.Laws.Asking.{sheet_past}
 use native.Mathlib.Omega.{arith}
 use Rattle.explaining.proofs.explain_sheet.Goals as goal
-
-pub returns-then-given-step : goal.returns-then-given-step
-returns-then-given-step c =
-    let s = c in
-    let a = s.args in
-    sym (sheet_past (sheet_of a.s.now) a.memory a.step (omega (arith, c.if-given-step.true, all_steps s.requires.0)) a.element)
 
 pub explain_access-requires : goal.explain_access-requires
 explain_access-requires c =

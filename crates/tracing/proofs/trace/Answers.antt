@@ -1,24 +1,13 @@
-use Prim.Native.Nat.{ℕ, ◌*◌, ◌<◌, ◌≤◌}
+use Prim.Native.Nat.{ℕ, ◌*◌, ◌≤◌}
 use mathlib.Core.Path.{◌≡◌, sym, ap, ◌∙◌}
 use lib.ListN.{length}
 use Rattle.checking.specs.declared.CheckAnswer.{CheckAnswer}
 use Rattle.checking.specs.Laws.Readable.{sheet_readable}
 use Rattle.traces.specs.Events.{event_length}
 use Rattle.tracing.specs.Tracing.{traced_length}
-use Rattle.tracing.proofs.Laws.{refused_answer_lem, refused_room, short_answer, short_room, trace_answer_lem, trace_room}
+use Rattle.tracing.proofs.Laws.{trace_answer_lem, trace_room}
 use native.Mathlib.Omega.{arith}
 use Rattle.tracing.proofs.trace.Goals as goal
-
-pub returns-then-refused-gt0 : goal.returns-then-refused-gt0
-returns-then-refused-gt0 c =
-    let a = c.args in
-    let s = a.sheet.now in
-    let is = c.judge-judged.ensures.answer_value in
-    let n = c.if-refused-gt0.true in
-    record {
-      value = c.trace_refused.ensures ∙ refused_answer_lem s a.memory_len is (length a.out.now) n;
-      out_after = refused_room s a.memory_len is a.out.now n;
-    }
 
 pub count_trace-bytes-requires : goal.count_trace-bytes-requires
 count_trace-bytes-requires c =
@@ -29,18 +18,6 @@ count_trace-bytes-requires c =
     let fine : j.result.answer.refusal.number ≡ 0 = omega (arith, c.if-refused-gt0.false) in
     let r = sheet_readable s a.memory_len (ap (λ (x : CheckAnswer). x.refusal.number) (sym e.answer_value) ∙ fine) in
     (e.outlined fine, r.few, r.clear)
-
-pub returns-then-out-bytes : goal.returns-then-out-bytes
-returns-then-out-bytes c =
-    let a = c.args in
-    let s = a.sheet.now in
-    let j = c.judge-judged in
-    let e = j.ensures in
-    let fine : j.result.answer.refusal.number ≡ 0 = omega (arith, c.if-refused-gt0.false) in
-    let short : length a.out.now < traced_length s a.memory_len = omega (arith, c.count_trace-bytes.ensures.0, c.if-out-bytes.true) in record {
-      value = c.trace_refused-then-out-bytes.ensures ∙ rw c.refusal_at.ensures (short_answer s a.memory_len e.answer_value fine (length a.out.now) short);
-      out_after = short_room s a.memory_len e.answer_value fine a.out.now short;
-    }
 
 pub write_trace-requires : goal.write_trace-requires
 write_trace-requires c =

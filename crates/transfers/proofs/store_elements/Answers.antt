@@ -1,14 +1,8 @@
-use Rattle.std.proofs.Common.{◌≡◌, ◌∙◌, ap, arith}
-use Rattle.std.proofs.lemmas.List.{length-take-le}
-use Rattle.addressing.specs.Rules.{elements_of}
-use Rattle.addressing.specs.Laws.Plans.{plan_count}
+use Rattle.std.proofs.Common.{◌∙◌, ap, arith}
 use Rattle.counts.specs.Counts.{no_counts, more_placed}
 use Rattle.transfers.specs.Acts.{State, state, stored}
-use Rattle.transfers.proofs.Laws.Elements.{transferred_start, transferred_turn, stored_count, met_outcome, met_inside}
+use Rattle.transfers.proofs.Laws.Elements.{transferred_turn, stored_count, met_outcome, met_inside}
 use Rattle.transfers.proofs.store_elements.Goals as goal
-
-pub loop-k-init : goal.loop-k-init
-loop-k-init c = (omega arith, transferred_start _ _ _ _ _)
 
 pub store_element-placed-requires-clause-inside : goal.store_element-placed-requires-clause-inside
 store_element-placed-requires-clause-inside c =
@@ -25,10 +19,3 @@ loop-k-preserved c =
     let e = c.store_element-placed.ensures in
     let n = stored_count a.p.access.size a.register i.k o.result (state a.elements.now i.memory (more_placed no_counts i.placed)) in
     (omega (arith, n, i.invariant.0, ap (λ (x : State). x.counts.placed) (e no_counts)), transferred_turn (stored a.p.access.size a.register) _ i.k _ o.result (o.ensures ∙ met_outcome a.p r.0 r.1 c.survey.ensures i.k c.loop-k-test.true) i.invariant.1 (e a.counted))
-
-pub returns-clause-result_after : goal.returns-clause-result_after
-returns-clause-result_after c =
-    let p = c.args.p in
-    let r = c.requires.planned in
-    let e : c.loop-k.k ≡ elements_of p.access = omega (arith, c.loop-k.auto.k-end, c.loop-k-test.false, plan_count p r.0, length-take-le p.count c.survey.new.entries) in
-    rw c.more_placed.ensures (rw e at c.loop-k.invariant.1)
