@@ -6,13 +6,7 @@ use mathlib.Core.List.{List}
 use native.Mathlib.Nat.{add-zero, zero-add, zero-mul, suc-mul, add-mul, mul_assoc, mul-le-mul_right, div-one, div-add-mod', mod-lt, not-suc-le-zero}
 use native.Mathlib.Omega.{arith}
 use lib.IntN.{negsuc}
-use lib.ListN.{length, set, replicate, length-replicate}
-use lib.Seq.{paste}
-use borrow.Rule.Slice.PartMut.{put_mid, mid_of}
-use Rattle.std.proofs.Common.{add-one}
-use Rattle.std.proofs.lemmas.List.Edits.{paste_none, fill_from_more}
-use Rattle.std.proofs.lemmas.Slice.{put_mid-paste}
-use Rattle.std.proofs.lemmas.Grind.{common_steps}
+use lib.ListN.{length}
 use borrow.Author.Tests.{le-leb}
 use Rattle.numbers.specs.Choice.{pick}
 use Rattle.numbers.specs.Lists.{line}
@@ -42,19 +36,6 @@ use Rattle.accesses.specs.Refusals.{element_outcome, placed_one, placed_count}
 use Rattle.accesses.specs.Entries.{entry_of, Surveyed}
 use Rattle.accesses.specs.Rows.{Passed, Went, Row, Even, same_entry_of, far_of}
 use Rattle.accesses.proofs.Laws.{passed_none, passed_stop, passed_more, passed_end}
-
--- a part that is filled, as one element after the other
-line_filled : (d : List ℕ) (at x n : ℕ) → at + n ≤ length d → paste d at (replicate n x) n ≡ line d at (λ (i : ℕ). x) n
-unfolding line
-line_filled d at x zero h = sym (paste_none d at (replicate 0 x))
-line_filled d at x (suc n) h =
-    let e = fill_from_more d at n x (omega arith) in
-    sym (rw add-one at e) ∙ ap (λ (l : List ℕ). set l (at + n) x) (line_filled d at x n (omega arith))
-
-pub filled : (d part : List ℕ) (at x : ℕ) {n k : ℕ} → k ≡ n → at + n ≤ length d → part ≡ replicate (length (mid_of at k d)) x → put_mid at k d part ≡ line d at (λ (i : ℕ). x) n
-filled d part at x {n} {k} e h f =
-    let many : length (mid_of at k d) ≡ n = grind (arith, common_steps) in
-    put_mid-paste at k d part (replicate n x) n (rw many at f) (sym e) (sym (length-replicate n x)) ∙ line_filled d at x n h
 
 module _ (f : ℕ → Located) where
   -- the element at k is refused

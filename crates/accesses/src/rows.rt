@@ -27,7 +27,10 @@ fn put_same(entries: &mut [u32; PLACES], value: u32, at: usize, n: usize)
     requires { (length entries.old ≡ matrix_places) × (at + n ≤ matrix_places) }
     ensures { entries.new ≡ line entries.old at (λ _. value) n }
 {
-    entries[at..at + n].fill(value);
+    // Not `fill`: with it a check of stores whose rows end outside takes 7 in 100 more instructions.
+    for i in 0..n {
+        entries[at + i] = value;
+    }
 }
 
 // Entries of n elements from place `at` on whose bytes rise by a step.

@@ -1,6 +1,10 @@
-use Rattle.std.proofs.Common.{arith, rules}
-use Rattle.accesses.proofs.RowLaws.{filled}
+use mathlib.Core.Path.{refl, sym}
+use Rattle.numbers.specs.Laws.Lists.{line_none}
+use Rattle.numbers.specs.Laws.Lines.{line_next}
 use Rattle.accesses.proofs.rows.put_same.Goals as goal
 
-pub returns : goal.returns
-returns c = filled _ _ _ _ (omega arith) (omega (arith, c.requires.0)) (c.fill.ensures.after (search rules))
+pub loop-i-init : goal.loop-i-init
+loop-i-init c = sym (line_none _ _ _)
+
+pub loop-i-preserved : goal.loop-i-preserved
+loop-i-preserved c = line_next _ _ _ _ c.loop-i.invariant refl
