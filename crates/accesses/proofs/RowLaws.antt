@@ -3,21 +3,20 @@ use Prim.Native.Nat.{ℕ, zero, suc, ◌+◌, ◌-◌, ◌*◌, ◌/◌, ◌%◌
 use mathlib.Core.Bool.{Bool, false}
 use mathlib.Core.Path.{◌≡◌, refl, sym, ap, ap₂, subst, ◌∙◌}
 use mathlib.Core.List.{List}
-use native.Mathlib.Nat.{add-zero, zero-add, zero-mul, suc-mul, add-mul, mul_assoc, mul-le-mul, mul-le-mul_right, div-one, div-add-mod', mod-lt, not-suc-le-zero}
+use native.Mathlib.Nat.{add-zero, zero-add, zero-mul, suc-mul, add-mul, mul_assoc, mul-le-mul_right, div-one, div-add-mod', mod-lt, not-suc-le-zero}
 use native.Mathlib.Omega.{arith}
 use lib.IntN.{negsuc}
 use lib.ListN.{length}
 use borrow.Author.Tests.{le-leb}
 use Rattle.numbers.specs.Choice.{pick}
 use Rattle.numbers.specs.Lists.{line}
-use Rattle.numbers.specs.Laws.Choice.{by_order}
-use Rattle.sheet.specs.Sizes.{rank_places, matrix_places, size_limit}
+use Rattle.sheet.specs.Sizes.{rank_places, matrix_places}
 use Rattle.sheet.specs.declared.ClampMode.{ClampMode}
 use Rattle.tensor_ranges.specs.Laws.Facts.{layout_some, layout_most, layout_span}
 use Rattle.clamps.specs.Clamps.{coordinate_of, outside}
 use Rattle.clamps.proofs.Laws.Clamps.{stop_of, AtOr, Flat, outside_flat}
 use Rattle.sheet.specs.declared.Dimension.{Dimension}
-use Rattle.dimensions.specs.Dimensions.{lead, tail_of, part_limit}
+use Rattle.dimensions.specs.Dimensions.{lead, tail_of}
 use Rattle.refusals.specs.Refusals.{stop_at, outside_undefined}
 use Rattle.outcomes.specs.declared.Outcome.{Outcome}
 use Rattle.outcomes.specs.declared.Outcome.TheVariants.{Filled, Discarded, Placed}
@@ -33,7 +32,7 @@ use Rattle.addressing.specs.Laws.Rows.{part_one, up_one, plus_stop, row_cell}
 use Rattle.addressing.specs.Plans.{planned}
 use Rattle.addressing.specs.Valid.{ValidAccess, Planned}
 use Rattle.accesses.specs.declared.Tally.{Tally}
-use Rattle.accesses.specs.Refusals.{element_outcome, first_refused, placed_one, placed_count}
+use Rattle.accesses.specs.Refusals.{element_outcome, placed_one, placed_count}
 use Rattle.accesses.specs.Entries.{entry_of, Surveyed}
 use Rattle.accesses.specs.Rows.{Passed, Went, Row, Even, same_entry_of, far_of}
 use Rattle.accesses.proofs.Laws.{passed_none, passed_stop, passed_more, passed_end}
@@ -95,16 +94,6 @@ unfolding planned tail_of
 tail_few p h =
     let e : p.tail.rank ≡ p.access.layout.rank - lead p.access.layout = ap (λ (z : Plan). z.tail.rank) h.same in
     omega (arith, e, layout_most p.access.layout h.valid.sized.layout)
-
--- the smaller of two numbers
-pub smaller_some : {r a b : ℕ} → 0 < a → 0 < b → (r < b → r ≡ a) → 0 < r
-smaller_some {r} {a} {b} g h f = by_order r b (λ l. omega (arith, f l)) (λ l. omega arith)
-
-pub smaller_le : {x y a b n : ℕ} → x ≤ a → x ≤ n → a ≤ b → (y < n → y ≡ b) → x ≤ y
-smaller_le {x} {y} {a} {b} {n} g h m f = by_order y n (λ l. omega (arith, f l)) (λ l. omega arith)
-
-pub smaller_above : {i y b n : ℕ} → y ≤ i → i < n → (y < n → y ≡ b) → b ≤ i
-smaller_above g h f = omega (arith, f (omega arith))
 
 -- the first elements of a row
 pub row_less : {a : Access} {before : Clamped} {k n : ℕ} (m : ℕ) → Row a before k n → m ≤ n → Row a before k m
@@ -259,20 +248,3 @@ module _ (a : Access) {x : Dimension} {inner : Inner} {t k from to byte step : �
         entry = λ i l. sym (ap (λ (z : Located). entry_of z.outcome) (at i l));
         placed = λ i l. sym (ap (λ (z : Located). placed_one z.outcome) (at i l));
       }))
-
--- nothing wraps
-pub record Fits (first stride t size : ℕ) : Type 0 where
-  pub part : first * stride ≤ 268435456
-  pub bytes : (t + first * stride) * size ≤ 5368709120
-  pub step : stride * size ≤ 262144
-
-pub fits : {d : Dimension} {r : Inner} {from to : ℕ} (stride t size : ℕ) → Inside d r → from < to → to ≤ r.to → (from < to → from ≡ r.from)
-    → stride < 65536 → t ≤ (rank_places - 1) * part_limit → size ≤ 4 → Fits r.first stride t size
-fits {r = r} stride t size i h m e g k n =
-    let few : r.first ≤ size_limit = omega (arith, i.most (omega (arith, e h)), e h) in
-    let one = mul-le-mul {n₁ = r.first} {m₁ = stride} {n₂ = 4096} {m₂ = 65536} few (omega arith) in
-    record {
-      part = one;
-      bytes = mul-le-mul {n₁ = t + r.first * stride} {m₁ = size} {n₂ = 1342177280} {m₂ = 4} (omega (arith, one)) n;
-      step = mul-le-mul {n₁ = stride} {m₁ = size} {n₂ = 65536} {m₂ = 4} (omega arith) n;
-    }

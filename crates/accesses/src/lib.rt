@@ -3,7 +3,7 @@
 
 ghost use Rattle.std.specs.Prelude.{◌≡◌, true, false, ◌≤◌, ◌<◌, length};
 ghost use Rattle.refusals.specs.Refusals.{stop_at};
-ghost use Rattle.tensor_ranges.specs.Layouts.{the_dimension, layout_ok};
+ghost use Rattle.tensor_ranges.specs.Layouts.{layout_ok};
 ghost use Rattle.addressing.specs.Rules.{elements_of};
 ghost use Rattle.addressing.specs.Valid.{SizedAccess, Planned};
 ghost use Rattle.sheet.specs.Sizes.{rank_places, matrix_places};
@@ -38,7 +38,7 @@ pub struct Tally {
 pub fn no_entries() -> [u32; PLACES]
     ensures { length result ≡ matrix_places }
 {
-    [0u32; PLACES]
+    [0; PLACES]
 }
 
 // An element's entry: 0 for a skipped one, one more than its byte for one that has a byte, and two numbers past all bytes.
@@ -55,6 +55,7 @@ pub fn entry(o: Outcome) -> u32
 }
 
 // The outcome that an entry stands for, where filled elements take these bits.
+#[tactic(auto, unfolding(numbers::specs::Choice::pick, crate::specs::Entries::entry_outcome))]
 pub fn outcome_of(entry: u32, fill: u32) -> Outcome
     ensures { result ≡ entry_outcome fill entry }
 {
@@ -92,17 +93,10 @@ fn by_rows(viewed: bool, numbers: &[u16; LAYOUT_NUMBERS], rank: u8, count: usize
     requires { rank ≤ rank_places }
     ensures { result ≡ true → (viewed ≡ false) × (0 < rank) }
 {
-    if count < FEW {
-        return false;
-    }
-    if viewed {
-        return false;
-    }
-    if rank < 1 {
-        return false;
-    }
-    let last = dimensions::dimension_at(numbers, rank as usize - 1);
-    SHORT <= last.span
+    FEW <= count
+        && !viewed
+        && 0 < rank
+        && SHORT <= dimensions::dimension_at(numbers, usize::from(rank) - 1).span
 }
 
 // The elements in order, up to the first that is refused, and each one's entry: row by row, or each located by itself.
@@ -110,19 +104,15 @@ pub fn survey(entries: &mut [u32; PLACES], p: Plan) -> Tally
     requires { Planned p × (length entries.old ≡ matrix_places) }
     ensures { Surveyed (element_outcome p.access) (elements_of p.access) result entries.new }
 {
-    let count = p.count;
-    let v = p.access.view;
-    let permutation = v.permutation;
+    let permutation = p.access.view.permutation;
     let sizes = p.sizes;
     let strides = p.strides;
     let numbers = p.numbers;
-    let tail = p.tail;
-    if by_rows(p.access.viewed, &numbers, tail.rank, count) {
+    if by_rows(p.access.viewed, &numbers, p.tail.rank, p.count) {
         return rows::survey_rows(entries, p);
     }
     let mut placed = 0;
-    let mut k = 0;
-    while k < count {
+    for k in 0..p.count {
         let r = addressing::locate(p, &permutation, &sizes, &strides, &numbers, k as u32);
         if r.refusal != 0 {
             return Tally {
@@ -133,10 +123,8 @@ pub fn survey(entries: &mut [u32; PLACES], p: Plan) -> Tally
                 placed,
             };
         }
-        let o = r.outcome;
-        entries[k] = entry(o);
-        placed += placed_one(o);
-        k += 1;
+        entries[k] = entry(r.outcome);
+        placed += placed_one(r.outcome);
     }
     Tally {
         stop: Stop {
@@ -175,71 +163,41 @@ fn check_elements(entries: &mut [u32; PLACES], p: Plan) -> Checked
     ensures value { result ≡ checked_elements (element_outcome p.access) (elements_of p.access) (elements_refusal p.access.load (element_outcome p.access) (elements_of p.access)) }
     ensures told { result.stop.number ≡ 0 → Told p.access entries.new }
 {
-    let count = p.count;
     let s = survey(entries, p);
-    let stop = s.stop;
-    if stop.number != 0 {
-        return refuse(stop.number, stop.element);
+    if s.stop.number != 0 {
+        return refuse(s.stop.number, s.stop.element);
     }
-    let a = p.access;
-    if a.load {
+    if p.access.load || clashes::bytes_apart(entries, p.count) {
         return accept(s.placed);
     }
-    if clashes::bytes_apart(entries, count) {
-        return accept(s.placed);
-    }
-    let clash = clashes::first_clash(entries, count);
-    refuse(BYTE_TWICE, clash)
+    refuse(BYTE_TWICE, clashes::first_clash(entries, p.count))
 }
 
 // Refusal 10.
+#[tactic(auto, unfolding(numbers::specs::Choice::pick, numbers::specs::Choice::both, crate::specs::Refusals::other_rank))]
 fn other_rank(a: Access) -> bool
     ensures { result ≡ other_rank a }
 {
-    if !a.viewed {
-        return false;
-    }
-    let v = a.view;
-    if v.sized {
-        return false;
-    }
-    let l = a.layout;
-    v.rank != l.rank
+    a.viewed && !a.view.sized && a.view.rank != a.layout.rank
 }
 
-fn block_at(l: Layout, d: usize) -> u16
-    requires { d < rank_places }
-    ensures { result ≡ (the_dimension l.dimensions d).block }
-{
-    let x = l.dimensions[d];
-    x.block
-}
-
+#[tactic(auto, using(tensor_ranges::specs::Laws::Facts::layout_most))]
 fn blocks_one(l: Layout) -> bool
     requires { layout_ok l ≡ true }
     ensures { result ≡ blocks_one l }
 {
-    let rank = l.rank as usize;
-    let mut d = 0;
-    while d < rank {
-        if 1 < block_at(l, d) {
-            return false;
-        }
-        d += 1;
-    }
-    true
+    l.dimensions[..usize::from(l.rank)]
+        .iter()
+        .all(|d| d.block <= 1)
 }
 
 // Refusal 11.
+#[tactic(auto, unfolding(numbers::specs::Choice::pick, numbers::specs::Choice::both, crate::specs::Refusals::store_blocked))]
 fn store_blocked(a: Access) -> bool
     requires { layout_ok a.layout ≡ true }
     ensures { result ≡ store_blocked a }
 {
-    if a.load {
-        return false;
-    }
-    let l = a.layout;
-    !blocks_one(l)
+    !a.load && !blocks_one(a.layout)
 }
 
 // Refusals 9 to 15 of a load or a store, in order, and how many of its elements have a byte. The entries are lent room: where it is
@@ -259,6 +217,5 @@ pub fn check_access(entries: &mut [u32; PLACES], a: Access) -> Checked
     if store_blocked(a) {
         return refuse(BLOCKED_STORE, 0);
     }
-    let p = addressing::plan_of(a);
-    check_elements(entries, p)
+    check_elements(entries, addressing::plan_of(a))
 }

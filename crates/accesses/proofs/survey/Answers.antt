@@ -4,29 +4,20 @@ use Rattle.addressing.specs.Laws.Plans.{plan_count}
 use Rattle.accesses.proofs.Laws.Surveys.{element_near}
 use Rattle.accesses.specs.Refusals.{element_outcome, placed_count}
 use mathlib.Core.Path.{refl, ap, ◌∙◌}
-use Prim.Native.Nat.{◌-◌}
 use borrow.Author.Rules.{rules}
 use native.Mathlib.Omega.{arith}
 use Rattle.accesses.proofs.survey.Goals as goal
 
 pub by_rows-requires : goal.by_rows-requires
-by_rows-requires c = let s = c in tail_few s.args.p s.requires.0
-
-pub survey_rows-requires : goal.survey_rows-requires
-survey_rows-requires c = let s = c in
-    let w = c.by_rows.ensures c.if-by_rows.true in
-    (s.requires.0, s.requires.1, w.0, w.1)
-
-pub returns-then-by_rows : goal.returns-then-by_rows
-returns-then-by_rows c = c.survey_rows.ensures
+by_rows-requires c = tail_few c.args.p c.requires.0
 
 pub loop-k-init : goal.loop-k-init
-loop-k-init c = let s = c in passed_none _ _ _ s.requires.0.few s.requires.1
+loop-k-init c = passed_none _ _ _ c.requires.0.few c.requires.1
 
 pub locate-r-requires : goal.locate-r-requires
-locate-r-requires c = let s = c in
+locate-r-requires c =
     record {
-      planned = (s.requires.0, rw (← plan_count s.args.p s.requires.0) c.loop-k-test.true);
+      planned = (c.requires.0, rw (← plan_count c.args.p c.requires.0) c.loop-k-test.true);
       permutation_value = (refl, refl, refl, refl);
     }
 
@@ -34,8 +25,7 @@ pub returns-then-r-ne0 : goal.returns-then-r-ne0
 unfolding element_outcome
 returns-then-r-ne0 c = let i = c.loop-k in
     let e = c.locate-r in
-    let s = c in
-    rw (← plan_count s.args.p s.requires.0)
+    rw (← plan_count c.args.p c.requires.0)
     record {
       room = i.invariant.room;
       stop = passed_stop _ i.invariant e.result c.loop-k-test.true e.ensures c.if-r-ne0.true;
@@ -45,11 +35,8 @@ returns-then-r-ne0 c = let i = c.loop-k in
 
 pub entry-requires : goal.entry-requires
 unfolding element_outcome
-entry-requires c = let s = c in
-    rw c.locate-r.ensures (element_near s.args.p.access s.requires.0.valid.sized c.loop-k.k)
-
-pub overflow_add-placed : goal.overflow_add-placed
-overflow_add-placed c = let i = c.loop-k in omega (arith, i.invariant.few, i.invariant.inside, c.placed_one-placed.ensures.1)
+entry-requires c =
+    rw c.locate-r.ensures (element_near c.args.p.access c.requires.0.valid.sized c.loop-k.k)
 
 pub loop-k-preserved : goal.loop-k-preserved
 unfolding element_outcome
@@ -59,8 +46,7 @@ loop-k-preserved c = let i = c.loop-k in
 
 pub returns : goal.returns
 returns c = let i = c.loop-k in
-    let s = c in
-    rw (← plan_count s.args.p s.requires.0)
+    rw (← plan_count c.args.p c.requires.0)
     record {
       room = i.invariant.room;
       stop = passed_end _ i.invariant c.loop-k-test.false;
