@@ -123,7 +123,10 @@ pub fn put_block(
     ensures { elements.new ≡ written_to elements.old register (λ (e : ℕ). get_or block.now e 0) count old }
 {
     let base = place_of(register, 0);
-    elements[base..base + count].copy_from_slice(&block[..count]);
+    // Not `copy_from_slice`, for which an archive would need memmove from outside.
+    for e in 0..count {
+        elements[base + e] = block[e];
+    }
     fill_elements(elements, register, count, old.saturating_sub(count), 0);
 }
 
@@ -156,5 +159,8 @@ pub fn fill_elements(
     ensures { elements.new ≡ filled_elements elements.old register first count value }
 {
     let start = place_of(register, 0) + first;
-    elements[start..start + count].fill(value);
+    // Not `fill`, which takes some 37 instructions more.
+    for i in 0..count {
+        elements[start + i] = value;
+    }
 }

@@ -1,9 +1,10 @@
-use Rattle.std.proofs.Common.{arith, rules}
-use Rattle.std.proofs.lemmas.List.{places}
-use Rattle.registers.proofs.Laws.{filled_is}
+use mathlib.Core.Path.{refl, sym}
+use Rattle.numbers.specs.Laws.Lists.{line_none}
+use Rattle.numbers.specs.Laws.Lines.{line_next}
 use Rattle.registers.proofs.fill_elements.Goals as goal
 
-pub returns : goal.returns
-returns c =
-    let a = c.args in
-    filled_is a.elements.now c.fill.new.self _ a.value a.count (omega arith) (omega arith) (omega arith) (search (rules, places))
+pub loop-i-init : goal.loop-i-init
+loop-i-init c = sym (line_none _ _ _)
+
+pub loop-i-preserved : goal.loop-i-preserved
+loop-i-preserved c = line_next _ _ _ _ c.loop-i.invariant refl
