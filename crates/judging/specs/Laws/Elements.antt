@@ -1,6 +1,6 @@
 -- A take, a put and a fill in range, by their parts.
-use Rattle.std.specs.Prelude.{ℕ, ◌+◌, ◌*◌, ◌^◌, ◌<◌, ◌≤◌, ◌≡◌, true, false}
-use Rattle.std.proofs.Common.{sym, ◌∙◌, mul-le-mul, arith}
+use Rattle.std.specs.Prelude.{ℕ, ◌+◌, ◌*◌, ◌^◌, ◌<◌, ◌≤◌, ◌≡◌, Bool, true, false, not}
+use Rattle.std.proofs.Common.{sym, ap, ◌∙◌, mul-le-mul, arith}
 use borrow.Author.Tests.{leb-true, ltb-true, not-true}
 use Rattle.numbers.specs.Laws.Choice.{both_left, both_right}
 use Rattle.numbers.specs.Laws.All.{all_at}
@@ -12,6 +12,15 @@ use Rattle.registers.specs.Laws.Sized.{sized_places}
 use Rattle.registers.specs.declared.MatrixType.{MatrixType}
 use Rattle.judging.specs.Laws.Bytes.{byte_natural, inside_natural}
 use Rattle.judging.specs.Records.{elements_ok, byte_at, byte_inside, bytes_inside, bytes_record_ok, fill_record_ok}
+
+-- a test that a call made, turned over
+pub not_on : {r t : Bool} → r ≡ t → r ≡ true → not t ≡ false
+not_on p q = ap not (sym p ∙ q)
+
+pub not_off : {r t : Bool} → r ≡ t → r ≡ false → not t ≡ true
+not_off p q = ap not (sym p ∙ q)
+
+pub ruleset turned = (not_on, not_off)
 
 -- every byte of element i lies in memory
 pub record Lies (size len byte up down i : ℕ) : Type 0 where
