@@ -90,8 +90,8 @@
  * Stack
  * -----
  * MOONBLEAT_STACK bytes of stack are enough for a call. This is measured, on 20,000 sheets of each
- * edition and their tapes and traces, and tested, not proved: moonbleat_outcome took 13,744 bytes,
- * every other function less. What a thread needs for itself comes on top.
+ * edition and their tapes and traces, and tested, not proved: moonbleat_outcome and moonbleat_carry_out
+ * took 13,744 bytes, every other function less. What a thread needs for itself comes on top.
  *
  * docs/SHEETS.md describes sheets, tapes, masks and traces field by field.
  */

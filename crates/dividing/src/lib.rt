@@ -53,15 +53,13 @@ fn plan_divisions(p: Plan) -> usize
     requires { Planned p }
     ensures { (result ≡ total (access_divisions p.access)) × (result ≤ matrix_places * rank_places) }
 {
+    // The arrays are not lent from the plan, which would be copied for it: more stack, and more instructions.
+    let permutation = p.access.view.permutation;
+    let sizes = p.sizes;
+    let strides = p.strides;
     let mut sum = 0;
     for k in 0..p.count {
-        sum += element_divisions(
-            p,
-            &p.access.view.permutation,
-            &p.sizes,
-            &p.strides,
-            k as u32,
-        ) as usize;
+        sum += element_divisions(p, &permutation, &sizes, &strides, k as u32) as usize;
     }
     sum
 }

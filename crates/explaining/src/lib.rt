@@ -71,15 +71,13 @@ fn explain_plan(p: Plan, element: usize) -> Asked
     }
     let mut entries = [0u32; PLACES];
     accesses::survey(&mut entries, p);
+    // The arrays are not lent from the plan, which would be copied for it and take more stack.
+    let permutation = p.access.view.permutation;
+    let sizes = p.sizes;
+    let strides = p.strides;
     Asked::Element(Explained {
         outcome: accesses::outcome_of(entries[element], p.fill),
-        outside: outside_of(
-            p,
-            &p.access.view.permutation,
-            &p.sizes,
-            &p.strides,
-            element as u32,
-        ),
+        outside: outside_of(p, &permutation, &sizes, &strides, element as u32),
     })
 }
 
