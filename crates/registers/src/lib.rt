@@ -159,7 +159,7 @@ pub fn fill_elements(
     ensures { elements.new ≡ filled_elements elements.old register first count value }
 {
     let start = place_of(register, 0) + first;
-    // Not `fill`, which takes some 37 instructions more.
+    // Not `fill`, with which a fill of 16 elements takes more than twice the instructions.
     for i in 0..count {
         elements[start + i] = value;
     }
